@@ -1,0 +1,26 @@
+-- Document 01: the fields of a request, each with tag; lowest, highest and step of length; least and most times.
+use Prim.Native.Nat.{ℕ}
+use mathlib.Core.Path.{_≡_, refl}
+use mathlib.Core.Bool.{true}
+use mathlib.Core.List.{List, [], _∷_}
+use Rattle.tagged.specs.WalkFinds.{risingTags}
+
+abbrev pub requestRows : List (List ℕ)
+requestRows =
+    (1 ∷ 4 ∷ 4 ∷ 1 ∷ 1 ∷ 1 ∷ []) ∷
+    (2 ∷ 4 ∷ 4 ∷ 1 ∷ 1 ∷ 1 ∷ []) ∷
+    (3 ∷ 1 ∷ 1 ∷ 1 ∷ 1 ∷ 1 ∷ []) ∷
+    (4 ∷ 1 ∷ 1 ∷ 1 ∷ 1 ∷ 1 ∷ []) ∷
+    (5 ∷ 24 ∷ 24 ∷ 1 ∷ 1 ∷ 1 ∷ []) ∷
+    (6 ∷ 45 ∷ 45 ∷ 1 ∷ 1 ∷ 1 ∷ []) ∷
+    (7 ∷ 20 ∷ 20 ∷ 1 ∷ 1 ∷ 1 ∷ []) ∷
+    (8 ∷ 8 ∷ 8 ∷ 1 ∷ 1 ∷ 1 ∷ []) ∷
+    (9 ∷ 2 ∷ 16 ∷ 2 ∷ 1 ∷ 1 ∷ []) ∷
+    (10 ∷ 2 ∷ 16 ∷ 2 ∷ 1 ∷ 1 ∷ []) ∷
+    (11 ∷ 2 ∷ 16 ∷ 2 ∷ 1 ∷ 1 ∷ []) ∷
+    (12 ∷ 9 ∷ 9 ∷ 1 ∷ 1 ∷ 1 ∷ []) ∷
+    []
+
+-- "in rising tag order"
+pub request-rows-rise : risingTags requestRows ≡ true
+request-rows-rise = refl

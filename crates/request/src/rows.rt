@@ -1,0 +1,30 @@
+// The fields of a request.
+use tagged::file::Standing;
+use tagged::walk::Row;
+ghost use mathlib.Core.Path.{_≡_};
+ghost use Rattle.tagged.specs.File.{standing};
+ghost use Rattle.request.specs.Rows.{requestRows};
+
+// Tag; lowest, highest and step of length; least and most times.
+pub const REQUEST_ROWS: [Row; 12] = [
+    [1, 4, 4, 1, 1, 1],
+    [2, 4, 4, 1, 1, 1],
+    [3, 1, 1, 1, 1, 1],
+    [4, 1, 1, 1, 1, 1],
+    [5, 24, 24, 1, 1, 1],
+    [6, 45, 45, 1, 1, 1],
+    [7, 20, 20, 1, 1, 1],
+    [8, 8, 8, 1, 1, 1],
+    [9, 2, 16, 2, 1, 1],
+    [10, 2, 16, 2, 1, 1],
+    [11, 2, 16, 2, 1, 1],
+    [12, 9, 9, 1, 1, 1],
+];
+
+// Whether a file stands as a request: its last five bytes, its check and its fields. `number` is the
+// file's in a refusal.
+pub fn request_stands(number: u8, file: &[u8]) -> Standing
+    ensures { λ r. ⌜ r ≡ standing requestRows number (now (file .entry)) ⌝ }
+{
+    tagged::file::file_stands(&REQUEST_ROWS, number, file)
+}

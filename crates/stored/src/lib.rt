@@ -1,0 +1,2 @@
+// The stored ledger: document 01, 'Stored form'. So far its table of fields alone.
+pub mod rows;

@@ -1,0 +1,22 @@
+// The fields of a stored ledger.
+use tagged::file::Standing;
+use tagged::walk::Row;
+ghost use mathlib.Core.Path.{_≡_};
+ghost use Rattle.tagged.specs.File.{standing};
+ghost use Rattle.stored.specs.Rows.{storedRows};
+
+// Tag; lowest, highest and step of length; least and most times.
+pub const STORED_ROWS: [Row; 4] = [
+    [1, 4, 4, 1, 1, 1],
+    [2, 22, 22, 1, 1, 1],
+    [3, 24, 24, 1, 0, 64],
+    [4, 30, 30, 1, 0, 512],
+];
+
+// Whether a file stands as a stored ledger: its last five bytes, its check and its fields. `number` is the
+// file's in a refusal.
+pub fn stored_stands(number: u8, file: &[u8]) -> Standing
+    ensures { λ r. ⌜ r ≡ standing storedRows number (now (file .entry)) ⌝ }
+{
+    tagged::file::file_stands(&STORED_ROWS, number, file)
+}

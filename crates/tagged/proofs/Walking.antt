@@ -1,0 +1,33 @@
+-- The walk, as far as the loop over the fields has come.
+use mathlib.Core.Path.{_≡_, refl, _∙_}
+use mathlib.Core.List.{List}
+use Prim.Native.Nat.{ℕ, _+_, _≤_}
+use lib.ListN.{length}
+use Rattle.tagged.specs.declared.walk.Front.the-variants.{End, Field, CannotStand}
+use Rattle.tagged.specs.declared.walk.Walked.the-variants.{Walks, Stops}
+use Rattle.tagged.specs.Walk.{frontOf, walkFrom, walk, walked, Walk, fields, stops, andThen, FieldAt}
+use Rattle.tagged.proofs.Rest.{restFrom, rest-from-drop, SoFar, at-start, one-field-on}
+
+abbrev pub WalkSoFar : List (List ℕ) → List ℕ → List ℕ → ℕ → ℕ → ℕ → Type 0
+WalkSoFar rows file rest at row count = SoFar (walked (walk rows file)) file rest at (λ most. walked (walkFrom most rows row count at rest))
+
+pub walk-starts : (rows : List (List ℕ)) (file : List ℕ) → WalkSoFar rows file file 0 0 0
+walk-starts rows file = at-start file _
+
+walked-then : (f : FieldAt) (w : Walk) → walked (andThen f w) ≡ walked w
+walked-then f (fields fs) = refl
+walked-then f (stops at) = refl
+
+module _ (rows : List (List ℕ)) (file rest : List ℕ) (at row count : ℕ) (s : WalkSoFar rows file rest at row count) where
+  pub walk-ends : frontOf rows row count rest ≡ End → walked (walk rows file) ≡ Walks
+  unfolding walkFrom
+  walk-ends e = s .same ∙ rw e
+
+  pub walk-stops : frontOf rows row count rest ≡ CannotStand → walked (walk rows file) ≡ Stops at
+  unfolding walkFrom
+  walk-stops e = s .same ∙ rw e
+
+  pub walk-goes-on : (k n len : ℕ) → frontOf rows row count rest ≡ Field k n len → len + 3 ≤ length rest →
+      WalkSoFar rows file (restFrom rest (len + 3)) (at + (len + 3)) k n
+  unfolding walkFrom
+  walk-goes-on k n len e fits = one-field-on s _ len fits (λ most. rw (e, walked-then, rest-from-drop))

@@ -1,0 +1,43 @@
+-- Document 01, 'How calls end': "Order for a file: 1 for its last five bytes, 2, 1 for the rest". The rest, 3, is each reader's.
+use Prim.Native.Nat.{ℕ, _-_}
+use mathlib.Core.List.{List}
+use mathlib.Core.Bool.{Bool, false, cond}
+use lib.ListN.{length, getD, take}
+use lib.Dec.{ltb, eqb}
+use Rattle.tagged.specs.BigEndian.{numberAt}
+use Rattle.tagged.specs.Check.{check}
+use Rattle.tagged.specs.Walk.{Walk, walk, fields, stops}
+use Rattle.tagged.specs.declared.file.Refusal.{Refusal}
+use Rattle.tagged.specs.declared.file.Standing.{Standing}
+use Rattle.tagged.specs.declared.file.Standing.the-variants.{Stands, Refused}
+
+-- "The last field is FF, length 2: the check."
+abbrev pub tailStands : List ℕ → Bool
+tailStands s =
+    cond (ltb (length s) 5) false
+    (cond (eqb (getD s (length s - 5) 0) 255)
+    (cond (eqb (getD s (length s - 4) 0) 0) (eqb (getD s (length s - 3) 0) 2) false)
+    false)
+
+-- "It is h over all bytes of the file but the last two."
+abbrev pub checkStands : List ℕ → Bool
+checkStands s = eqb (numberAt s (length s - 2) 2) (check (take (length s - 2) s))
+
+-- the fields before the check
+abbrev pub fieldsPart : List ℕ → List ℕ
+fieldsPart s = take (length s - 5) s
+
+-- number, file and place of a refusal
+abbrev pub refusal : ℕ → ℕ → ℕ → Refusal
+refusal number file place = record { number = number; file = file; place = place }
+
+-- 1 for the rest: the offset of the first field that can't stand there
+abbrev pub ofWalk : ℕ → Walk → Standing
+ofWalk file (fields fs) = Stands
+ofWalk file (stops at) = Refused (refusal 1 file at)
+
+abbrev pub standing : List (List ℕ) → ℕ → List ℕ → Standing
+standing rows file s =
+    cond (tailStands s)
+    (cond (checkStands s) (ofWalk file (walk rows (fieldsPart s))) (Refused (refusal 2 file (length s - 2))))
+    (Refused (refusal 1 file 0))

@@ -1,0 +1,13 @@
+pub mod BigEndian
+pub mod BigEndianLaws
+pub mod Check
+pub mod CheckLaws
+pub mod Walk
+pub mod Find
+pub mod File
+pub mod FileLaws
+pub mod SmallFiles
+pub mod AlteredByte
+pub mod WalkFacts
+pub mod WalkFinds
+pub mod WalkEncoded

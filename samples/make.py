@@ -1,0 +1,133 @@
+#!/usr/bin/env python3
+"""Writes the sample files that the programs read: document 01's slip as rate book and request, a
+stored ledger with one scheme and two parties, and damaged copies of them.
+
+make.py          writes them into each program's data folder
+make.py --check  says which of them differ from what it would write, and fails if one does
+"""
+import sys
+from pathlib import Path
+
+ROOT = Path(__file__).resolve().parent.parent
+
+
+def number(width, value):
+    return value.to_bytes(width, "big")
+
+
+def numbers(width, values):
+    return b"".join(number(width, value) for value in values)
+
+
+def check(data):
+    h = 0
+    for byte in data:
+        h = (h * 257 + byte + 1) % 65521
+    return h
+
+
+def field(tag, value):
+    return number(1, tag) + number(2, len(value)) + value
+
+
+def closed(fields):
+    """The fields, with the field FF after them."""
+    data = b"".join(fields) + b"\xff\x00\x02"
+    return data + number(2, check(data))
+
+
+def slip_book():
+    return [
+        field(0x01, b"RATE"),
+        field(0x02, number(2, 0)),
+        field(0x03, numbers(4, [0, 1] * 5)),
+        field(0x04, number(2, 10_000)),
+        field(0x05, number(2, 10_000)),
+        field(0x06, numbers(4, [5_000_000, 20_000, 20_000]) + number(2, 84)),
+        field(0x07, number(1, 1) + number(2, 6_500)),
+        field(0x08, number(1, 1) + numbers(4, [0, 0, 8_500, 38_000, 10_000])),
+    ]
+
+
+def slip_request():
+    demands = [400, 400, 200, 200, 150]
+    return [
+        field(0x01, b"CONN"),
+        field(0x02, number(4, 4_711)),
+        field(0x03, number(1, 1)),
+        field(0x04, number(1, 1)),
+        field(0x05, numbers(4, [1_598_500, 0, 0, 0, 0, 0])),
+        field(0x06, b"".join(number(1, 0) + numbers(4, [demand, 0]) for demand in demands)),
+        field(0x07, numbers(4, [0] * 5)),
+        field(0x08, numbers(4, [57_320, 0])),
+        field(0x09, numbers(2, [0, 10_000])),
+        field(0x0A, number(2, 10_000)),
+        field(0x0B, number(2, 10_000)),
+        field(0x0C, number(2, 24_315) + number(4, 15_000) + number(2, 0) + number(1, 0)),
+    ]
+
+
+def one_scheme_ledger():
+    """Cost 6,000,000; a second party of half the first one's capacity joined: G 2,000,000, fee 20,000."""
+    month = 24_320
+    return [
+        field(0x01, b"PION"),
+        field(0x02, number(2, month) + number(4, 2) + number(8, 7_500_000) + number(8, 900_000)),
+        field(0x03, numbers(4, [6_000_000, 20_000, 20_000]) + numbers(2, [24_315, 84]) + number(8, 20_000)),
+        field(0x04, number(2, 1) + numbers(4, [4_711, 10_000, 6_000_000]) + numbers(8, [1_980_000, 0])),
+        field(0x04, number(2, 1) + numbers(4, [4_712, 5_000, 2_000_000]) + numbers(8, [0, 0])),
+    ]
+
+
+def altered(data, place, value):
+    return data[:place] + bytes([value]) + data[place + 1:]
+
+
+def listed_files():
+    """What the program list_fields walks. Every damaged file but three has a right check, so that the walk is what refuses it."""
+    book, request, ledger = slip_book(), slip_request(), one_scheme_ledger()
+    whole = closed(book)
+    return {
+        "book.bin": whole,
+        "request.bin": closed(request),
+        "ledger.bin": closed(ledger),
+        "empty.bin": b"",
+        "one_byte.bin": b"\xff",
+        "five_times_ff.bin": b"\xff" * 5,
+        "altered_byte.bin": altered(whole, 20, 1),
+        "altered_check.bin": altered(whole, len(whole) - 1, whole[-1] ^ 1),
+        "altered_tail.bin": altered(whole, len(whole) - 3, 3),
+        "book_without_02.bin": closed(book[:1] + book[2:]),
+        "book_02_twice.bin": closed(book[:2] + book[1:]),
+        "book_ends_early.bin": closed(book[:7]),
+        "book_ff_early.bin": closed(book[:3] + [field(0xFF, b"\x00\x00")] + book[3:]),
+        "book_nine_zones.bin": closed(book + book[7:] * 8),
+        "book_odd_factors.bin": closed(book[:3] + [field(0x04, b"\x27\x10\x00")] + book[4:]),
+        "book_long_factors.bin": closed(book[:3] + [field(0x04, number(2, 10_000) * 9)] + book[4:]),
+        "book_past_end.bin": closed(book[:7] + [b"\x08\x00\x15" + bytes(20)]),
+        "book_two_bytes_over.bin": closed(book + [b"\x08\x00"]),
+        "request_as_book.bin": closed(request),
+        "ledger_as_new.bin": closed(ledger[:2]),
+    }
+
+
+def wanted():
+    return {ROOT / "crates/list_fields/data" / name: data for name, data in listed_files().items()}
+
+
+def main():
+    files = wanted()
+    if sys.argv[1:] == ["--check"]:
+        wrong = [path for path, data in files.items() if not path.is_file() or path.read_bytes() != data]
+        for folder in {path.parent for path in files}:
+            wrong += [path for path in folder.glob("*.bin") if path not in files]
+        for path in sorted(wrong):
+            print(f"samples: {path.relative_to(ROOT)} is not what samples/make.py writes")
+        sys.exit(1 if wrong else 0)
+    for path, data in files.items():
+        path.parent.mkdir(parents=True, exist_ok=True)
+        path.write_bytes(data)
+
+
+if __name__ == "__main__":
+    main()
