@@ -1,2 +1,3 @@
-// The request: document 01, 'Request'. So far its table of fields alone.
+// The request: document 01, 'Request'.
 pub mod rows;
+pub mod values;

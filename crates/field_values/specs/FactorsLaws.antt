@@ -1,0 +1,47 @@
+-- What holds of factor lists that pass.
+use Prim.Native.Nat.{ℕ, zero, suc, _+_, _*_, _≤_, zero-le}
+use mathlib.Core.Path.{_≡_, refl}
+use mathlib.Core.List.{List, [], _∷_, map}
+use native.Mathlib.Omega.{arith}
+use lib.ListN.{length, getD}
+use lib.Dec.{leb}
+use borrow.Author.Tests.{leb-true}
+use Rattle.tagged.specs.BigEndian.{numberAt}
+use Rattle.tagged.specs.Find.{fieldStart, fieldValue}
+use Rattle.tagged.specs.WalkFacts.{by-test}
+use Rattle.field_values.specs.Judged.{judgeNumbers}
+use Rattle.field_values.specs.JudgedLaws.{judged-within-replicate}
+use Rattle.field_values.specs.Factors.{factorLimits, judgeFactors, factorAt, factorsIn, factorsOf}
+use Rattle.field_values.specs.declared.factors.Factors.{Factors}
+use Rattle.field_values.specs.declared.judged.Judged.the-variants.{Passes}
+
+pub factors-long : (value : List ℕ) → length (factorsIn value .values) ≡ 8
+factors-long value = refl
+
+-- "1 to 8 of 2 bytes, each 0 to 40,000"
+pub record FactorsWithin (list : Factors) : Type 0 where
+  pub least : 1 ≤ list .count
+  pub most : list .count ≤ 8
+  pub each : (k : ℕ) → getD (list .values) k 0 ≤ 40000
+
+module _ (at : ℕ) (value : List ℕ) (passes : judgeNumbers factorLimits at value ≡ Passes) (upto : length value ≤ 16) where
+  factor-within : (k : ℕ) → factorAt value (2 * k) ≤ 40000
+  factor-within k =
+      by-test (λ n. n ≤ 40000) (leb (2 * k + 2) (length value)) (numberAt value (2 * k) 2) 0
+      (λ had.
+      let ends : 2 * k + 2 ≤ length value = leb-true _ _ had in
+      judged-within-replicate (2 ∷ 0 ∷ 40000 ∷ []) 8 at value passes k (omega arith) (omega arith) .1)
+      (λ _. zero-le)
+
+map-within : (f : ℕ → ℕ) (most : ℕ) → ((k : ℕ) → f k ≤ most) → (l : List ℕ) (k : ℕ) → getD (map f l) k 0 ≤ most
+map-within f most h [] k = zero-le
+map-within f most h (x ∷ l) zero = h x
+map-within f most h (x ∷ l) (suc k) = map-within f most h l k
+
+pub factors-within : (tag : ℕ) (s : List ℕ) → judgeFactors tag s ≡ Passes → 2 ≤ length (fieldValue tag s) → length (fieldValue tag s) ≤ 16 → FactorsWithin (factorsOf tag s)
+factors-within tag s e low high =
+    record {
+      least = omega arith;
+      most = omega arith;
+      each = map-within (λ k. factorAt (fieldValue tag s) (2 * k)) 40000 (factor-within (fieldStart tag s) (fieldValue tag s) e high) (0 ∷ 1 ∷ 2 ∷ 3 ∷ 4 ∷ 5 ∷ 6 ∷ 7 ∷ []);
+    }

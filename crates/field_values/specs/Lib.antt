@@ -1,0 +1,4 @@
+pub mod Judged
+pub mod JudgedLaws
+pub mod Factors
+pub mod FactorsLaws

@@ -1,0 +1,3 @@
+pub mod Percent
+pub mod Reconciliation
+pub mod ReconciliationFacts

@@ -1,0 +1,94 @@
+-- The charge and what the company bears make up the cost entered, the bounds that a ledger needs, and the marked figures.
+use mathlib.Core.Path.{_≡_, refl, ap, sym, _∙_}
+use Prim.Native.Nat.{ℕ, zero, suc, _+_, _≤_}
+use native.Mathlib.Omega.{arith}
+use lib.IntN.{ℤ, pos, negsuc, negℤ, _+ℤ_, _-ℤ_, +ℤ-assoc, +ℤ-comm, negℤ-+ℤ, negℤ-negℤ, pos-+ℤ-pos}
+use Rattle.reconciliation.specs.Percent.{percentOf}
+use Rattle.reconciliation.specs.Reconciliation.{icOf, usedOf, ccOf, notChargedOf, nicOf, ncOf, enteredOf, borneOf, reconciliationOf, CostsWithin}
+use Rattle.reconciliation.specs.declared.Costs.{Costs}
+use Rattle.reconciliation.specs.declared.Reconciliation.{Reconciliation}
+use Rattle.reconciliation.specs.declared.Percent.the-variants.{Whole, None}
+
+-- a − b − c is a − (b + c)
+pub subtract-twice : (a b c : ℕ) → pos a -ℤ pos b -ℤ pos c ≡ pos a -ℤ pos (b + c)
+subtract-twice a b c =
+    +ℤ-assoc (pos a) (negℤ (pos b)) (negℤ (pos c))
+    ∙ ap (λ z. pos a +ℤ z) (sym (negℤ-+ℤ (pos b) (pos c)) ∙ ap negℤ (pos-+ℤ-pos b c))
+
+-- a − (b − c) is a + c − b
+subtract-difference : (a b c : ℕ) → pos a -ℤ (pos b -ℤ pos c) ≡ pos (a + c) -ℤ pos b
+subtract-difference a b c =
+    ap
+    (λ z. pos a +ℤ z)
+    (negℤ-+ℤ (pos b) (negℤ (pos c)) ∙ ap (λ z. negℤ (pos b) +ℤ z) (negℤ-negℤ (pos c)) ∙ +ℤ-comm (negℤ (pos b)) (pos c))
+    ∙ sym (+ℤ-assoc (pos a) (pos c) (negℤ (pos b)))
+    ∙ ap (λ z. z -ℤ pos b) (pos-+ℤ-pos a c)
+
+-- CC, the credit used and the capacity that isn't charged make up IC
+ic-in-two : (costs : Costs) (ir a share : ℕ) → a ≤ 1 → ccOf costs ir a share + (usedOf costs ir a share + notChargedOf costs a) ≡ icOf costs
+ic-in-two costs ir zero share h = omega arith
+ic-in-two costs ir (suc zero) share h = omega arith
+ic-in-two costs ir (suc (suc a)) share h = omega arith
+
+-- CC and the cost borne make up the cost entered, and CC − NC is NIC
+pub reconciles :
+    (costs : Costs)
+    (ir a share : ℕ)
+    → a ≤ 1
+    → (ccOf costs ir a share + borneOf costs ir a share ≡ enteredOf costs)
+    × (pos (ccOf costs ir a share) -ℤ ncOf costs ir a share ≡ nicOf costs ir)
+reconciles costs ir a share h =
+    let parts = ic-in-two costs ir a share h in (
+      omega (arith, parts),
+      ap (λ z. pos (ccOf costs ir a share) -ℤ z) (subtract-twice ir (usedOf costs ir a share) (notChargedOf costs a))
+          ∙ subtract-difference (ccOf costs ir a share) ir (usedOf costs ir a share + notChargedOf costs a)
+          ∙ ap (λ n. pos n -ℤ pos ir) parts,
+    )
+
+-- the limits that a ledger needs
+pub record Bounded (r : Reconciliation) : Type 0 where
+  pub x : r .x ≤ 2000000000
+  pub cc : r .cc ≤ 1100000000000
+  pub borne : r .borne ≤ 1100000000000
+  pub entered : r .entered ≡ r .cc + r .borne
+
+pub reconciliation-bounded :
+    {costs : Costs}
+    {ir a share : ℕ}
+    → CostsWithin costs
+    → ir ≤ 3968000000000
+    → a ≤ 1
+    → share ≤ 10000
+    → Bounded (reconciliationOf costs ir a share)
+reconciliation-bounded {costs} {ir} {a} {share} w i h s =
+    let whole = reconciles costs ir a share h in
+    record {
+      x = omega arith;
+      cc = omega (arith, whole .0);
+      borne = omega (arith, whole .0);
+      entered = sym (whole .0);
+    }
+
+-- M9: "−1 of 200 is −1 percent", and "nearest whole, halves away from zero; none where the divisor is 0"
+pub percent-marked-figures :
+    (percentOf (negsuc 0) 200 ≡ Whole (negsuc 0))
+    × (percentOf (pos 1) 200 ≡ Whole (pos 1))
+    × (percentOf (negsuc 0) 201 ≡ Whole (pos 0))
+    × (percentOf (pos 1) 201 ≡ Whole (pos 0))
+    × ((n : ℤ) → percentOf n 0 ≡ None)
+percent-marked-figures = (refl, refl, refl, refl, λ n. refl)
+
+abbrev pub slipReconciliation : Reconciliation
+slipReconciliation =
+    reconciliationOf (record { me = 1598500; mc = 108000; ce = 0; cc2 = 0; de = 0; tw = 0; hr = 0; ol = 0 }) 859800 1 6500
+
+-- M4: the slip's CC and NC, with its other figures
+pub slip-figures :
+    (slipReconciliation .cc ≡ 1147630)
+    × (slipReconciliation .ic ≡ 1706500)
+    × (slipReconciliation .nic ≡ pos 846700)
+    × (slipReconciliation .nc ≡ pos 300930)
+    × (slipReconciliation .reliance ≡ Whole (pos 67))
+    × (slipReconciliation .upfront ≡ Whole (pos 57))
+    × (slipReconciliation .«nc_ratio» ≡ Whole (pos 15))
+slip-figures = (refl, refl, refl, refl, refl, refl, refl)

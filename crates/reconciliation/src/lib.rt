@@ -1,0 +1,184 @@
+// The charge, its reconciliation and its percentages, in whole cents.
+ghost use mathlib.Core.Path.{_≡_};
+ghost use Prim.Native.Nat.{_+_, _*_, _-_, _<_, _≤_, min};
+ghost use lib.IntN.{pos, _-ℤ_};
+ghost use Rattle.reconciliation.specs.Percent.{nearest, percentOf};
+ghost use Rattle.reconciliation.specs.Reconciliation.{icOf, mOf, creditOf, notChargedOf, reconciliationOf, CostsWithin};
+
+pub enum Percent {
+    // a whole number of percent
+    Whole(i64),
+    // no percentage: the divisor is 0
+    None,
+}
+
+// The costs that a connection enters: minimum scheme extension, capacity, customer enhancement
+// extension, its capacity, distributor enhancement, transmission works, historical cost recovery,
+// operating loading.
+pub struct Costs {
+    pub me: u64,
+    pub mc: u64,
+    pub ce: u64,
+    pub cc2: u64,
+    pub de: u64,
+    pub tw: u64,
+    pub hr: u64,
+    pub ol: u64,
+}
+
+pub struct Reconciliation {
+    pub me: u64,
+    pub mc: u64,
+    pub ce: u64,
+    pub cc2: u64,
+    pub tw: u64,
+    pub hr: u64,
+    pub ol: u64,
+    pub ic: u64,
+    pub ir: u64,
+    pub cc: u64,
+    pub nic: i64,
+    pub nc: i64,
+    // what a scheme that opens here costs
+    pub x: u64,
+    // cost entered, and what the company bears of it
+    pub entered: u64,
+    pub borne: u64,
+    // CC/IC, CC/(CC+IR), NC/(CC+IR)
+    pub reliance: Percent,
+    pub upfront: Percent,
+    pub nc_ratio: Percent,
+}
+
+fn signed(x: u64) -> i64
+    requires { ⌜ x < 9223372036854775808 ⌝ }
+    ensures { λ r. ⌜ r ≡ pos x ⌝ }
+{
+    x as i64
+}
+
+fn minus(a: u64, b: u64) -> i64
+    requires { ⌜ (a < 9223372036854775808) × (b < 9223372036854775808) ⌝ }
+    ensures { λ r. ⌜ r ≡ pos a -ℤ pos b ⌝ }
+{
+    signed(a) - signed(b)
+}
+
+fn nearest_percent(n: u64, divisor: u64) -> u64
+    requires { ⌜ (n < 10000000000000000) × ((divisor < 10000000000000000) × (0 < divisor)) ⌝ }
+    ensures { λ r. ⌜ (r ≡ nearest n divisor) × (r < 9223372036854775808) ⌝ }
+{
+    (200 * n + divisor) / (2 * divisor)
+}
+
+// The percentage that a difference is of a divisor.
+fn percent_of(a: u64, b: u64, divisor: u64) -> Percent
+    requires { ⌜ (a < 10000000000000000) × ((b < 10000000000000000) × (divisor < 10000000000000000)) ⌝ }
+    ensures { λ r. ⌜ r ≡ percentOf (pos a -ℤ pos b) divisor ⌝ }
+{
+    if divisor == 0 {
+        return Percent::None;
+    }
+    if b <= a {
+        let whole = nearest_percent(a - b, divisor);
+        return Percent::Whole(signed(whole));
+    }
+    let whole = nearest_percent(b - a, divisor);
+    Percent::Whole(0 - signed(whole))
+}
+
+fn smaller(a: u64, b: u64) -> u64
+    ensures { λ r. ⌜ r ≡ min a b ⌝ }
+{
+    if a <= b { a } else { b }
+}
+
+// The amount where a is 1, nothing where it is 0.
+fn times(a: u64, amount: u64) -> u64
+    requires { ⌜ a ≤ 1 ⌝ }
+    ensures { λ r. ⌜ (r ≡ a * amount) × (r ≤ amount) ⌝ }
+{
+    if a == 1 { amount } else { 0 }
+}
+
+// The credit for incremental revenue at a share in ten-thousandths.
+fn credit_of(ir: u64, share: u16) -> u64
+    requires { ⌜ (ir ≤ 3968000000000) × (share ≤ 10000) ⌝ }
+    ensures { λ r. ⌜ (r ≡ creditOf ir share) × (r ≤ ir) ⌝ }
+{
+    ir * share as u64 / 10_000
+}
+
+// IC
+fn ic_of(costs: Costs) -> u64
+    requires { ⌜ CostsWithin costs ⌝ }
+    ensures { λ r. ⌜ (r ≡ icOf costs) × (r ≤ 1005000000000) ⌝ }
+{
+    costs.me + costs.mc + costs.ce + costs.cc2 + costs.tw + costs.hr + costs.ol
+}
+
+// M
+fn m_of(costs: Costs, a: u64) -> u64
+    requires { ⌜ CostsWithin costs × (a ≤ 1) ⌝ }
+    ensures { λ r. ⌜ (r ≡ mOf costs a) × (r ≤ 501000000000) ⌝ }
+{
+    costs.me + times(a, costs.mc)
+}
+
+// CC, from what the credit leaves of M.
+fn cc_of(costs: Costs, a: u64, left: u64) -> u64
+    requires { ⌜ CostsWithin costs × (a ≤ 1) × (left ≤ 501000000000) ⌝ }
+    ensures { λ r. ⌜ (r ≡ left + costs .ce + a * costs .cc2 + costs .tw + costs .hr + costs .ol) × (r ≤ 1005000000000) ⌝ }
+{
+    left + costs.ce + times(a, costs.cc2) + costs.tw + costs.hr + costs.ol
+}
+
+// The capacity that isn't charged.
+fn not_charged_of(costs: Costs, a: u64) -> u64
+    requires { ⌜ CostsWithin costs × (a ≤ 1) ⌝ }
+    ensures { λ r. ⌜ (r ≡ notChargedOf costs a) × (r ≤ 1000000000000) ⌝ }
+{
+    times(1 - a, costs.mc + costs.cc2)
+}
+
+// What a scheme that opens here costs.
+fn x_of(costs: Costs, credit: u64) -> u64
+    requires { ⌜ CostsWithin costs ⌝ }
+    ensures { λ r. ⌜ r ≡ costs .me - min (costs .me) credit + costs .ce ⌝ }
+{
+    costs.me - smaller(costs.me, credit) + costs.ce
+}
+
+// The reconciliation of a connection's costs with its incremental revenue; `charged` is a.
+pub fn reconcile(costs: Costs, ir: u64, charged: u8, share: u16) -> Reconciliation
+    requires { ⌜ CostsWithin costs × (ir ≤ 3968000000000) × (charged ≤ 1) × (share ≤ 10000) ⌝ }
+    ensures { λ r. ⌜ r ≡ reconciliationOf costs ir charged share ⌝ }
+{
+    let a = charged as u64;
+    let credit = credit_of(ir, share);
+    let m = m_of(costs, a);
+    let used = smaller(m, credit);
+    let ic = ic_of(costs);
+    let cc = cc_of(costs, a, m - used);
+    let ic_borne = used + not_charged_of(costs, a);
+    Reconciliation {
+        me: costs.me,
+        mc: costs.mc,
+        ce: costs.ce,
+        cc2: costs.cc2,
+        tw: costs.tw,
+        hr: costs.hr,
+        ol: costs.ol,
+        ic,
+        ir,
+        cc,
+        nic: minus(ic, ir),
+        nc: minus(ir, ic_borne),
+        x: x_of(costs, credit),
+        entered: ic + costs.de,
+        borne: ic_borne + costs.de,
+        reliance: percent_of(cc, 0, ic),
+        upfront: percent_of(cc, 0, cc + ir),
+        nc_ratio: percent_of(ir, ic_borne, cc + ir),
+    }
+}

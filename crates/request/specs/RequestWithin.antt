@@ -1,0 +1,128 @@
+-- Whatever the reader accepts lies within document 01's limits.
+use Prim.Native.Nat.{ℕ, zero, suc, _+_, _-_, _^_, _<_, _≤_, zero-le}
+use mathlib.Core.Path.{_≡_, refl, subst, sym, ap}
+use mathlib.Core.List.{List, [], _∷_}
+use native.Mathlib.Omega.{arith}
+use lib.ListN.{length, getD, take, drop, length-take, length-drop}
+use lib.Dec.{T, leb, lit≤}
+use Rattle.tagged.specs.BigEndian.{Bytes, numberAt}
+use Rattle.tagged.specs.BigEndianLaws.{Bytes-take, Bytes-drop, number-below}
+use Rattle.tagged.specs.Find.{fieldStart, fieldValue, firstPlace, partOf}
+use Rattle.tagged.specs.File.{fieldsPart}
+use Rattle.tagged.specs.FileLaws.{stands-means}
+use Rattle.tagged.specs.declared.find.Place.{Place}
+use Rattle.tagged.specs.declared.find.Place.the-variants.{At, Nowhere}
+use Rattle.tagged.specs.declared.file.Standing.the-variants.{Stands}
+use Rattle.field_values.specs.Judged.{judgeField}
+use Rattle.field_values.specs.JudgedLaws.{first-failure-passes, offsetOf, NumberWithin, judged-within}
+use Rattle.field_values.specs.FactorsLaws.{FactorsWithin, factors-within}
+use Rattle.field_values.specs.declared.judged.Judged.the-variants.{Passes}
+use Rattle.request.specs.Rows.{requestRows}
+use Rattle.request.specs.Request.{classLimits, amountLimits, fiveTierLimits, addedLimits, revenueLimits, connectionLimits, chargeJudgements, requestJudgements, judgeRequest, modesIn, fiveFrom, requestValues, requestOf}
+use Rattle.request.specs.RequestSizes.{RequestSizes, request-sizes}
+use Rattle.request.specs.RequestFacts.{request-accepted}
+use Rattle.request.specs.declared.values.Request.{Request}
+
+pub record RequestWithin (request : Request) : Type 0 where
+  pub person : request .person < 2 ^ 32
+  pub class : request .class ≤ 1
+  pub zone : request .zone < 256
+  pub me : request .me ≤ 1000000000
+  pub ce : request .ce ≤ 1000000000
+  pub de : request .de ≤ 1000000000
+  pub tw : request .tw ≤ 1000000000
+  pub hr : request .hr ≤ 1000000000
+  pub ol : request .ol ≤ 1000000000
+  pub five-modes : length (request .modes) ≡ 5
+  pub five-demands : length (request .demands) ≡ 5
+  pub five-bespoke-rates : length (request .«bespoke_rates») ≡ 5
+  pub five-added-demands : length (request .«added_demands») ≡ 5
+  pub modes : (k : ℕ) → getD (request .modes) k 0 ≤ 2
+  pub demands : (k : ℕ) → getD (request .demands) k 0 ≤ 1000000
+  pub bespoke-rates : (k : ℕ) → getD (request .«bespoke_rates») k 0 ≤ 10000000
+  pub added-demands : (k : ℕ) → getD (request .«added_demands») k 0 ≤ 1000000
+  pub distribution-revenue : request .«distribution_revenue» ≤ 1000000000
+  pub transmission-revenue : request .«transmission_revenue» ≤ 1000000000
+  pub part-year : FactorsWithin (request .«part_year»)
+  pub distribution-tariff : FactorsWithin (request .«distribution_tariff»)
+  pub transmission-tariff : FactorsWithin (request .«transmission_tariff»)
+  pub month : request .month < 65536
+  pub some-capacity : 1 ≤ request .capacity
+  pub capacity : request .capacity ≤ 1000000
+  pub scheme : request .scheme < 65536
+  pub mark : request .mark ≤ 2
+
+-- each number of a list at most `most`
+AllAtMost : ℕ → List ℕ → Type 0
+AllAtMost most [] = Unit
+AllAtMost most (n ∷ ns) = (n ≤ most) × AllAtMost most ns
+
+each-at-most : (most : ℕ) (ns : List ℕ) → AllAtMost most ns → (k : ℕ) → getD ns k 0 ≤ most
+unfolding AllAtMost
+each-at-most most [] h k = zero-le
+each-at-most most (n ∷ ns) h zero = h .0
+each-at-most most (n ∷ ns) h (suc k) = each-at-most most ns (h .1) k
+
+Bytes-part : (place : Place) (s : List ℕ) → Bytes s → Bytes (partOf place s)
+Bytes-part Nowhere s h k = omega arith
+Bytes-part (At start len) s h k = Bytes-take len (drop start s) (Bytes-drop start s h) k
+
+numberAt-below : (s : List ℕ) (at width : ℕ) → Bytes s → at + width ≤ length s → numberAt s at width < 256 ^ width
+numberAt-below s at width bytes h =
+    let part = take width (drop at s) in
+    let long : length part ≡ width = simp (length-take, length-drop) (omega arith) in
+    rw long at (number-below part (Bytes-take width (drop at s) (Bytes-drop at s bytes)))
+
+-- number k of a field whose values pass
+field-within : (s : List ℕ) (limits : List (List ℕ)) (tag : ℕ) {size : ℕ} → judgeField limits tag s ≡ Passes → length (fieldValue tag s) ≡ size →
+    (k : ℕ) → T (leb (offsetOf limits (k + 1)) size) → NumberWithin limits (fieldValue tag s) k
+field-within s limits tag e long k h = judged-within limits (fieldStart tag s) (fieldValue tag s) e k (rw long (lit≤ h))
+
+values-within : (s : List ℕ) → Bytes s → RequestSizes s → judgeRequest s ≡ Passes → RequestWithin (requestValues s)
+unfolding AllAtMost
+values-within s bytes sizes passes =
+    let judged = first-failure-passes (requestJudgements s) passes in
+    let charges = first-failure-passes (chargeJudgements s) (judged 1) in
+    let class = field-within s classLimits 3 (charges 0) (sizes .class) in
+    let amount = field-within s amountLimits 5 (charges 1) (sizes .amounts) in
+    let tier = field-within s fiveTierLimits 6 (judged 2) (sizes .tiers) in
+    let added = field-within s addedLimits 7 (judged 3) (sizes .added) in
+    let revenue = field-within s revenueLimits 8 (judged 4) (sizes .revenues) in
+    let connection = field-within s connectionLimits 12 (judged 8) (sizes .connection) in
+    record {
+      person = numberAt-below (fieldValue 2 s) 0 4 (Bytes-part (firstPlace 2 s) s bytes) (omega (arith, sizes .person));
+      class = class 0 tt .1;
+      zone = numberAt-below (fieldValue 4 s) 0 1 (Bytes-part (firstPlace 4 s) s bytes) (omega (arith, sizes .zone));
+      me = amount 0 tt .1;
+      ce = amount 1 tt .1;
+      de = amount 2 tt .1;
+      tw = amount 3 tt .1;
+      hr = amount 4 tt .1;
+      ol = amount 5 tt .1;
+      five-modes = refl;
+      five-demands = refl;
+      five-bespoke-rates = refl;
+      five-added-demands = refl;
+      modes = each-at-most 2 (modesIn (fieldValue 6 s)) (tier 0 tt .1, (tier 3 tt .1, (tier 6 tt .1, (tier 9 tt .1, (tier 12 tt .1, tt)))));
+      demands = each-at-most 1000000 (fiveFrom (fieldValue 6 s) 1 9) (tier 1 tt .1, (tier 4 tt .1, (tier 7 tt .1, (tier 10 tt .1, (tier 13 tt .1, tt)))));
+      bespoke-rates = each-at-most 10000000 (fiveFrom (fieldValue 6 s) 5 9) (tier 2 tt .1, (tier 5 tt .1, (tier 8 tt .1, (tier 11 tt .1, (tier 14 tt .1, tt)))));
+      added-demands = each-at-most 1000000 (fiveFrom (fieldValue 7 s) 0 4) (added 0 tt .1, (added 1 tt .1, (added 2 tt .1, (added 3 tt .1, (added 4 tt .1, tt)))));
+      distribution-revenue = revenue 0 tt .1;
+      transmission-revenue = revenue 1 tt .1;
+      part-year = factors-within 9 s (judged 5) (sizes .part-year .least) (sizes .part-year .most);
+      distribution-tariff = factors-within 10 s (judged 6) (sizes .distribution .least) (sizes .distribution .most);
+      transmission-tariff = factors-within 11 s (judged 7) (sizes .transmission .least) (sizes .transmission .most);
+      month = omega (arith, connection 0 tt .1);
+      some-capacity = connection 1 tt .0;
+      capacity = connection 1 tt .1;
+      scheme = omega (arith, connection 2 tt .1);
+      mark = connection 3 tt .1;
+    }
+
+pub request-within-limits : (number : ℕ) (file : List ℕ) → Bytes file → requestOf number file .answer ≡ Stands → RequestWithin (requestOf number file .request)
+request-within-limits number file bytes e =
+    let accepted = request-accepted number file e in
+    let walks = stands-means requestRows number file (accepted .stands) in
+    let s = fieldsPart file in
+    subst RequestWithin (ap (λ read. read .request) (sym (accepted .values)))
+    (values-within s (Bytes-take (length file - 5) file bytes) (request-sizes s (walks .field-list, walks .walks)) (accepted .passes))

@@ -1,0 +1,22 @@
+use Prim.Native.Nat.{suc}
+use Rattle.revenue.specs.Revenue.{discount}
+use Rattle.revenue.specs.RevenueLaws.{discount-at-most}
+use borrow.Author.Needs.{needs}
+use Rattle.revenue.proofs.next_discount.Statement.{statement}
+use Rattle.revenue.proofs.next_discount.Tie as tie
+
+mul-result : tie.Need-mul-result
+mul-result c = search needs
+
+add-result : tie.Need-add-result
+add-result c = search needs
+
+div-result : tie.Need-div-result
+div-result c = search needs
+
+returns : tie.Need-returns
+unfolding discount
+returns c = (rw (c .pre .0), rw (c .pre .0) (discount-at-most (c .args .b) (suc (c .args .n))))
+
+pub next-discount-spec : {M : Type 1} → statement M
+next-discount-spec = tie.close (tie.spec mul-result add-result div-result returns)

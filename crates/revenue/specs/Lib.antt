@@ -1,0 +1,4 @@
+pub mod Revenue
+pub mod RevenueFacts
+pub mod RevenueLaws
+pub mod DiscountBounds
