@@ -36,34 +36,36 @@ def closed(fields):
     return data + number(2, check(data))
 
 
-def slip_book():
+def slip_book(term=84, charged=1):
     return [
         field(0x01, b"RATE"),
         field(0x02, number(2, 0)),
         field(0x03, numbers(4, [0, 1] * 5)),
         field(0x04, number(2, 10_000)),
         field(0x05, number(2, 10_000)),
-        field(0x06, numbers(4, [5_000_000, 20_000, 20_000]) + number(2, 84)),
-        field(0x07, number(1, 1) + number(2, 6_500)),
+        field(0x06, numbers(4, [5_000_000, 20_000, 20_000]) + number(2, term)),
+        field(0x07, number(1, charged) + number(2, 6_500)),
         field(0x08, number(1, 1) + numbers(4, [0, 0, 8_500, 38_000, 10_000])),
     ]
 
 
-def slip_request():
-    demands = [400, 400, 200, 200, 150]
+POSTED_TIERS = [(0, 400, 0), (0, 400, 0), (0, 200, 0), (0, 200, 0), (0, 150, 0)]
+
+
+def slip_request(zone=1, extension=1_598_500, tiers=POSTED_TIERS, revenue=57_320, capacity=15_000):
     return [
         field(0x01, b"CONN"),
         field(0x02, number(4, 4_711)),
         field(0x03, number(1, 1)),
-        field(0x04, number(1, 1)),
-        field(0x05, numbers(4, [1_598_500, 0, 0, 0, 0, 0])),
-        field(0x06, b"".join(number(1, 0) + numbers(4, [demand, 0]) for demand in demands)),
+        field(0x04, number(1, zone)),
+        field(0x05, numbers(4, [extension, 0, 0, 0, 0, 0])),
+        field(0x06, b"".join(number(1, mode) + numbers(4, [demand, rate]) for mode, demand, rate in tiers)),
         field(0x07, numbers(4, [0] * 5)),
-        field(0x08, numbers(4, [57_320, 0])),
+        field(0x08, numbers(4, [revenue, 0])),
         field(0x09, numbers(2, [0, 10_000])),
         field(0x0A, number(2, 10_000)),
         field(0x0B, number(2, 10_000)),
-        field(0x0C, number(2, 24_315) + number(4, 15_000) + number(2, 0) + number(1, 0)),
+        field(0x0C, number(2, 24_315) + number(4, capacity) + number(2, 0) + number(1, 0)),
     ]
 
 
@@ -111,8 +113,32 @@ def listed_files():
     }
 
 
+def slip_files():
+    """Document 01's slip."""
+    return {"rates.bin": closed(slip_book()), "job.bin": closed(slip_request())}
+
+
+def refused_slip_files():
+    files = slip_files()
+    rates, job = files["rates.bin"], files["job.bin"]
+    bespoke = POSTED_TIERS[:2] + [(2, 200, 12_750)] + POSTED_TIERS[3:]
+    return files | {
+        "long_rates.bin": rates + bytes(5_000),
+        "altered_rates.bin": altered(rates, 20, 1),
+        "altered_job.bin": altered(job, 30, 1),
+        "rates_term_83.bin": closed(slip_book(term=83)),
+        "rates_not_charged.bin": closed(slip_book(charged=0)),
+        "job_capacity_0.bin": closed(slip_request(capacity=0)),
+        "job_zone_2.bin": closed(slip_request(zone=2)),
+        "job_at_150_percent.bin": closed(slip_request(tiers=bespoke)),
+        "job_of_nothing.bin": closed(slip_request(extension=0, tiers=[(0, 0, 0)] * 5, revenue=0)),
+        "job_no_revenue.bin": closed(slip_request(revenue=0)),
+    }
+
+
 def wanted():
-    return {ROOT / "crates/list_fields/data" / name: data for name, data in listed_files().items()}
+    folders = {"list_fields": listed_files(), "slip": slip_files(), "slip_refusals": refused_slip_files()}
+    return {ROOT / "crates" / program / "data" / name: data for program, files in folders.items() for name, data in files.items()}
 
 
 def main():

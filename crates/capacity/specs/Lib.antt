@@ -1,2 +1,3 @@
 pub mod Capacity
+pub mod CapacityLaws
 pub mod CapacityFacts

@@ -1,2 +1,4 @@
-// The rate book: document 01, 'Rate book'. So far its table of fields alone.
+// The rate book: document 01, 'Rate book'.
+pub mod book;
 pub mod rows;
+pub mod zones;

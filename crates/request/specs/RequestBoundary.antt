@@ -4,19 +4,15 @@ use mathlib.Core.Path.{_≡_, refl}
 use mathlib.Core.List.{List, [], _∷_, _++_, map, flatMap}
 use lib.ListN.{getD, set, replicate}
 use Rattle.tagged.specs.BigEndian.{number, bytesOf}
-use Rattle.tagged.specs.Check.{check, checkFrom}
+use Rattle.tagged.specs.Check.{checkFrom}
 use Rattle.tagged.specs.Walk.{dueFrom, allHad, frontOf, walkFrom}
 use Rattle.tagged.specs.Find.{fieldsFrom, firstWith}
 use Rattle.tagged.specs.File.{refusal}
-use Rattle.tagged.specs.WalkFinds.{joined}
+use Rattle.tagged.specs.WalkFinds.{closed}
 use Rattle.tagged.specs.declared.file.Standing.{Standing}
 use Rattle.tagged.specs.declared.file.Standing.the-variants.{Stands, Refused}
 use Rattle.field_values.specs.Judged.{judgeNumbers, sameBytes}
 use Rattle.request.specs.Request.{requestOf}
-
--- "The last field is FF, length 2: the check."
-abbrev pub closed : List ℕ → List ℕ
-closed fields = let checked = fields ++ (255 ∷ 0 ∷ 2 ∷ []) in checked ++ bytesOf 2 (check checked)
 
 -- the numbers of a request, field by field from 01 on: how many bytes each takes
 abbrev pub requestWidths : List (List ℕ)
@@ -47,7 +43,7 @@ partsFrom tag (widths ∷ others) (ns ∷ values) = (tag, spelt widths ns) ∷ p
 
 -- the file of a request with these numbers
 abbrev pub requestFile : List (List ℕ) → List ℕ
-requestFile values = closed (joined (partsFrom 1 requestWidths values))
+requestFile values = closed (partsFrom 1 requestWidths values)
 
 abbrev pub sample : List (List ℕ)
 sample =

@@ -3,15 +3,14 @@ use Prim.Native.Nat.{ℕ, zero, suc, _+_, _-_, _^_, _<_, _≤_, zero-le}
 use mathlib.Core.Path.{_≡_, refl, subst, sym, ap}
 use mathlib.Core.List.{List, [], _∷_}
 use native.Mathlib.Omega.{arith}
-use lib.ListN.{length, getD, take, drop, length-take, length-drop}
+use lib.ListN.{length, getD}
 use lib.Dec.{T, leb, lit≤}
-use Rattle.tagged.specs.BigEndian.{Bytes, numberAt}
-use Rattle.tagged.specs.BigEndianLaws.{Bytes-take, Bytes-drop, number-below}
-use Rattle.tagged.specs.Find.{fieldStart, fieldValue, firstPlace, partOf}
+use Rattle.tagged.specs.BigEndian.{Bytes}
+use Rattle.tagged.specs.BigEndianLaws.{Bytes-take, numberAt-below}
+use Rattle.tagged.specs.Find.{fieldStart, fieldValue, firstPlace}
+use Rattle.tagged.specs.WalkFinds.{Bytes-part}
 use Rattle.tagged.specs.File.{fieldsPart}
 use Rattle.tagged.specs.FileLaws.{stands-means}
-use Rattle.tagged.specs.declared.find.Place.{Place}
-use Rattle.tagged.specs.declared.find.Place.the-variants.{At, Nowhere}
 use Rattle.tagged.specs.declared.file.Standing.the-variants.{Stands}
 use Rattle.field_values.specs.Judged.{judgeField}
 use Rattle.field_values.specs.JudgedLaws.{first-failure-passes, offsetOf, NumberWithin, judged-within}
@@ -63,16 +62,6 @@ each-at-most most [] h k = zero-le
 each-at-most most (n ∷ ns) h zero = h .0
 each-at-most most (n ∷ ns) h (suc k) = each-at-most most ns (h .1) k
 
-Bytes-part : (place : Place) (s : List ℕ) → Bytes s → Bytes (partOf place s)
-Bytes-part Nowhere s h k = omega arith
-Bytes-part (At start len) s h k = Bytes-take len (drop start s) (Bytes-drop start s h) k
-
-numberAt-below : (s : List ℕ) (at width : ℕ) → Bytes s → at + width ≤ length s → numberAt s at width < 256 ^ width
-numberAt-below s at width bytes h =
-    let part = take width (drop at s) in
-    let long : length part ≡ width = simp (length-take, length-drop) (omega arith) in
-    rw long at (number-below part (Bytes-take width (drop at s) (Bytes-drop at s bytes)))
-
 -- number k of a field whose values pass
 field-within : (s : List ℕ) (limits : List (List ℕ)) (tag : ℕ) {size : ℕ} → judgeField limits tag s ≡ Passes → length (fieldValue tag s) ≡ size →
     (k : ℕ) → T (leb (offsetOf limits (k + 1)) size) → NumberWithin limits (fieldValue tag s) k
@@ -109,9 +98,9 @@ values-within s bytes sizes passes =
       added-demands = each-at-most 1000000 (fiveFrom (fieldValue 7 s) 0 4) (added 0 tt .1, (added 1 tt .1, (added 2 tt .1, (added 3 tt .1, (added 4 tt .1, tt)))));
       distribution-revenue = revenue 0 tt .1;
       transmission-revenue = revenue 1 tt .1;
-      part-year = factors-within 9 s (judged 5) (sizes .part-year .least) (sizes .part-year .most);
-      distribution-tariff = factors-within 10 s (judged 6) (sizes .distribution .least) (sizes .distribution .most);
-      transmission-tariff = factors-within 11 s (judged 7) (sizes .transmission .least) (sizes .transmission .most);
+      part-year = factors-within 9 s (judged 5) (sizes .part-year .0) (sizes .part-year .1);
+      distribution-tariff = factors-within 10 s (judged 6) (sizes .distribution .0) (sizes .distribution .1);
+      transmission-tariff = factors-within 11 s (judged 7) (sizes .transmission .0) (sizes .transmission .1);
       month = omega (arith, connection 0 tt .1);
       some-capacity = connection 1 tt .0;
       capacity = connection 1 tt .1;

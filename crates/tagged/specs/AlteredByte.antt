@@ -1,38 +1,22 @@
 -- A file that stands and then has exactly one byte altered is refused, whatever its rows: with 1 for its last five bytes, or with 2.
-use Prim.Native.Nat.{ℕ, zero, suc, _+_, _-_, _<_, _≤_}
-use mathlib.Core.Path.{_≡_, sym, ap, ap₂, _∙_}
+use Prim.Native.Nat.{ℕ, _+_, _-_, _<_, _≤_}
+use mathlib.Core.Path.{_≡_, sym, ap, _∙_}
 use mathlib.Core.Logic.{_⊎_, inl, inr, ⊎-elim}
 use mathlib.Mathlib.Data.Bool.Basic.{dichotomy}
-use mathlib.Core.List.{List, [], _∷_}
+use mathlib.Core.List.{List}
 use mathlib.Core.Bool.{true, false}
 use native.Mathlib.Omega.{arith}
-use lib.ListN.{length, getD, set, take, drop, length-take, length-drop, length-set}
+use lib.ListN.{length, getD, set, take, drop, length-take, length-set}
 use lib.Seq.{getD-take, getD-drop, getD-set-same, take-set-le, take-set-lt, drop-set-lt}
 use lib.Dec.{ltb}
 use borrow.Author.Tests.{ltb-true, ltb-false, eqb-true, ne-eqb}
-use Rattle.tagged.specs.BigEndian.{Bytes, number, numberAt, bytesOf}
-use Rattle.tagged.specs.BigEndianLaws.{Bytes-take, Bytes-drop, bytesOf-number}
+use Rattle.tagged.specs.BigEndian.{Bytes, number, numberAt}
+use Rattle.tagged.specs.BigEndianLaws.{Bytes-set, numberAt-injective}
 use Rattle.tagged.specs.Check.{check}
 use Rattle.tagged.specs.CheckLaws.{check-set-byte}
 use Rattle.tagged.specs.File.{tailStands, checkStands, refusal, standing}
 use Rattle.tagged.specs.FileLaws.{bad-tail, bad-check, stands-means}
 use Rattle.tagged.specs.declared.file.Standing.the-variants.{Stands, Refused}
-
-pub Bytes-set : (s : List ℕ) (i b : ℕ) → Bytes s → b < 256 → Bytes (set s i b)
-Bytes-set [] i b h l k = h k
-Bytes-set (a ∷ s) zero b h l zero = l
-Bytes-set (a ∷ s) zero b h l (suc k) = h (suc k)
-Bytes-set (a ∷ s) (suc i) b h l zero = h zero
-Bytes-set (a ∷ s) (suc i) b h l (suc k) = Bytes-set s i b (λ j. h (suc j)) l k
-
--- bytes that spell the same number are the same bytes
-pub numberAt-injective : (s t : List ℕ) (at width : ℕ) → Bytes s → Bytes t → length s ≡ length t → numberAt s at width ≡ numberAt t at width
-    → take width (drop at s) ≡ take width (drop at t)
-numberAt-injective s t at width p q l e =
-    let long : length (take width (drop at s)) ≡ length (take width (drop at t)) = simp (length-take, length-drop, l) in
-    sym (bytesOf-number _ (Bytes-take width _ (Bytes-drop at s p)))
-    ∙ ap₂ bytesOf long e
-    ∙ bytesOf-number _ (Bytes-take width _ (Bytes-drop at t q))
 
 -- The altered byte is one of those that the check is over, or one of the check itself.
 module _ (s : List ℕ) (i b : ℕ) (bytes : Bytes s) (within : i < length s) (below : b < 256) (other : getD s i 0 ≡ b → ⊥) where

@@ -172,3 +172,25 @@ written-add out at m n v below h =
     let x = bytesOf m (v / 256 ^ n) in
     let y = bytesOf n (v % 256 ^ n) in
     rw (bytesOf-add m n v below) (rw length-bytesOf at (written-written out at x y (simp length-bytesOf (omega arith))))
+
+pub numberAt-below : (s : List ℕ) (at width : ℕ) → Bytes s → at + width ≤ length s → numberAt s at width < 256 ^ width
+numberAt-below s at width bytes h =
+    let part = take width (drop at s) in
+    let long : length part ≡ width = simp (length-take, length-drop) (omega arith) in
+    rw long at (number-below part (Bytes-take width (drop at s) (Bytes-drop at s bytes)))
+
+pub Bytes-set : (s : List ℕ) (i b : ℕ) → Bytes s → b < 256 → Bytes (set s i b)
+Bytes-set [] i b h l k = h k
+Bytes-set (a ∷ s) zero b h l zero = l
+Bytes-set (a ∷ s) zero b h l (suc k) = h (suc k)
+Bytes-set (a ∷ s) (suc i) b h l zero = h zero
+Bytes-set (a ∷ s) (suc i) b h l (suc k) = Bytes-set s i b (λ j. h (suc j)) l k
+
+-- bytes that spell the same number are the same bytes
+pub numberAt-injective : (s t : List ℕ) (at width : ℕ) → Bytes s → Bytes t → length s ≡ length t → numberAt s at width ≡ numberAt t at width
+    → take width (drop at s) ≡ take width (drop at t)
+numberAt-injective s t at width p q l e =
+    let long : length (take width (drop at s)) ≡ length (take width (drop at t)) = simp (length-take, length-drop, l) in
+    sym (bytesOf-number _ (Bytes-take width _ (Bytes-drop at s p)))
+    ∙ ap₂ bytesOf long e
+    ∙ bytesOf-number _ (Bytes-take width _ (Bytes-drop at t q))

@@ -1,5 +1,5 @@
 -- What follows for a file that walks: where its fields lie, that the file is its fields' bytes, and that the search finds those very parts.
-use Prim.Native.Nat.{ℕ, zero, suc, _+_, _-_, _<_, _≤_}
+use Prim.Native.Nat.{ℕ, zero, suc, _+_, _-_, _%_, _<_, _≤_}
 use mathlib.Core.Path.{_≡_, refl, sym, ap, ap₂, subst, _∙_}
 use mathlib.Core.List.{List, [], _∷_, _++_, append-assoc, flatMap, map, List·Memᴰ, List·Memᴰ·head, List·Memᴰ·tail, List·Memᴰ·not-nil, List·Memᴰ·cases-cons}
 use mathlib.Core.Logic.{⊎-elim}
@@ -12,10 +12,12 @@ use lib.Dec.{ltb, eqb}
 use borrow.Author.Tests.{le-ltb, le-leb, lt-ltb, eq-eqb, ne-eqb}
 use Rattle.tagged.specs.BigEndian.{Bytes, number, bytesOf}
 use Rattle.tagged.specs.BigEndianLaws.{Bytes-take, Bytes-drop, bytesOf-number}
-use Rattle.tagged.specs.Walk.{tagOf, leastOf, permittedBy, lengthAt, FieldAt, valueOf, fields, walk}
-use Rattle.tagged.specs.Find.{wholeField, fieldsFrom, fieldsOf, firstWith, firstPlace, valuePlace, restPlace, partOf}
-use Rattle.tagged.specs.WalkFacts.{Stand, end, next-row, field, StandsAt, Fields, none, first, walk-stands, walk-fields, both-hold, rest-tag, rest-length}
-use Rattle.tagged.specs.declared.find.Place.the-variants.{At}
+use Rattle.tagged.specs.Walk.{tagOf, lowestOf, highestOf, stepOf, leastOf, permittedBy, lengthAt, FieldAt, valueOf, fields, walk, FieldsWalk}
+use Rattle.tagged.specs.Find.{wholeField, fieldsFrom, fieldsOf, firstWith, firstPlace, valuePlace, restPlace, partOf, startOf, fieldValue, fieldStart}
+use Rattle.tagged.specs.WalkFacts.{Stand, end, next-row, field, StandsAt, Fields, none, first, walk-stands, walk-fields, both-hold, rest-tag, rest-length, permitted-length}
+use Rattle.tagged.specs.Check.{check}
+use Rattle.tagged.specs.declared.find.Place.{Place}
+use Rattle.tagged.specs.declared.find.Place.the-variants.{At, Nowhere}
 
 Fields-at : {s : List ℕ} {at : ℕ} {fs : List FieldAt} → Fields s at fs → (f : FieldAt) → List·Memᴰ f fs → (at′ : ℕ) × StandsAt s at′ f
 Fields-at (none l) f i = absurd (List·Memᴰ·not-nil i)
@@ -33,6 +35,10 @@ encoded tag value = tag ∷ bytesOf 2 (length value) ++ value
 -- the bytes of tags and values, field after field
 abbrev pub joined : List (ℕ × List ℕ) → List ℕ
 joined parts = flatMap (λ part. encoded (part .0) (part .1)) parts
+
+-- the file of these fields: after them FF, the length 2 and the check
+abbrev pub closed : List (ℕ × List ℕ) → List ℕ
+closed parts = let checked = joined parts ++ (255 ∷ 0 ∷ 2 ∷ []) in checked ++ bytesOf 2 (check checked)
 
 pub joined-append : (parts others : List (ℕ × List ℕ)) → joined (parts ++ others) ≡ joined parts ++ joined others
 unfolding flatMap
@@ -202,3 +208,26 @@ walk-finds-due rows s fs r e k h o =
     let w = Stand-finds (walk-stands rows s fs e) r k h o (λ _. o) in
     let i = walk-inside rows s fs e (w .f) (w .among) in
     record { start = w .f .start; len = w .f .len; found = walk-firstPlace rows s fs e (tagOf (getD rows k [])) ∙ w .found; permitted = w .permitted; within = i .1 .within }
+
+-- The value that the search finds for such a row has a length that the row permits, and lies inside the file.
+pub record Sized (row s : List ℕ) : Type 0 where
+  pub lowest : lowestOf row ≤ length (fieldValue (tagOf row) s)
+  pub highest : length (fieldValue (tagOf row) s) ≤ highestOf row
+  pub step : (length (fieldValue (tagOf row) s) - lowestOf row) % stepOf row ≡ 0
+  pub within : fieldStart (tagOf row) s + length (fieldValue (tagOf row) s) ≤ length s
+
+pub walk-sized : (rows : List (List ℕ)) (s : List ℕ) → risingTags rows ≡ true → FieldsWalk rows s → (k : ℕ) → k < length rows →
+    1 ≤ leastOf (getD rows k []) → Sized (getD rows k []) s
+walk-sized rows s rising (fs, walks) k h due =
+    let row = getD rows k [] in
+    let f = walk-finds-due rows s fs rising walks k h due in
+    let long : length (take (f .len) (drop (f .start) s)) ≡ f .len = simp (length-take, length-drop) (omega (arith, f .within)) in
+    let size : length (fieldValue (tagOf row) s) ≡ f .len = ap (λ p. length (partOf p s)) (f .found) ∙ long in
+    let start : fieldStart (tagOf row) s ≡ f .start = ap startOf (f .found) in
+    let p = permitted-length row (f .len) (f .permitted) in
+    record { lowest = omega arith; highest = omega arith; step = ap (λ n. (n - lowestOf row) % stepOf row) size ∙ p .2; within = omega (arith, f .within) }
+
+-- a part of bytes is bytes
+pub Bytes-part : (place : Place) (s : List ℕ) → Bytes s → Bytes (partOf place s)
+Bytes-part Nowhere s h k = omega arith
+Bytes-part (At start len) s h k = Bytes-take len (drop start s) (Bytes-drop start s h) k

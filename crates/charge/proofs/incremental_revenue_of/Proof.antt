@@ -1,0 +1,25 @@
+use native.Mathlib.Omega.{arith}
+use borrow.Author.Needs.{needs}
+use Rattle.charge.proofs.incremental_revenue_of.Statement.{statement}
+use Rattle.charge.proofs.incremental_revenue_of.Tie as tie
+use Rattle.charge.proofs.incremental_revenue_of.Reads as reads
+use Rattle.charge.proofs.incremental_revenue_of.Lts as lts
+use Rattle.revenue.proofs.incremental_revenue.Reads as incremental-revenue-reads
+use Rattle.revenue.proofs.life_of.Reads as life-of-reads
+use Rattle.revenue.proofs.opex_factor.Reads as opex-factor-reads
+
+opex-factor-requires : tie.Need-opex-factor-requires
+opex-factor-requires c κs = search needs
+
+life-of-requires : tie.Need-life-of-requires
+life-of-requires c κs = search needs
+
+incremental-revenue-requires : tie.Need-incremental-revenue-requires
+incremental-revenue-requires c κs = search needs
+
+returns : tie.Need-returns
+returns c = (rw (← c .before .before .opex-factor .ensures .0, ← c .before .life-of .ensures .0) (c .incremental-revenue .ensures .0), c .incremental-revenue .ensures .1)
+
+pub incremental-revenue-of-spec : {M : Type 1} → statement M
+incremental-revenue-of-spec =
+    tie.close (tie.spec opex-factor-requires life-of-requires incremental-revenue-requires returns)

@@ -1,0 +1,4 @@
+pub mod Price
+pub mod PriceLaws
+pub mod PriceFacts
+pub mod MarkedFigures

@@ -1,0 +1,225 @@
+// The pricing call: a rate book and a request in, the reconciliation or a refusal out.
+use capacity::BespokeRates;
+use capacity::Tiers;
+use rate_book::book::Book;
+use reconciliation::Costs;
+use reconciliation::Reconciliation;
+use request::values::Request;
+use revenue::Stream;
+use tagged::file::Refusal;
+use tagged::file::Standing;
+ghost use mathlib.Core.Path.{_≡_};
+ghost use Prim.Native.Nat.{ℕ, _+_, _<_, _≤_};
+ghost use Rattle.tagged.specs.File.{refusal};
+ghost use Rattle.capacity.specs.Capacity.{TiersWithin};
+ghost use Rattle.rate_book.specs.BookWithin.{BookWithin};
+ghost use Rattle.rate_book.specs.ZonesWithin.{RatesWithin};
+ghost use Rattle.request.specs.RequestWithin.{RequestWithin};
+ghost use Rattle.charge.specs.Price.{zoneFound, distributionOf, transmissionOf, incrementalRevenueOf, tiersOf, costsOf, billOf, pricedAt, valuesPriced, requestPriced, priceOf, ZoneBelow};
+
+// What a scheme that opens takes from the book.
+pub struct Terms {
+    pub threshold: u32,
+    pub fee: u32,
+    pub minimum: u32,
+    pub term: u16,
+}
+
+// Who asks for the connection, when, for how much capacity, and in which scheme.
+pub struct Applicant {
+    pub person: u32,
+    pub month: u16,
+    pub capacity: u32,
+    pub scheme: u16,
+    pub mark: u8,
+}
+
+pub struct Bill {
+    pub reconciliation: Reconciliation,
+    pub terms: Terms,
+    pub applicant: Applicant,
+}
+
+pub enum Pricing {
+    Priced(Bill),
+    NotPriced(Refusal),
+}
+
+enum Zone {
+    At(usize),
+    NotInBook,
+}
+
+fn not_priced(number: u8, file: u8, place: usize) -> Pricing
+    ensures { λ r. ⌜ r ≡ Pricing.NotPriced (refusal number file place) ⌝ }
+{
+    Pricing::NotPriced(Refusal {
+        number,
+        file,
+        place,
+    })
+}
+
+// The row of a zone among the book's zones.
+fn zone_found(numbers: [u16; 8], zones: usize, number: u16) -> Zone
+    requires { ⌜ zones ≤ 8 ⌝ }
+    ensures { λ r. ⌜ r ≡ zoneFound 0 zones numbers number ⌝ }
+    ensures { λ r. ⌜ ZoneBelow zones r ⌝ }
+{
+    let mut zone: usize = 0;
+    while zone < zones {
+        if numbers[zone] == number {
+            return Zone::At(zone);
+        }
+        zone += 1;
+    }
+    Zone::NotInBook
+}
+
+// IR, with the year-one revenues of distribution and transmission as handed over.
+pub fn incremental_revenue_of(
+    book: Book,
+    request: Request,
+    distribution: u32,
+    transmission: u32,
+) -> u64
+    requires { ⌜ BookWithin book × RequestWithin request × (distribution ≤ 1000000000) × (transmission ≤ 1000000000) ⌝ }
+    ensures { λ r. ⌜ (r ≡ incrementalRevenueOf book request distribution transmission) × (r ≤ 3968000000000) ⌝ }
+{
+    let part_year = request.part_year;
+    let distribution_factors = book.distribution;
+    let distribution_tariff = request.distribution_tariff;
+    let transmission_factors = book.transmission;
+    let transmission_tariff = request.transmission_tariff;
+    let distributed = Stream {
+        revenue: distribution,
+        opex_factor: revenue::opex_factor(book.opex, book.revenue),
+        part_year,
+        revenue_factors: distribution_factors,
+        tariff_factors: distribution_tariff,
+    };
+    let transmitted = Stream {
+        revenue: transmission,
+        opex_factor: 10_000,
+        part_year,
+        revenue_factors: transmission_factors,
+        tariff_factors: transmission_tariff,
+    };
+    revenue::incremental_revenue(
+        distributed,
+        transmitted,
+        book.rate,
+        revenue::life_of(request.class),
+    )
+}
+
+// The bill of a request whose tiers' rates are known.
+fn bill_of(book: Book, tiers: Tiers, request: Request, ir: u64) -> Bill
+    requires { ⌜ BookWithin book × TiersWithin tiers × RequestWithin request × (ir ≤ 3968000000000) ⌝ }
+    ensures { λ r. ⌜ r ≡ billOf book tiers request ir ⌝ }
+{
+    let demands = request.demands;
+    let added = request.added_demands;
+    let costs = Costs {
+        me: request.me as u64,
+        mc: capacity::capacity_cost(tiers, demands),
+        ce: request.ce as u64,
+        cc2: capacity::capacity_cost(tiers, added),
+        de: request.de as u64,
+        tw: request.tw as u64,
+        hr: request.hr as u64,
+        ol: request.ol as u64,
+    };
+    Bill {
+        reconciliation: reconciliation::reconcile(costs, ir, book.charged, book.share),
+        terms: Terms {
+            threshold: book.threshold,
+            fee: book.fee,
+            minimum: book.minimum,
+            term: book.term,
+        },
+        applicant: Applicant {
+            person: request.person,
+            month: request.month,
+            capacity: request.capacity,
+            scheme: request.scheme,
+            mark: request.mark,
+        },
+    }
+}
+
+// The pricing of values that were read: 4, 5, or the bill.
+pub fn price_values(
+    book: Book,
+    rates: [[u32; 5]; 8],
+    request: Request,
+    distribution: u32,
+    transmission: u32,
+) -> Pricing
+    requires { ⌜ BookWithin book × RatesWithin rates (book .zones) × RequestWithin request × (distribution ≤ 1000000000) × (transmission ≤ 1000000000) ⌝ }
+    ensures { λ r. ⌜ r ≡ valuesPriced book rates request distribution transmission ⌝ }
+{
+    let numbers = book.zone_numbers;
+    let found = zone_found(numbers, book.zones, request.zone);
+    match found {
+        Zone::NotInBook => not_priced(4, 2, 0),
+        Zone::At(zone) => {
+            let modes = request.modes;
+            let posted = rates[zone];
+            let bespoke = request.bespoke_rates;
+            let tiers = Tiers {
+                modes,
+                posted,
+                bespoke,
+            };
+            let allowed = capacity::first_not_allowed(tiers);
+            match allowed {
+                BespokeRates::NotAllowed(tier) => not_priced(5, 2, tier),
+                BespokeRates::Allowed => {
+                    let ir = incremental_revenue_of(book, request, distribution, transmission);
+                    Pricing::Priced(bill_of(book, tiers, request, ir))
+                }
+            }
+        }
+    }
+}
+
+// The pricing of a request file by the values of a book.
+fn price_request(book: Book, rates: [[u32; 5]; 8], request: &[u8]) -> Pricing
+    requires { ⌜ BookWithin book × RatesWithin rates (book .zones) ⌝ }
+    ensures { λ r. ⌜ r ≡ requestPriced book rates (now (request .entry)) ⌝ }
+{
+    let read = request::values::read_request(2, request);
+    let answer = read.answer;
+    match answer {
+        Standing::Refused(refusal) => Pricing::NotPriced(refusal),
+        Standing::Stands => {
+            let values = read.request;
+            price_values(
+                book,
+                rates,
+                values,
+                values.distribution_revenue,
+                values.transmission_revenue,
+            )
+        }
+    }
+}
+// The reconciliation of a request by a rate book, or the refusal: book, request, 4, 5.
+pub fn price(book: &[u8], request: &[u8]) -> Pricing
+    ensures { λ r. ⌜ r ≡ priceOf (now (book .entry)) (now (request .entry)) ⌝ }
+{
+    let standing = rate_book::rows::book_stands(1, book);
+    match standing {
+        Standing::Refused(refusal) => Pricing::NotPriced(refusal),
+        Standing::Stands => {
+            let rates = rate_book::zones::zone_rates(tagged::file::fields_part(book));
+            let read = rate_book::book::read_standing_book(1, book, rates);
+            let answer = read.answer;
+            match answer {
+                Standing::Refused(refusal) => Pricing::NotPriced(refusal),
+                Standing::Stands => price_request(read.book, rates, request),
+            }
+        }
+    }
+}

@@ -1,0 +1,3 @@
+pub mod Found
+pub mod Filling
+pub mod Scanning

@@ -1,0 +1,20 @@
+use native.Mathlib.Omega.{arith}
+use borrow.Author.Needs.{needs}
+use Rattle.rate_book.specs.ZonesStand.{zones-stand}
+use Rattle.rate_book.proofs.zones.zone_count.Statement.{statement}
+use Rattle.rate_book.proofs.zones.zone_count.Tie as tie
+
+add-result : tie.Need-add-result
+add-result c = search needs
+
+first-zone-requires : tie.Need-first-zone-requires
+first-zone-requires c κs = search needs
+
+sub-result : tie.Need-sub-result
+sub-result c = omega (arith, zones-stand (c .before .before .args .fields .now) (c .before .before .pre))
+
+returns : tie.Need-returns
+returns c = omega (arith, zones-stand (c .before .before .args .fields .now) (c .before .before .pre))
+
+pub zone-count-spec : {M : Type 1} → statement M
+zone-count-spec = tie.close (tie.spec add-result first-zone-requires sub-result returns)

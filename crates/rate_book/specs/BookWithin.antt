@@ -1,0 +1,99 @@
+-- Whatever the reader accepts lies within document 01's limits.
+use Prim.Native.Nat.{ℕ, _+_, _-_, _<_, _≤_}
+use mathlib.Core.Path.{_≡_, sym, subst}
+use mathlib.Core.List.{List, map}
+use native.Mathlib.Omega.{arith}
+use lib.ListN.{length, getD}
+use borrow.Author.Tests.{ltb-true, leb-true}
+use Rattle.tagged.specs.BigEndian.{Bytes, numberAt}
+use Rattle.tagged.specs.BigEndianLaws.{Bytes-take, numberAt-below}
+use Rattle.tagged.specs.Walk.{FieldsWalk}
+use Rattle.tagged.specs.Find.{firstPlace, fieldValue, fieldStart}
+use Rattle.tagged.specs.WalkFinds.{Bytes-part}
+use Rattle.tagged.specs.File.{fieldsPart}
+use Rattle.tagged.specs.declared.file.Standing.the-variants.{Stands}
+use Rattle.field_values.specs.JudgedLaws.{judge-passes, first-failure-passes, judged-within}
+use Rattle.field_values.specs.FactorsLaws.{FactorsWithin, factors-within}
+use Rattle.field_values.specs.declared.judged.Judged.the-variants.{Passes}
+use Rattle.rate_book.specs.Rows.{bookRows}
+use Rattle.rate_book.specs.Zones.{zoneStarts, zoneRates}
+use Rattle.rate_book.specs.ZonesStand.{zones-stand}
+use Rattle.rate_book.specs.ZonesLaws.{length-eight}
+use Rattle.rate_book.specs.ZonesWithin.{RatesWithin, zone-numbers-rise, zone-rates-within}
+use Rattle.rate_book.specs.BookSizes.{book-sizes}
+use Rattle.rate_book.specs.Book.{rateLimits, chargedLimits, sumFrom, sumJudgements, termJudgements, bookJudgements, judgeBook, bookValues, bookOf}
+use Rattle.rate_book.specs.BookFacts.{accepted-stands, accepted-passes, accepted-values, book-walks}
+use Rattle.rate_book.specs.declared.book.Book.{Book}
+
+pub record BookWithin (book : Book) : Type 0 where
+  pub rate : book .rate ≤ 10000
+  pub opex : book .opex ≤ book .revenue
+  pub revenue : 0 < book .revenue
+  -- five 4-byte figures
+  pub revenue-below : book .revenue < 21474836480
+  pub distribution : FactorsWithin (book .distribution)
+  pub transmission : FactorsWithin (book .transmission)
+  pub threshold : book .threshold ≤ 5000000
+  pub fee : book .fee ≤ book .minimum
+  pub minimum : book .minimum ≤ 1000000000
+  pub term : 84 ≤ book .term
+  pub term-below : book .term < 65536
+  pub charged : book .charged ≤ 1
+  pub share : book .share ≤ 10000
+  pub least-zones : 1 ≤ book .zones
+  pub most-zones : book .zones ≤ 8
+  pub numbers : length (book .«zone_numbers») ≡ 8
+  -- "each above the last"
+  pub rise : (i : ℕ) → i + 1 < book .zones → getD (book .«zone_numbers») i 0 < getD (book .«zone_numbers») (i + 1) 0
+
+sum-below : (value : List ℕ) (from : ℕ) → Bytes value → from + 36 ≤ length value → sumFrom value from < 21474836480
+sum-below value from h l =
+    let below : (k : ℕ) → k ≤ 32 → numberAt value (from + k) 4 < 4294967296 = λ k fits. numberAt-below value (from + k) 4 h (omega arith) in
+    let first : numberAt value from 4 < 4294967296 = numberAt-below value from 4 h (omega arith) in
+    omega (arith, below 8 (omega arith), below 16 (omega arith), below 24 (omega arith), below 32 (omega arith))
+
+module _ (s : List ℕ) (walks : FieldsWalk bookRows s) (passes : judgeBook s ≡ Passes) where
+  pub values-within : Bytes s → BookWithin (bookValues s)
+  values-within bytes =
+      let sizes = book-sizes s walks in
+      let stand = zones-stand s walks in
+      let pass = first-failure-passes (bookJudgements s) passes in
+      let sums = first-failure-passes (sumJudgements s) (pass 2) in
+      let terms = first-failure-passes (termJudgements s) (pass 5) in
+      let rates = judged-within rateLimits (fieldStart 2 s) (fieldValue 2 s) (pass 1) in
+      let charges = judged-within chargedLimits (fieldStart 7 s) (fieldValue 7 s) (pass 6) in
+      let bytes-of : (tag : ℕ) → Bytes (fieldValue tag s) = λ tag. Bytes-part (firstPlace tag s) s bytes in
+      record {
+        rate = rates 0 (omega (arith, sizes .rate)) .1;
+        opex = leb-true _ _ (judge-passes _ _ (sums 0));
+        revenue = ltb-true _ _ (judge-passes _ _ (sums 1));
+        revenue-below = sum-below (fieldValue 3 s) 4 (bytes-of 3) (omega (arith, sizes .figures));
+        distribution = factors-within 4 s (pass 3) (sizes .distribution .0) (sizes .distribution .1);
+        transmission = factors-within 5 s (pass 4) (sizes .transmission .0) (sizes .transmission .1);
+        threshold = leb-true _ _ (judge-passes _ _ (terms 0));
+        fee = leb-true _ _ (judge-passes _ _ (terms 1));
+        minimum = leb-true _ _ (judge-passes _ _ (terms 2));
+        term = leb-true _ _ (judge-passes _ _ (terms 3));
+        term-below = numberAt-below (fieldValue 6 s) 12 2 (bytes-of 6) (omega (arith, sizes .terms));
+        charged = charges 0 (omega (arith, sizes .charged)) .1;
+        share = charges 1 (omega (arith, sizes .charged)) .1;
+        least-zones = stand .least;
+        most-zones = stand .most;
+        numbers = length-eight 0 (map (λ at. numberAt s at 1) (zoneStarts s));
+        rise = zone-numbers-rise s stand (pass 7);
+      }
+
+  pub rates-within : RatesWithin (zoneRates s) (length (zoneStarts s))
+  rates-within = zone-rates-within s (zones-stand s walks) (first-failure-passes (bookJudgements s) passes 7)
+
+module _ (number : ℕ) (file : List ℕ) (accepted : bookOf number file .answer ≡ Stands) where
+  pub book-within-limits : Bytes file → BookWithin (bookOf number file .book)
+  book-within-limits bytes =
+      subst BookWithin (sym (accepted-values number file accepted))
+      (values-within (fieldsPart file) (book-walks number file (accepted-stands number file accepted)) (accepted-passes number file accepted)
+      (Bytes-take (length file - 5) file bytes))
+
+  pub rates-within-limits : RatesWithin (zoneRates (fieldsPart file)) (bookOf number file .book .zones)
+  rates-within-limits =
+      rw (accepted-values number file accepted)
+      (rates-within (fieldsPart file) (book-walks number file (accepted-stands number file accepted)) (accepted-passes number file accepted))

@@ -1,0 +1,26 @@
+// Prints the slips of pairs of files that are refused, and of two whose percentages are none or
+// negative.
+use print_slip::print_slip;
+
+fn unreadable() {
+    print_slip(b"missing.bin", b"job.bin");
+    print_slip(b"rates.bin", b"missing.bin");
+    print_slip(b"long_rates.bin", b"job.bin");
+}
+
+fn refused() {
+    print_slip(b"altered_rates.bin", b"job.bin");
+    print_slip(b"rates.bin", b"altered_job.bin");
+    print_slip(b"rates.bin", b"rates.bin");
+    print_slip(b"rates_term_83.bin", b"job.bin");
+    print_slip(b"rates.bin", b"job_capacity_0.bin");
+    print_slip(b"rates.bin", b"job_zone_2.bin");
+    print_slip(b"rates.bin", b"job_at_150_percent.bin");
+}
+
+fn main() {
+    unreadable();
+    refused();
+    print_slip(b"rates.bin", b"job_of_nothing.bin");
+    print_slip(b"rates_not_charged.bin", b"job_no_revenue.bin");
+}
