@@ -1,6 +1,6 @@
 #!/usr/bin/env python3
 """Writes the sample files that the programs read: document 01's slip as rate book and request, a
-stored ledger with one scheme and two parties, and damaged copies of them.
+stored ledger with one scheme and two parties, and damaged copies of them; document 000's examples.
 
 make.py          writes them into each program's data folder
 make.py --check  says which of them differ from what it would write, and fails if one does
@@ -8,32 +8,12 @@ make.py --check  says which of them differ from what it would write, and fails i
 import sys
 from pathlib import Path
 
+sys.dont_write_bytecode = True
+
+import worked_examples
+from fields import closed, field, number, numbers
+
 ROOT = Path(__file__).resolve().parent.parent
-
-
-def number(width, value):
-    return value.to_bytes(width, "big")
-
-
-def numbers(width, values):
-    return b"".join(number(width, value) for value in values)
-
-
-def check(data):
-    h = 0
-    for byte in data:
-        h = (h * 257 + byte + 1) % 65521
-    return h
-
-
-def field(tag, value):
-    return number(1, tag) + number(2, len(value)) + value
-
-
-def closed(fields):
-    """The fields, with the field FF after them."""
-    data = b"".join(fields) + b"\xff\x00\x02"
-    return data + number(2, check(data))
 
 
 def slip_book(term=84, charged=1):
@@ -137,8 +117,13 @@ def refused_slip_files():
 
 
 def wanted():
-    folders = {"list_fields": listed_files(), "slip": slip_files(), "slip_refusals": refused_slip_files()}
-    return {ROOT / "crates" / program / "data" / name: data for program, files in folders.items() for name, data in files.items()}
+    programs = {
+        "list_fields": listed_files(),
+        "slip": slip_files(),
+        "slip_refusals": refused_slip_files(),
+        "worked_examples": worked_examples.files(),
+    }
+    return {ROOT / "crates" / program / "data" / name: data for program, files in programs.items() for name, data in files.items()}
 
 
 def main():

@@ -193,3 +193,12 @@ printed-limits = (refl, refl, refl, refl, refl)
 pub buffer-limits : (slipWritten (NotPriced (refusal 3 1 87)) (replicate 15 7) ≡ Written 15) × (slipWritten (NotPriced (refusal 3 1 87)) (replicate 14 7) ≡ Refused (refusal 14 0 0)) × (slipBuffer (NotPriced (refusal 3 1 87)) (replicate 16 7) ≡ ascii "REFUSED 3 1 87\n" ++ (7 ∷ []))
 unfolding slipOf decimalFrom
 buffer-limits = (refl, refl, refl)
+
+-- A slip that is written fits the buffer.
+pub written-within : (pricing : Pricing) (out : List ℕ) (size : ℕ) → slipWritten pricing out ≡ Written size → size ≤ length out
+written-within pricing out size e = by (ltb (length out) (length (slipOf pricing))) refl e
+  where
+    by : (short : Bool) → ltb (length out) (length (slipOf pricing)) ≡ short →
+        cond short (Refused (refusal 14 0 0)) (Written (length (slipOf pricing))) ≡ Written size → size ≤ length out
+    by true t p = let z : _≡_ {A = ℕ} 0 1 = cc in absurd (omega arith)
+    by false t p = let same : length (slipOf pricing) ≡ size = cc in omega (arith, ltb-false (length out) (length (slipOf pricing)) t)

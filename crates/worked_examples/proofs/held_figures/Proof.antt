@@ -1,0 +1,50 @@
+use Prim.Native.Nat.{_≤_, _-_}
+use lib.ListN.{length}
+use borrow.Author.Needs.{needs}
+use Rattle.worked_examples.proofs.held_figures.Statement.{statement}
+use Rattle.worked_examples.proofs.held_figures.Tie as tie
+
+abbrev Inv-loop : tie.InvT-loop
+Inv-loop name rows r bounds fitted sum₀ k₀ sum k = k ≤ length rows
+
+abbrev μ-loop : tie.MeasureT-loop
+μ-loop name rows r bounds fitted sum₀ k₀ sum k = length rows - k
+
+loop-holds : tie.Need-loop-holds Inv-loop μ-loop
+loop-holds c = search needs
+
+mul-held-figure : tie.Need-mul-held-figure Inv-loop μ-loop
+mul-held-figure c = search needs
+
+shared-slice-copy-out-held-figure : tie.Need-shared-slice-copy-out-held-figure Inv-loop μ-loop
+shared-slice-copy-out-held-figure c = search needs
+
+held-figure-requires : tie.Need-held-figure-requires Inv-loop μ-loop
+held-figure-requires c κs = search needs
+
+add-k : tie.Need-add-k Inv-loop μ-loop
+add-k c = search needs
+
+loop-less : tie.Need-loop-less Inv-loop μ-loop
+loop-less c = search needs
+
+loop-again : tie.Need-loop-again Inv-loop μ-loop
+loop-again c = search needs
+
+returns : tie.Need-returns Inv-loop μ-loop
+returns c = search needs
+
+pub held-figures-spec : {M : Type 1} → statement M
+held-figures-spec =
+    tie.close
+    (tie.spec
+    Inv-loop
+    μ-loop
+    loop-holds
+    mul-held-figure
+    shared-slice-copy-out-held-figure
+    held-figure-requires
+    add-k
+    loop-less
+    loop-again
+    returns)

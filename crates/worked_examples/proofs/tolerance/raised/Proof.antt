@@ -1,0 +1,25 @@
+use Prim.Native.Nat.{ℕ, _*_, _≤_}
+use native.Mathlib.Nat.{mul-le-mul}
+use Rattle.worked_examples.specs.Tolerance.{limit}
+use native.Mathlib.Omega.{arith}
+use borrow.Author.Needs.{needs}
+use Rattle.worked_examples.proofs.tolerance.raised.Statement.{statement}
+use Rattle.worked_examples.proofs.tolerance.raised.Tie as tie
+
+product : {x factor : ℕ} → (x ≤ limit) × (factor ≤ 100000) → x * factor ≤ limit * 100000
+product h = mul-le-mul (h .0) (h .1)
+
+mul-capped : tie.Need-mul-capped
+mul-capped c = record { fits = omega (arith, product (c .pre)) }
+
+add-capped : tie.Need-add-capped
+add-capped c = record { fits = omega (arith, product (c .pre)) }
+
+capped-requires : tie.Need-capped-requires
+capped-requires c κs = search needs
+
+returns : tie.Need-returns
+returns c = search needs
+
+pub raised-spec : {M : Type 1} → statement M
+raised-spec = tie.close (tie.spec mul-capped add-capped capped-requires returns)

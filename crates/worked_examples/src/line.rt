@@ -1,0 +1,77 @@
+// A line of the program's text.
+use libc::STDOUT_FILENO;
+
+// A figure with its sign: `negative` is 1 or 0.
+pub struct SignedFigure {
+    pub negative: u64,
+    pub size: u64,
+}
+
+pub fn unsigned(n: u64) -> SignedFigure {
+    SignedFigure {
+        negative: 0,
+        size: n,
+    }
+}
+
+pub fn signed(n: i64) -> SignedFigure {
+    if n < 0 {
+        return SignedFigure {
+            negative: 1,
+            size: (-1 - n) as u64 + 1,
+        };
+    }
+    unsigned(n as u64)
+}
+
+pub fn write(text: &[u8]) {
+    io::write_all(STDOUT_FILENO, text);
+}
+
+pub fn write_number(n: u64) {
+    io::print_decimal(STDOUT_FILENO, n);
+}
+
+// A blank and a figure.
+pub fn write_signed(n: SignedFigure) {
+    write(b" ");
+    if n.negative == 1 {
+        write(b"-");
+    }
+    write_number(n.size);
+}
+
+// A blank and a figure's name.
+pub fn write_name(figure: u64) {
+    write(b" ");
+    match figure {
+        crate::printed::IDR => write(b"IDR"),
+        crate::printed::ITR => write(b"ITR"),
+        crate::printed::MC => write(b"MC"),
+        crate::printed::CC2 => write(b"CC2"),
+        crate::printed::CC => write(b"CC"),
+        crate::printed::BORNE => write(b"BORNE"),
+        crate::printed::IC => write(b"IC"),
+        crate::printed::IR => write(b"IR"),
+        crate::printed::NIC => write(b"NIC"),
+        crate::printed::NC => write(b"NC"),
+        crate::printed::RELIANCE => write(b"RELIANCE"),
+        crate::printed::UPFRONT => write(b"UPFRONT"),
+        _ => write(b"NCRATIO"),
+    }
+}
+
+pub fn write_marks(within: bool, half: bool, no_evidence: bool) {
+    if within {
+        write(b" yes");
+    } else {
+        write(b" NO");
+    }
+    if half {
+        write(b" half");
+    }
+    if no_evidence {
+        write(b" no evidence for CC");
+    }
+    write(b"\n");
+}
