@@ -13,10 +13,6 @@ use native.Mathlib.Omega.{arith}
 use borrow.Author.Needs.{needs}
 use Rattle.charge.proofs.bill_of.Statement.{statement}
 use Rattle.charge.proofs.bill_of.Tie as tie
-use Rattle.charge.proofs.bill_of.Reads as reads
-use Rattle.charge.proofs.bill_of.Lts as lts
-use Rattle.capacity.proofs.capacity_cost.Reads as capacity-cost-reads
-use Rattle.reconciliation.proofs.reconcile.Reads as reconcile-reads
 
 abbrev costsWith : Request → ℕ → ℕ → Costs
 costsWith request mc cc2 =

@@ -2,11 +2,6 @@ use native.Mathlib.Omega.{arith}
 use borrow.Author.Needs.{needs}
 use Rattle.charge.proofs.incremental_revenue_of.Statement.{statement}
 use Rattle.charge.proofs.incremental_revenue_of.Tie as tie
-use Rattle.charge.proofs.incremental_revenue_of.Reads as reads
-use Rattle.charge.proofs.incremental_revenue_of.Lts as lts
-use Rattle.revenue.proofs.incremental_revenue.Reads as incremental-revenue-reads
-use Rattle.revenue.proofs.life_of.Reads as life-of-reads
-use Rattle.revenue.proofs.opex_factor.Reads as opex-factor-reads
 
 opex-factor-requires : tie.Need-opex-factor-requires
 opex-factor-requires c κs = search needs

@@ -16,13 +16,6 @@ use native.Mathlib.Omega.{arith}
 use borrow.Author.Needs.{needs}
 use Rattle.charge.proofs.price.Statement.{statement}
 use Rattle.charge.proofs.price.Tie as tie
-use Rattle.charge.proofs.price.Reads as reads
-use Rattle.charge.proofs.price.Lts as lts
-use Rattle.charge.proofs.price_request.Reads as price-request-reads
-use Rattle.rate_book.proofs.book.read_standing_book.Reads as read-standing-book-reads
-use Rattle.rate_book.proofs.rows.book_stands.Reads as book-stands-reads
-use Rattle.rate_book.proofs.zones.zone_rates.Reads as zone-rates-reads
-use Rattle.tagged.proofs.file.fields_part.Reads as fields-part-reads
 
 -- a book that stands: its fields walk
 stands : (c : tie.After-fields-part) → standing bookRows 1 (now (c .before .before .before .before .before .before .args .book)) ≡ Stands

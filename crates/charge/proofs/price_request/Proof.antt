@@ -10,10 +10,6 @@ use native.Mathlib.Omega.{arith}
 use borrow.Author.Needs.{needs}
 use Rattle.charge.proofs.price_request.Statement.{statement}
 use Rattle.charge.proofs.price_request.Tie as tie
-use Rattle.charge.proofs.price_request.Reads as reads
-use Rattle.charge.proofs.price_request.Lts as lts
-use Rattle.charge.proofs.price_values.Reads as price-values-reads
-use Rattle.request.proofs.values.read_request.Reads as read-request-reads
 
 -- what was read of a request that stands is within document 01's limits
 read-within : (c : tie.After-values) → RequestWithin (c .before .before .before .read-request .result .request)

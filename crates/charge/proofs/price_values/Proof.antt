@@ -9,13 +9,6 @@ use native.Mathlib.Omega.{arith}
 use borrow.Author.Needs.{needs}
 use Rattle.charge.proofs.price_values.Statement.{statement}
 use Rattle.charge.proofs.price_values.Tie as tie
-use Rattle.charge.proofs.price_values.Reads as reads
-use Rattle.charge.proofs.price_values.Lts as lts
-use Rattle.capacity.proofs.first_not_allowed.Reads as first-not-allowed-reads
-use Rattle.charge.proofs.bill_of.Reads as bill-of-reads
-use Rattle.charge.proofs.incremental_revenue_of.Reads as incremental-revenue-of-reads
-use Rattle.charge.proofs.not_priced.Reads as not-priced-reads
-use Rattle.charge.proofs.zone_found.Reads as zone-found-reads
 
 -- the row of the zone is one of the book's
 zone-below : (c : tie.After-known-told) → c .before .found .given .0 .0 < c .before .before .before .before .before .args .book .zones

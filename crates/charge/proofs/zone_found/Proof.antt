@@ -12,8 +12,6 @@ use native.Mathlib.Omega.{arith}
 use borrow.Author.Needs.{needs}
 use Rattle.charge.proofs.zone_found.Statement.{statement}
 use Rattle.charge.proofs.zone_found.Tie as tie
-use Rattle.charge.proofs.zone_found.Reads as reads
-use Rattle.charge.proofs.zone_found.Lts as lts
 
 -- the row looked at, and none left
 zone-here : (k zones : ℕ) (numbers : List ℕ) (number : ℕ) → k < zones →

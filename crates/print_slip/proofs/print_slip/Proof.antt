@@ -7,13 +7,6 @@ use native.Mathlib.Omega.{arith}
 use borrow.Author.Needs.{needs}
 use Rattle.print_slip.proofs.print_slip.Statement.{statement}
 use Rattle.print_slip.proofs.print_slip.Tie as tie
-use Rattle.print_slip.proofs.print_slip.Reads as reads
-use Rattle.print_slip.proofs.print_slip.Lts as lts
-use Rattle.charge.proofs.price.Reads as price-reads
-use Rattle.files.proofs.read_file.Reads as read-file-reads
-use Rattle.io.proofs.buffer.Reads as buffer-reads
-use Rattle.io.proofs.write_all.Reads as write-all-reads
-use Rattle.slip_text.proofs.slip_text.Reads as slip-text-reads
 
 buffer-requires : tie.Need-buffer-requires
 buffer-requires c κs = search needs
