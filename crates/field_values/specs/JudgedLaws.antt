@@ -1,6 +1,6 @@
 -- What holds of values that pass.
 use Prim.Native.Nat.{ℕ, zero, suc, _+_, _*_, _<_, _≤_, zero-le}
-use mathlib.Core.Path.{_≡_, refl, ap₂}
+use mathlib.Core.Path.{_≡_, refl, ap₂, _∙_}
 use mathlib.Core.List.{List, [], _∷_}
 use mathlib.Core.Bool.{Bool, true, false, cond, false≢true}
 use native.Mathlib.Numerals.{add-one}
@@ -21,6 +21,15 @@ fails-not-passes e = let z : _≡_ {A = ℕ} 0 1 = cc in omega arith
 pub judge-passes : (listed : Bool) (at : ℕ) → judge listed at ≡ Passes → listed ≡ true
 judge-passes true at e = refl
 judge-passes false at e = absurd (fails-not-passes e)
+
+-- after the last judgement nothing follows
+pub in-order-end : (judged : Judged) → inOrder judged Passes ≡ judged
+in-order-end Passes = refl
+in-order-end (Fails at) = refl
+
+pub in-order-same : {judged first second first′ second′ : Judged} → judged ≡ inOrder first second → first ≡ first′ → second ≡ second′ →
+    judged ≡ inOrder first′ second′
+in-order-same e f g = e ∙ ap₂ inOrder f g
 
 pub in-order-passes : (first second : Judged) → inOrder first second ≡ Passes → (first ≡ Passes) × (second ≡ Passes)
 in-order-passes Passes second e = (refl, e)

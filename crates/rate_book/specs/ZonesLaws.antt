@@ -11,6 +11,7 @@ use borrow.Author.Tests.{lt-ltb, le-ltb}
 use Rattle.tagged.specs.BigEndian.{numberAt}
 use Rattle.tagged.specs.Find.{fieldStart}
 use Rattle.field_values.specs.Judged.{judge, inOrder}
+use Rattle.field_values.specs.JudgedLaws.{in-order-end}
 use Rattle.field_values.specs.declared.judged.Judged.{Judged}
 use Rattle.field_values.specs.declared.judged.Judged.the-variants.{Passes, Fails}
 use Rattle.rate_book.specs.Zones.{zoneStarts, eightOf, zoneNumbers, rateRow, zoneRates, judgeRow, judgeZonesFrom, judgeZones, judgeRise, judgeRows, lower}
@@ -84,10 +85,6 @@ lower-later : {end : ℕ} {a b : Judged} (c : Judged) → FailsAt (λ p. end ≤
 lower-later c x passes = refl
 lower-later c passes (fails k) = refl
 lower-later c (fails {at = p} h) (fails {at = q} k) = rw (lt-ltb q p (omega arith))
-
-pub in-order-end : (a : Judged) → inOrder a Passes ≡ a
-in-order-end Passes = refl
-in-order-end (Fails at) = refl
 
 -- Where the zones stand 24 bytes apart, the lower place of the two scans is the first in byte order.
 pub two-scans : (s : List ℕ) (n least at : ℕ) →

@@ -4,7 +4,7 @@ use lib.ListN.{length}
 use borrow.Author.Needs.{needs}
 use Rattle.tagged.specs.Find.{fieldValue, fieldStart}
 use Rattle.rate_book.specs.BookSizes.{BookSizes, book-sizes}
-use Rattle.rate_book.specs.ZonesLaws.{in-order-end}
+use Rattle.field_values.specs.JudgedLaws.{in-order-end}
 use Rattle.rate_book.proofs.Found.{found-value, found-start}
 use Rattle.rate_book.proofs.book.judge_sums.Statement.{statement}
 use Rattle.rate_book.proofs.book.judge_sums.Tie as tie

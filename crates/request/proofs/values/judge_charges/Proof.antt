@@ -1,7 +1,7 @@
 use mathlib.Core.Path.{refl, sym, _∙_}
 use borrow.Author.Needs.{needs}
 use Rattle.field_values.specs.Judged.{narrow}
-use Rattle.request.proofs.Order.{in-order-same, last-decides}
+use Rattle.field_values.specs.JudgedLaws.{in-order-same, in-order-end}
 use Rattle.request.proofs.values.judge_charges.Statement.{statement}
 use Rattle.request.proofs.values.judge_charges.Tie as tie
 
@@ -25,7 +25,7 @@ in-order-requires c κs = search needs
 returns : tie.Need-returns
 returns c =
     in-order-same (c .in-order .ensures) (c .before .before .before .judge-field .ensures)
-    (c .before .judge-field2 .ensures ∙ sym (last-decides _))
+    (c .before .judge-field2 .ensures ∙ sym (in-order-end _))
 
 pub judge-charges-spec : {M : Type 1} → statement M
 judge-charges-spec =

@@ -1,7 +1,7 @@
 use mathlib.Core.Path.{refl, sym, _∙_}
 use borrow.Author.Needs.{needs}
 use Rattle.field_values.specs.Judged.{narrow}
-use Rattle.request.proofs.Order.{in-order-same, last-decides}
+use Rattle.field_values.specs.JudgedLaws.{in-order-same, in-order-end}
 use Rattle.request.proofs.values.judge_request.Statement.{statement}
 use Rattle.request.proofs.values.judge_request.Tie as tie
 
@@ -101,7 +101,7 @@ returns c =
     (in-order-same (third .in-order3 .ensures) (part-year .judge-factors .ensures)
     (in-order-same (second .in-order2 .ensures) (distribution .judge-factors2 .ensures)
     (in-order-same (first .in-order .ensures) (transmission .judge-factors3 .ensures)
-    (connection .judge-field4 .ensures ∙ sym (last-decides _)))))))))
+    (connection .judge-field4 .ensures ∙ sym (in-order-end _)))))))))
 
 pub judge-request-spec : {M : Type 1} → statement M
 judge-request-spec =
