@@ -1,0 +1,4 @@
+pub mod Looking
+pub mod Rest
+pub mod Tallying
+pub mod Tests

@@ -1,0 +1,113 @@
+-- When pay-out and hand-over answer what, and what they leave as it was.
+use Prim.Native.Nat.{ℕ, _+_, _-_, _≤_, _<_}
+use mathlib.Core.Path.{_≡_, refl}
+use mathlib.Core.List.{List}
+use mathlib.Core.Bool.{Bool, true, false, cond}
+use native.Mathlib.Omega.{arith}
+use lib.ListN.{set}
+use lib.Seq.{getD-set-other}
+use lib.Dec.{leb}
+use borrow.Author.Tests.{leb-true, le-leb, lt-leb}
+use Rattle.tagged.specs.File.{refusal}
+use Rattle.tagged.specs.declared.file.Refusal.{Refusal}
+use Rattle.ledger.specs.Records.{noParty}
+use Rattle.ledger.specs.Sound.{countsSound, sound}
+use Rattle.ledger.specs.Entries.{entryExists, entryAt, paidMore, handedTo, changeOf, payOutChange, handOverChange, withEntry}
+use Rattle.ledger.specs.declared.records.Party.{Party}
+use Rattle.ledger.specs.declared.records.Ledger.{Ledger}
+use Rattle.ledger.specs.declared.entries.Answer.{Answer}
+use Rattle.ledger.specs.declared.entries.Answer.the-variants.{Done, Refused}
+use Rattle.ledger.specs.declared.entries.EntryChange.{EntryChange}
+
+pub both-true : (b c : Bool) → cond b c false ≡ true → (b ≡ true) × (c ≡ true)
+both-true true c h = (refl, h)
+both-true false c h = let z : _≡_ {A = ℕ} 0 1 = cc in absurd (omega arith)
+
+pub not-both : (b c : Bool) → (b ≡ true → c ≡ true → ⊥) → cond b (cond c true false) false ≡ false
+not-both true true h = absurd (h refl refl)
+not-both true false h = refl
+not-both false c h = refl
+
+pub sound-entries : (ledger : Ledger) (parties : List Party) (room : ℕ) → sound ledger parties room ≡ true → ledger .entries ≤ 512
+unfolding sound
+sound-entries ledger parties room h =
+    let counts : countsSound ledger room ≡ true = both-true (countsSound ledger room) _ h .0 in
+    let rest : cond (leb (ledger .entries) 512) (cond (leb (ledger .entries) room) true false) false ≡ true = both-true (leb (ledger .count) 64) _ counts .1 in
+    leb-true _ _ (both-true (leb (ledger .entries) 512) _ rest .0)
+
+-- 1 ≤ entry ≤ entries
+pub record Exists (ledger : Ledger) (entry : ℕ) : Type 0 where
+  pub numbered : 1 ≤ entry
+  pub kept : entry ≤ ledger .entries
+
+pub exists-true : (ledger : Ledger) (entry : ℕ) → Exists ledger entry → entryExists ledger entry ≡ true
+exists-true ledger entry h = rw (le-leb 1 entry (h .numbered), le-leb entry (ledger .entries) (h .kept))
+
+pub true-exists : (ledger : Ledger) (entry : ℕ) → entryExists ledger entry ≡ true → Exists ledger entry
+true-exists ledger entry h =
+    let both : (leb 1 entry ≡ true) × (cond (leb entry (ledger .entries)) true false ≡ true) = both-true (leb 1 entry) _ h in
+    record { numbered = leb-true _ _ (both .0); kept = leb-true _ _ (both-true (leb entry (ledger .entries)) true (both .1) .0) }
+
+pub not-exists : (ledger : Ledger) (entry : ℕ) → (Exists ledger entry → ⊥) → entryExists ledger entry ≡ false
+not-exists ledger entry h =
+    not-both (leb 1 entry) (leb entry (ledger .entries)) (λ a b. h (record { numbered = leb-true _ _ a; kept = leb-true _ _ b }))
+
+-- the answer of a refused call
+abbrev pub refusedWith : ℕ → EntryChange
+refusedWith number = changeOf (Refused (refusal number 0 0)) noParty
+
+module _ (ledger : Ledger) (parties : List Party) (room entry : ℕ) where
+  pub pay-out-refused-13 : (amount : ℕ) → sound ledger parties room ≡ false → payOutChange ledger parties room entry amount ≡ refusedWith 13
+  unfolding payOutChange
+  pay-out-refused-13 amount unsound = rw unsound
+
+  pub hand-over-refused-13 : (person : ℕ) → sound ledger parties room ≡ false → handOverChange ledger parties room entry person ≡ refusedWith 13
+  unfolding handOverChange
+  hand-over-refused-13 person unsound = rw unsound
+
+  module _ (stands : sound ledger parties room ≡ true) where
+    pub pay-out-refused-11 : (amount : ℕ) → (Exists ledger entry → ⊥) → payOutChange ledger parties room entry amount ≡ refusedWith 11
+    unfolding payOutChange
+    pay-out-refused-11 amount missing = rw (stands, not-exists ledger entry missing)
+
+    pub hand-over-refused-11 : (person : ℕ) → (Exists ledger entry → ⊥) → handOverChange ledger parties room entry person ≡ refusedWith 11
+    unfolding handOverChange
+    hand-over-refused-11 person missing = rw (stands, not-exists ledger entry missing)
+
+    module _ (exists : Exists ledger entry) where
+      pub pay-out-refused-12 : (amount : ℕ) → entryAt parties entry .credited < entryAt parties entry .«paid_out» + amount →
+          payOutChange ledger parties room entry amount ≡ refusedWith 12
+      unfolding payOutChange
+      pay-out-refused-12 amount above = rw (stands, exists-true ledger entry exists, lt-leb _ _ above)
+
+      pub pay-out-done : (amount : ℕ) → entryAt parties entry .«paid_out» + amount ≤ entryAt parties entry .credited →
+          payOutChange ledger parties room entry amount ≡ changeOf Done (paidMore (entryAt parties entry) amount)
+      unfolding payOutChange
+      pay-out-done amount within = rw (stands, exists-true ledger entry exists, le-leb _ _ within)
+
+      pub hand-over-done : (person : ℕ) → handOverChange ledger parties room entry person ≡ changeOf Done (handedTo (entryAt parties entry) person)
+      unfolding handOverChange
+      hand-over-done person = rw (stands, exists-true ledger entry exists)
+
+      -- the table after the call
+      pub pay-out-table : (amount : ℕ) → entryAt parties entry .«paid_out» + amount ≤ entryAt parties entry .credited →
+          withEntry parties entry (payOutChange ledger parties room entry amount) ≡ set parties (entry - 1) (paidMore (entryAt parties entry) amount)
+      pay-out-table amount within = rw (pay-out-done amount within)
+
+      pub hand-over-table : (person : ℕ) →
+          withEntry parties entry (handOverChange ledger parties room entry person) ≡ set parties (entry - 1) (handedTo (entryAt parties entry) person)
+      hand-over-table person = rw (hand-over-done person)
+
+-- "A refusal returns number, file .. and place, and changes nothing."
+pub refused-changes-nothing : (parties : List Party) (entry : ℕ) (change : EntryChange) {r : Refusal} → change .answer ≡ Refused r →
+    withEntry parties entry change ≡ parties
+refused-changes-nothing parties entry change h = rw h
+
+-- no other entry changes
+pub other-entries-kept : (parties : List Party) (entry other : ℕ) (change : EntryChange) → 1 ≤ entry → 1 ≤ other → (other ≡ entry → ⊥) →
+    entryAt (withEntry parties entry change) other ≡ entryAt parties other
+other-entries-kept parties entry other change e o differs = kept (change .answer) (change .party)
+  where
+    kept : (answer : Answer) (party : Party) → entryAt (withEntry parties entry (record { answer = answer; party = party })) other ≡ entryAt parties other
+    kept Done party = getD-set-other parties (entry - 1) (other - 1) party noParty (λ same. differs (omega arith))
+    kept (Refused r) party = refl

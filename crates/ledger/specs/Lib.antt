@@ -1,0 +1,11 @@
+pub mod Records
+pub mod Columns
+pub mod Sound
+pub mod Tallied
+pub mod SoundRows
+pub mod Rules
+pub mod RulesLaws
+pub mod Entries
+pub mod EntriesFacts
+pub mod EntriesKeepSound
+pub mod EntriesRows

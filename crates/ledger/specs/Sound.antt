@@ -1,0 +1,104 @@
+-- Document 01: "A ledger is sound if it has at most 64 schemes, 512 entries and 1,000,000 connections; put in is at most 2,000,000,000, credited at most
+-- 2,000,000,000,000, each of the two sums at most 1,100,000,000,000 × connections; capacity is as in 0C, fee, minimum and term as in 06; no opening is
+-- after the last month; places past the last scheme hold zeros; each entry's scheme exists, each scheme has an entry and its first put in its cost; paid
+-- out is at most credited, fees = fee × (entries − 1), and cost + fees = the sum of put in less credited." 13 also where the table is shorter than its entries.
+use Prim.Native.Nat.{ℕ, suc, _+_, _*_, _-_}
+use mathlib.Core.List.{List, [], _∷_}
+use mathlib.Core.Bool.{Bool, true, false, cond}
+use lib.ListN.{take, drop}
+use lib.Dec.{leb, eqb}
+use Rattle.ledger.specs.Columns.{schemeColumn, putInColumn, creditedColumn, sumOver, entriesOf, firstPutIn}
+use Rattle.ledger.specs.declared.records.Scheme.{Scheme}
+use Rattle.ledger.specs.declared.records.Party.{Party}
+use Rattle.ledger.specs.declared.records.Ledger.{Ledger}
+
+-- every condition holds
+abbrev pub allHold : List Bool → Bool
+allHold [] = true
+allHold (condition ∷ others) = cond condition (allHold others) false
+
+-- the counts, before any record is read
+abbrev pub countsSound : Ledger → ℕ → Bool
+countsSound ledger room = allHold (leb (ledger .count) 64 ∷ leb (ledger .entries) 512 ∷ leb (ledger .entries) room ∷ [])
+
+abbrev pub sumsSound : Ledger → Bool
+sumsSound ledger =
+    allHold
+    (leb (ledger .connections) 1000000 ∷
+    leb (ledger .charged) (1100000000000 * ledger .connections) ∷
+    leb (ledger .borne) (1100000000000 * ledger .connections) ∷
+    [])
+
+-- an entry, where there are so many schemes
+abbrev pub partySound : ℕ → Party → Bool
+partySound count party =
+    allHold
+    (leb 1 (party .scheme) ∷
+    leb (party .scheme) count ∷
+    leb 1 (party .capacity) ∷
+    leb (party .capacity) 1000000 ∷
+    leb (party .«put_in») 2000000000 ∷
+    leb (party .credited) 2000000000000 ∷
+    leb (party .«paid_out») (party .credited) ∷
+    [])
+
+unfoldable pub partiesSound : ℕ → List Party → Bool
+partiesSound count [] = true
+partiesSound count (party ∷ parties) = cond (partySound count party) (partiesSound count parties) false
+
+-- a scheme's terms, and its accounts where its entries are so many, the first put in `first`, and all were credited `credited` and put in `putIn`; no
+-- subtraction, since a party's credited can exceed what it put in
+abbrev pub accountsSound : ℕ → Scheme → ℕ → ℕ → ℕ → ℕ → Bool
+accountsSound month scheme entries first credited putIn =
+    allHold
+    (leb (scheme .fee) (scheme .minimum) ∷
+    leb (scheme .minimum) 1000000000 ∷
+    leb 84 (scheme .term) ∷
+    leb (scheme .opening) month ∷
+    leb 1 entries ∷
+    eqb first (scheme .cost) ∷
+    eqb (scheme .fees) (scheme .fee * (entries - 1)) ∷
+    eqb (scheme .cost + scheme .fees + credited) putIn ∷
+    [])
+
+abbrev pub schemeSound : ℕ → List Party → ℕ → Scheme → Bool
+schemeSound month parties s scheme =
+    accountsSound
+    month
+    scheme
+    (entriesOf s parties)
+    (firstPutIn s (schemeColumn parties) (putInColumn parties))
+    (sumOver s (schemeColumn parties) (creditedColumn parties))
+    (sumOver s (schemeColumn parties) (putInColumn parties))
+
+-- the schemes from number s on
+unfoldable pub schemesSound : ℕ → List Party → ℕ → List Scheme → Bool
+schemesSound month parties s [] = true
+schemesSound month parties s (scheme ∷ schemes) = cond (schemeSound month parties s scheme) (schemesSound month parties (suc s) schemes) false
+
+abbrev pub isZero : Scheme → Bool
+isZero scheme =
+    allHold
+    (eqb (scheme .cost) 0 ∷
+    eqb (scheme .fee) 0 ∷
+    eqb (scheme .minimum) 0 ∷
+    eqb (scheme .opening) 0 ∷
+    eqb (scheme .term) 0 ∷
+    eqb (scheme .fees) 0 ∷
+    [])
+
+unfoldable pub allZero : List Scheme → Bool
+allZero [] = true
+allZero (scheme ∷ schemes) = cond (isZero scheme) (allZero schemes) false
+
+-- `parties` are the table's records as far as the snapshot goes, `room` is the table's length
+unfoldable pub sound : Ledger → List Party → ℕ → Bool
+sound ledger parties room =
+    cond (countsSound ledger room)
+    (allHold
+    (sumsSound ledger ∷
+    partiesSound (ledger .count) (take (ledger .entries) parties) ∷
+    schemesSound (ledger .month) (take (ledger .entries) parties) 1 (take (ledger .count) (ledger .schemes)) ∷
+    allZero (drop (ledger .count) (ledger .schemes)) ∷
+    []))
+    false

@@ -1,0 +1,88 @@
+-- Document 01's conditions of a sound ledger, each at its limit and one past it.
+use Prim.Native.Nat.{ℕ}
+use mathlib.Core.Path.{_≡_, refl}
+use mathlib.Core.List.{List, [], _∷_, _++_, map}
+use mathlib.Core.Bool.{Bool, true, false}
+use lib.ListN.{replicate}
+use Rattle.ledger.specs.Records.{noScheme, noParty, newLedger}
+use Rattle.ledger.specs.Columns.{sumOver, firstPutIn}
+use Rattle.ledger.specs.Sound.{partiesSound, schemesSound, allZero, sound}
+use Rattle.ledger.specs.declared.records.Scheme.{Scheme}
+use Rattle.ledger.specs.declared.records.Party.{Party}
+use Rattle.ledger.specs.declared.records.Ledger.{Ledger}
+
+abbrev scheme : ℕ → ℕ → ℕ → ℕ → ℕ → ℕ → Scheme
+scheme cost fee minimum opening term fees = record { cost = cost; fee = fee; minimum = minimum; opening = opening; term = term; fees = fees }
+
+abbrev party : ℕ → ℕ → ℕ → ℕ → ℕ → Party
+party number capacity putIn credited paidOut =
+    record { scheme = number; person = 7; capacity = capacity; «put_in» = putIn; credited = credited; «paid_out» = paidOut }
+
+-- month 12; connections, charged and borne; counts of entries and schemes; the first places, and the others zeros
+abbrev ledger : ℕ → ℕ → ℕ → ℕ → ℕ → List Scheme → Ledger
+ledger connections charged borne entries count schemes =
+    record { month = 12; connections = connections; charged = charged; borne = borne; entries = entries; count = count; schemes = schemes ++ replicate 60 noScheme }
+
+-- one scheme, its first party and a joiner that paid 1,000, of which 100 are fees
+abbrev joined : Scheme
+joined = scheme 3000 100 500 6 84 100
+
+abbrev two : List Party
+two = party 1 20 3000 900 300 ∷ party 1 10 1000 0 0 ∷ []
+
+-- a ledger with one scheme and its first party alone
+abbrev alone : Scheme → Party → Ledger × List Party × ℕ
+alone only first = (ledger 1 0 0 1 1 (only ∷ []), first ∷ [], 1)
+
+abbrev with-two : Scheme → List Party → Ledger × List Party × ℕ
+with-two only parties = (ledger 2 0 0 2 1 (only ∷ []), parties, 2)
+
+abbrev pub soundRows : List ((Ledger × List Party × ℕ) × Bool)
+soundRows =
+    ((newLedger, [], 0), true) ∷
+    (with-two joined two, true) ∷
+    -- the table's length, and the counts before any record is read
+    ((ledger 2 0 0 2 1 (joined ∷ []), two, 1), false) ∷
+    ((ledger 2 0 0 513 1 (joined ∷ []), two, 513), false) ∷
+    ((ledger 2 0 0 2 65 (joined ∷ []), two, 2), false) ∷
+    -- connections, charged and borne
+    ((ledger 1000000 0 0 2 1 (joined ∷ []), two, 2), true) ∷
+    ((ledger 1000001 0 0 2 1 (joined ∷ []), two, 2), false) ∷
+    ((ledger 2 2200000000000 2200000000000 2 1 (joined ∷ []), two, 2), true) ∷
+    ((ledger 2 2200000000001 0 2 1 (joined ∷ []), two, 2), false) ∷
+    ((ledger 2 0 2200000000001 2 1 (joined ∷ []), two, 2), false) ∷
+    -- put in, which is the cost; capacity
+    (alone (scheme 2000000000 0 0 0 84 0) (party 1 1 2000000000 0 0), true) ∷
+    (alone (scheme 2000000001 0 0 0 84 0) (party 1 1 2000000001 0 0), false) ∷
+    (alone (scheme 5 0 0 0 84 0) (party 1 0 5 0 0), false) ∷
+    (alone (scheme 5 0 0 0 84 0) (party 1 1000000 5 0 0), true) ∷
+    (alone (scheme 5 0 0 0 84 0) (party 1 1000001 5 0 0), false) ∷
+    -- fee, minimum, term and opening
+    (alone (scheme 5 500 500 0 84 0) (party 1 1 5 0 0), true) ∷
+    (alone (scheme 5 501 500 0 84 0) (party 1 1 5 0 0), false) ∷
+    (alone (scheme 5 0 1000000000 0 84 0) (party 1 1 5 0 0), true) ∷
+    (alone (scheme 5 0 1000000001 0 84 0) (party 1 1 5 0 0), false) ∷
+    (alone (scheme 5 0 0 0 83 0) (party 1 1 5 0 0), false) ∷
+    (alone (scheme 5 0 0 12 84 0) (party 1 1 5 0 0), true) ∷
+    (alone (scheme 5 0 0 13 84 0) (party 1 1 5 0 0), false) ∷
+    -- an entry of no scheme, a scheme of no entry, a place past the last scheme
+    (alone (scheme 5 0 0 0 84 0) (party 0 1 5 0 0), false) ∷
+    (alone (scheme 5 0 0 0 84 0) (party 2 1 5 0 0), false) ∷
+    ((ledger 1 0 0 1 2 (scheme 5 0 0 0 84 0 ∷ scheme 0 0 0 0 84 0 ∷ []), party 1 1 5 0 0 ∷ [], 1), false) ∷
+    ((ledger 1 0 0 1 1 (scheme 5 0 0 0 84 0 ∷ scheme 0 0 0 0 0 1 ∷ []), party 1 1 5 0 0 ∷ [], 1), false) ∷
+    -- the first entry put in the cost
+    (alone (scheme 4 0 0 0 84 0) (party 1 1 5 0 0), false) ∷
+    -- paid out at most credited
+    (with-two joined (party 1 20 3000 900 900 ∷ party 1 10 1000 0 0 ∷ []), true) ∷
+    (with-two joined (party 1 20 3000 900 901 ∷ party 1 10 1000 0 0 ∷ []), false) ∷
+    -- fees, and the account
+    (with-two (scheme 3000 100 500 6 84 99) two, false) ∷
+    (with-two joined (party 1 20 3000 899 300 ∷ party 1 10 1000 0 0 ∷ []), false) ∷
+    (with-two joined (party 1 20 3000 900 300 ∷ party 1 10 1001 0 0 ∷ []), false) ∷
+    -- credited may exceed put in by cents: cost 5, capacities 7, 3, 1,000,000
+    ((ledger 3 0 0 3 1 (scheme 5 0 0 0 84 0 ∷ []), party 1 7 5 3 0 ∷ party 1 3 1 2 0 ∷ party 1 1000000 4 0 0 ∷ [], 3), true) ∷
+    []
+
+pub sound-rows-hold : map (λ row. sound (row .0 .0) (row .0 .1) (row .0 .2)) soundRows ≡ map (λ row. row .1) soundRows
+unfolding sound partiesSound schemesSound allZero sumOver firstPutIn
+sound-rows-hold = refl
