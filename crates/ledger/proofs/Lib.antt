@@ -1,3 +1,5 @@
+pub mod Booking
+pub mod Deciding
 pub mod Looking
 pub mod Rest
 pub mod Tallying

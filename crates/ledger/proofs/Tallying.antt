@@ -6,10 +6,11 @@ use mathlib.Core.Bool.{Bool, true, false, cond}
 use native.Mathlib.Omega.{arith}
 use native.Mathlib.Numerals.{add-one}
 use lib.Dec.{leb, eqb}
-use lib.ListN.{length, take, drop, getD, length-set, drop-of-length-le, length-replicate, getD-replicate, replicate}
+use lib.ListN.{length, take, drop, getD, length-set, drop-of-length-le, length-replicate, length-map, getD-replicate, replicate}
 use lib.Seq.{getD-set-same, getD-set-other, drop-cons, getD-take, length-take-le, take-suc}
-use borrow.Author.Tests.{leb-true, eqb-true, eqb-false, ne-eqb}
+use borrow.Author.Tests.{leb-true, eqb-true, eqb-false}
 use Rattle.ledger.specs.Columns.{schemeColumn, putInColumn, sumOver, firstPutIn}
+use Rattle.ledger.specs.ColumnsLaws as columns
 use Rattle.ledger.specs.Sound.{allHold, countsSound, partySound, partiesSound}
 use Rattle.ledger.specs.declared.records.Ledger.{Ledger}
 use Rattle.ledger.specs.Tallied.{noTallies, added, firstKept, tallyWith, SumsTo, Tallied, Bounded}
@@ -17,25 +18,18 @@ use Rattle.ledger.specs.declared.sound.Tallies.{Tallies}
 use Rattle.ledger.specs.declared.records.Party.{Party}
 
 module _ (s : ℕ) (f g : Party → ℕ) (party : Party) where
+  one-length : (parties : List Party) → length (map f parties) ≡ length (map g parties)
+  one-length parties = length-map parties f ∙ sym (length-map parties g)
+
   pub sum-more : (parties : List Party)
       → sumOver s (map f parties ++ (f party ∷ [])) (map g parties ++ (g party ∷ [])) ≡ sumOver s (map f parties) (map g parties) + cond (eqb (f party) s) (g party) 0
-  unfolding sumOver
-  sum-more [] = omega arith
-  sum-more (first ∷ parties) = omega (arith, sum-more parties)
-
-  first-case : (own : Bool) (figure rest later now : ℕ)
-      → cond own figure (cond (eqb rest 0) now later) ≡ cond (eqb (cond own 1 0 + rest) 0) now (cond own figure later)
-  first-case true figure rest later now = rw (ne-eqb (1 + rest) 0 (λ e. omega arith))
-  first-case false figure rest later now =
-      let e : 0 + rest ≡ rest = omega arith in
-      rw e
+  sum-more parties = columns.sum-more s (f party) (g party) (map f parties) (map g parties) (one-length parties)
 
   pub first-more : (parties : List Party)
       → firstPutIn s (map f parties ++ (f party ∷ [])) (map g parties ++ (g party ∷ []))
       ≡ cond (eqb (sumOver s (map f parties) (map (λ _. 1) parties)) 0) (cond (eqb (f party) s) (g party) 0) (firstPutIn s (map f parties) (map g parties))
-  unfolding sumOver firstPutIn
-  first-more [] = refl
-  first-more (first ∷ parties) = rw (first-more parties) (first-case (eqb (f first) s) (g first) (sumOver s (map f parties) (map (λ _. 1) parties)) (firstPutIn s (map f parties) (map g parties)) (cond (eqb (f party) s) (g party) 0))
+  first-more parties =
+      rw columns.ones-again at (columns.first-more s (f party) (g party) (map f parties) (map g parties) (one-length parties))
 
   none-case : (own : Bool) (figure rest later : ℕ) → cond own 1 0 + rest ≡ 0 → (rest ≡ 0 → later ≡ 0) → cond own figure later ≡ 0
   none-case true figure rest later e z = omega arith
@@ -64,10 +58,6 @@ pub record Sized (tallies : Tallies) : Type 0 where
   pub put : length (tallies .«put_in») ≡ 64
   pub credits : length (tallies .credited) ≡ 64
   pub firsts : length (tallies .first) ≡ 64
-
-cond-le : (own : Bool) (figure : ℕ) → cond own figure 0 ≤ figure
-cond-le true figure = omega arith
-cond-le false figure = omega arith
 
 kept-case : (entries first : List ℕ) (s k figure : ℕ) (own : Bool) → eqb s (suc k) ≡ own → 1 ≤ s → k < length first → (getD entries k 0 ≡ 0 → getD first k 0 ≡ 0)
     → getD (firstKept entries first (s - 1) figure) k 0 ≡ cond (eqb (getD entries k 0) 0) (cond own figure 0) (getD first k 0)
@@ -128,7 +118,7 @@ module _ (tallies : Tallies) (party : Party) (numbered : 1 ≤ party .scheme) (s
       → (k : ℕ) → k < 64 → getD (added column (party .scheme - 1) figure) k 0 ≤ bound * (n + 1)
   most-more column figure bound n l f t k h =
       let w : k < length column = omega arith in
-      omega (arith, added-at column (party .scheme) k figure numbered w, cond-le (eqb (party .scheme) (suc k)) figure, t k h)
+      omega (arith, added-at column (party .scheme) k figure numbered w, columns.own-at-most (eqb (party .scheme) (suc k)) figure, t k h)
 
   pub bounded-more : (n : ℕ) → party .«put_in» ≤ 2000000000 → party .credited ≤ 2000000000000 → Bounded n tallies → Bounded (n + 1) (tallyWith tallies party)
   bounded-more n p q b =

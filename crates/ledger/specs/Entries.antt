@@ -3,7 +3,7 @@
 use Prim.Native.Nat.{ℕ, _+_, _-_}
 use mathlib.Core.List.{List, [], _∷_}
 use mathlib.Core.Bool.{Bool, cond}
-use lib.ListN.{getD, set}
+use lib.ListN.{length, getD, set}
 use lib.Dec.{leb}
 use Rattle.tagged.specs.File.{refusal}
 use Rattle.ledger.specs.Records.{noParty}
@@ -81,3 +81,18 @@ withEntry parties entry change = changed (change .answer) (change .party)
     changed : Answer → Party → List Party
     changed Done party = set parties (entry - 1) party
     changed (Refused r) party = parties
+
+-- ---- the calls as a whole: what each answers, and the table after it; the ledger stays as it is
+
+pub record AfterEntryCall : Type 0 where
+  pub answer : Answer
+  pub table : List Party
+
+abbrev pub changedBy : List Party → ℕ → EntryChange → AfterEntryCall
+changedBy table entry change = record { answer = change .answer; table = withEntry table entry change }
+
+abbrev pub payOutOf : Ledger → List Party → ℕ → ℕ → AfterEntryCall
+payOutOf ledger table entry amount = changedBy table entry (payOutChange ledger table (length table) entry amount)
+
+abbrev pub handOverOf : Ledger → List Party → ℕ → ℕ → AfterEntryCall
+handOverOf ledger table entry person = changedBy table entry (handOverChange ledger table (length table) entry person)

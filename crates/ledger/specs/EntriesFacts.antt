@@ -2,38 +2,23 @@
 use Prim.Native.Nat.{ℕ, _+_, _-_, _≤_, _<_}
 use mathlib.Core.Path.{_≡_, refl}
 use mathlib.Core.List.{List}
-use mathlib.Core.Bool.{Bool, true, false, cond}
+use mathlib.Core.Bool.{true, false, cond}
 use native.Mathlib.Omega.{arith}
-use lib.ListN.{set}
+use lib.ListN.{length, set}
 use lib.Seq.{getD-set-other}
 use lib.Dec.{leb}
 use borrow.Author.Tests.{leb-true, le-leb, lt-leb}
 use Rattle.tagged.specs.File.{refusal}
 use Rattle.tagged.specs.declared.file.Refusal.{Refusal}
 use Rattle.ledger.specs.Records.{noParty}
-use Rattle.ledger.specs.Sound.{countsSound, sound}
-use Rattle.ledger.specs.Entries.{entryExists, entryAt, paidMore, handedTo, changeOf, payOutChange, handOverChange, withEntry}
+use Rattle.ledger.specs.Sound.{sound}
+use Rattle.ledger.specs.SoundFacts.{both-true, not-both}
+use Rattle.ledger.specs.Entries.{entryExists, entryAt, paidMore, handedTo, changeOf, payOutChange, handOverChange, withEntry, payOutOf, handOverOf}
 use Rattle.ledger.specs.declared.records.Party.{Party}
 use Rattle.ledger.specs.declared.records.Ledger.{Ledger}
 use Rattle.ledger.specs.declared.entries.Answer.{Answer}
 use Rattle.ledger.specs.declared.entries.Answer.the-variants.{Done, Refused}
 use Rattle.ledger.specs.declared.entries.EntryChange.{EntryChange}
-
-pub both-true : (b c : Bool) → cond b c false ≡ true → (b ≡ true) × (c ≡ true)
-both-true true c h = (refl, h)
-both-true false c h = let z : _≡_ {A = ℕ} 0 1 = cc in absurd (omega arith)
-
-pub not-both : (b c : Bool) → (b ≡ true → c ≡ true → ⊥) → cond b (cond c true false) false ≡ false
-not-both true true h = absurd (h refl refl)
-not-both true false h = refl
-not-both false c h = refl
-
-pub sound-entries : (ledger : Ledger) (parties : List Party) (room : ℕ) → sound ledger parties room ≡ true → ledger .entries ≤ 512
-unfolding sound
-sound-entries ledger parties room h =
-    let counts : countsSound ledger room ≡ true = both-true (countsSound ledger room) _ h .0 in
-    let rest : cond (leb (ledger .entries) 512) (cond (leb (ledger .entries) room) true false) false ≡ true = both-true (leb (ledger .count) 64) _ counts .1 in
-    leb-true _ _ (both-true (leb (ledger .entries) 512) _ rest .0)
 
 -- 1 ≤ entry ≤ entries
 pub record Exists (ledger : Ledger) (entry : ℕ) : Type 0 where
@@ -102,6 +87,15 @@ module _ (ledger : Ledger) (parties : List Party) (room entry : ℕ) where
 pub refused-changes-nothing : (parties : List Party) (entry : ℕ) (change : EntryChange) {r : Refusal} → change .answer ≡ Refused r →
     withEntry parties entry change ≡ parties
 refused-changes-nothing parties entry change h = rw h
+
+module _ (ledger : Ledger) (table : List Party) (entry : ℕ) where
+  pub pay-out-refused-changes-nothing : (amount : ℕ) {r : Refusal} → payOutOf ledger table entry amount .answer ≡ Refused r →
+      payOutOf ledger table entry amount .table ≡ table
+  pay-out-refused-changes-nothing amount = refused-changes-nothing table entry (payOutChange ledger table (length table) entry amount)
+
+  pub hand-over-refused-changes-nothing : (person : ℕ) {r : Refusal} → handOverOf ledger table entry person .answer ≡ Refused r →
+      handOverOf ledger table entry person .table ≡ table
+  hand-over-refused-changes-nothing person = refused-changes-nothing table entry (handOverChange ledger table (length table) entry person)
 
 -- no other entry changes
 pub other-entries-kept : (parties : List Party) (entry other : ℕ) (change : EntryChange) → 1 ≤ entry → 1 ≤ other → (other ≡ entry → ⊥) →

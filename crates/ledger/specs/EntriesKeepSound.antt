@@ -12,7 +12,8 @@ use Rattle.ledger.specs.Records.{noParty}
 use Rattle.ledger.specs.Columns.{schemeColumn, putInColumn, creditedColumn, onesColumn}
 use Rattle.ledger.specs.Sound.{allHold, countsSound, sumsSound, partySound, partiesSound, schemesSound, sound}
 use Rattle.ledger.specs.Entries.{entryExists, entryAt, paidMore, handedTo, changeOf, payOutChange, handOverChange, withEntry}
-use Rattle.ledger.specs.EntriesFacts.{Exists, both-true, true-exists}
+use Rattle.ledger.specs.SoundFacts.{both-true}
+use Rattle.ledger.specs.EntriesFacts.{Exists, true-exists}
 use Rattle.ledger.specs.declared.records.Scheme.{Scheme}
 use Rattle.ledger.specs.declared.records.Party.{Party}
 use Rattle.ledger.specs.declared.records.Ledger.{Ledger}

@@ -7,8 +7,9 @@ use native.Mathlib.Nat.{div-mul-le-self, lt-div-mul-add, div-le-of-le-mul, div-l
 use native.Mathlib.Omega.{arith}
 use lib.Dec.{eqb}
 use lib.ListN.{length, getD}
-use borrow.Author.Tests.{eq-eqb, ne-eqb, eqb-true}
+use borrow.Author.Tests.{eq-eqb, ne-eqb}
 use Rattle.ledger.specs.Columns.{sumOver}
+use Rattle.ledger.specs.ColumnsLaws.{sum-none}
 use Rattle.ledger.specs.Rules.{weights, capacityOf, contribution, shares, credits}
 
 abbrev pub sumOf : List ℕ → ℕ
@@ -58,7 +59,7 @@ length-shares amount total before (weight ∷ others) = ap suc (length-shares am
 
 -- one share: what the quotient grows by, under a cent above and below amount × weight / total
 module _ (amount total before weight : ℕ) (positive : 0 < total) where
-  rises : amount * before / total ≤ amount * (before + weight) / total
+  pub rises : amount * before / total ≤ amount * (before + weight) / total
   rises = le-div-iff-mul-le positive .1 (omega (arith, div-mul-le-self (amount * before) total))
 
   growth : amount * before / total + (amount * (before + weight) / total - amount * before / total) ≡ amount * (before + weight) / total
@@ -157,17 +158,6 @@ credit-other s amount schemes capacities e other =
     share-none amount (capacityOf s schemes capacities) 0 (weights s schemes capacities) e (weight-other s schemes capacities e other)
 
 -- so over any other scheme the credits sum to 0
-sum-none : (s : ℕ) (schemes figures : List ℕ) → ((e : ℕ) → e < length schemes → getD schemes e 0 ≡ s → getD figures e 0 ≡ 0) → sumOver s schemes figures ≡ 0
-unfolding sumOver
-sum-none s [] figures none = refl
-sum-none s (scheme ∷ schemes) [] none = refl
-sum-none s (scheme ∷ schemes) (figure ∷ figures) none =
-    ap₂ _+_ (first (eqb scheme s) refl) (sum-none s schemes figures (λ e h. none (suc e) (omega arith)))
-  where
-    first : (t : Bool) → eqb scheme s ≡ t → cond t figure 0 ≡ 0
-    first true own = none 0 (omega arith) (eqb-true scheme s own)
-    first false own = refl
-
 pub credits-sum-other : (s other amount : ℕ) (schemes capacities : List ℕ) → (s ≡ other → ⊥)
     → sumOver other schemes (credits s amount schemes capacities) ≡ 0
 credits-sum-other s other amount schemes capacities differs =

@@ -18,19 +18,6 @@ pub struct EntryChange {
     pub party: Party,
 }
 
-fn no_party() -> Party
-    ensures { λ r. ⌜ r ≡ noParty ⌝ }
-{
-    Party {
-        scheme: 0,
-        person: 0,
-        capacity: 0,
-        put_in: 0,
-        credited: 0,
-        paid_out: 0,
-    }
-}
-
 fn refused(number: u8) -> EntryChange
     ensures { λ r. ⌜ r ≡ changeOf (Answer.Refused (refusal number 0 0)) noParty ⌝ }
 {
@@ -40,7 +27,7 @@ fn refused(number: u8) -> EntryChange
             file: 0,
             place: 0,
         }),
-        party: no_party(),
+        party: crate::records::no_party(),
     }
 }
 

@@ -1,7 +1,7 @@
 // What a ledger and its table hold, in the stored form's widths: every value of these types can be
 // handed over, sound or not.
 ghost use mathlib.Core.Path.{_≡_};
-ghost use Rattle.ledger.specs.Records.{newLedger};
+ghost use Rattle.ledger.specs.Records.{noParty, newLedger};
 
 pub struct Scheme {
     pub cost: u32,
@@ -34,6 +34,19 @@ pub struct Ledger {
     pub entries: u32,
     pub count: u32,
     pub schemes: [Scheme; 64],
+}
+
+pub fn no_party() -> Party
+    ensures { λ r. ⌜ r ≡ noParty ⌝ }
+{
+    Party {
+        scheme: 0,
+        person: 0,
+        capacity: 0,
+        put_in: 0,
+        credited: 0,
+        paid_out: 0,
+    }
 }
 
 pub fn new_ledger() -> Ledger

@@ -3,7 +3,8 @@ use native.Mathlib.Omega.{arith}
 use borrow.Author.Tests.{not-true, not-false}
 use borrow.Author.Needs.{needs}
 use Rattle.ledger.specs.Entries.{lookedUp}
-use Rattle.ledger.specs.EntriesFacts.{Exists, sound-entries, true-exists}
+use Rattle.ledger.specs.SoundFacts.{sound-means}
+use Rattle.ledger.specs.EntriesFacts.{Exists, true-exists}
 use Rattle.ledger.proofs.entries.find_entry.Statement.{statement}
 use Rattle.ledger.proofs.entries.find_entry.Tie as tie
 
@@ -33,7 +34,7 @@ mul-t11 c = search needs
 
 array-copy-out-t14 : tie.Need-array-copy-out-t14
 array-copy-out-t14 c =
-    omega (arith, exists c .kept, sound-entries _ _ _ (sym (c .before .before .before .sound .ensures) ∙ not-false (c .before .before .before .sound .result) (c .before .before .if1 .left)))
+    omega (arith, exists c .kept, sound-means _ _ _ (sym (c .before .before .before .sound .ensures) ∙ not-false (c .before .before .before .sound .result) (c .before .before .if1 .left)) .entries)
 
 returns-3 : tie.Need-returns-3
 unfolding lookedUp

@@ -1,0 +1,353 @@
+-- What a sound ledger has, condition by condition, and back.
+use Prim.Native.Nat.{ℕ, zero, suc, _+_, _*_, _-_, _<_, _≤_, min}
+use mathlib.Core.Path.{_≡_, refl, sym, subst, _∙_}
+use mathlib.Core.List.{List, [], _∷_, map}
+use mathlib.Core.Bool.{Bool, true, false, cond}
+use native.Mathlib.Nat.{not-suc-le-zero, mul-le-mul, mul-le-mul-left}
+use native.Mathlib.Omega.{arith}
+use lib.ListN.{length, take, drop, getD, length-take, length-map}
+use lib.Dec.{leb, eqb}
+use lib.Seq.{getD-take, getD-drop}
+use borrow.Author.Tests.{leb-true, eqb-true, le-leb, eq-eqb}
+use Rattle.ledger.specs.Records.{noScheme, noParty}
+use Rattle.ledger.specs.Columns.{schemeColumn, capacityColumn, putInColumn, creditedColumn, onesColumn, sumOver, entriesOf, firstPutIn}
+use Rattle.ledger.specs.ColumnsLaws.{column-at, sum-le, sum-at-most, first-at-most}
+use Rattle.ledger.specs.Sound.{allHold, countsSound, sumsSound, partySound, partiesSound, schemeSound, schemesSound, isZero, allZero, sound}
+use Rattle.ledger.specs.Rules.{capacityOf}
+use Rattle.ledger.specs.declared.records.Scheme.{Scheme}
+use Rattle.ledger.specs.declared.records.Party.{Party}
+use Rattle.ledger.specs.declared.records.Ledger.{Ledger}
+
+pub both-true : (b c : Bool) → cond b c false ≡ true → (b ≡ true) × (c ≡ true)
+both-true true c h = (refl, h)
+both-true false c h = let z : _≡_ {A = ℕ} 0 1 = cc in absurd (omega arith)
+
+pub not-both : (b c : Bool) → (b ≡ true → c ≡ true → ⊥) → cond b (cond c true false) false ≡ false
+not-both true true h = absurd (h refl refl)
+not-both true false h = refl
+not-both false c h = refl
+
+pub record SoundParty (count : ℕ) (party : Party) : Type 0 where
+  pub numbered : 1 ≤ party .scheme
+  pub opened : party .scheme ≤ count
+  pub some-capacity : 1 ≤ party .capacity
+  pub capacity : party .capacity ≤ 1000000
+  pub put-in : party .«put_in» ≤ 2000000000
+  pub credited : party .credited ≤ 2000000000000
+  pub paid-out : party .«paid_out» ≤ party .credited
+
+-- scheme s, by the entries that the table has
+pub record SoundScheme (month : ℕ) (parties : List Party) (s : ℕ) (scheme : Scheme) : Type 0 where
+  pub fee : scheme .fee ≤ scheme .minimum
+  pub minimum : scheme .minimum ≤ 1000000000
+  pub term : 84 ≤ scheme .term
+  pub opening : scheme .opening ≤ month
+  pub some-entry : 1 ≤ entriesOf s parties
+  pub first : firstPutIn s (schemeColumn parties) (putInColumn parties) ≡ scheme .cost
+  pub fees : scheme .fees ≡ scheme .fee * (entriesOf s parties - 1)
+  pub account : scheme .cost + scheme .fees + sumOver s (schemeColumn parties) (creditedColumn parties) ≡ sumOver s (schemeColumn parties) (putInColumn parties)
+
+pub record SoundLedger (ledger : Ledger) (parties : List Party) (room : ℕ) : Type 0 where
+  pub schemes : ledger .count ≤ 64
+  pub entries : ledger .entries ≤ 512
+  pub in-table : ledger .entries ≤ room
+  pub connections : ledger .connections ≤ 1000000
+  pub charged : ledger .charged ≤ 1100000000000 * ledger .connections
+  pub borne : ledger .borne ≤ 1100000000000 * ledger .connections
+  pub each-party : (i : ℕ) → i < length (take (ledger .entries) parties) → SoundParty (ledger .count) (getD (take (ledger .entries) parties) i noParty)
+  pub each-scheme : (s : ℕ) → 1 ≤ s → s ≤ ledger .count → s ≤ length (ledger .schemes) →
+      SoundScheme (ledger .month) (take (ledger .entries) parties) s (getD (ledger .schemes) (s - 1) noScheme)
+  pub rest-zero : (i : ℕ) → ledger .count ≤ i → getD (ledger .schemes) i noScheme ≡ noScheme
+
+-- ---- tests that all hold
+
+-- past the last there is none that fails
+held : (conditions : List Bool) → allHold conditions ≡ true → (i : ℕ) → getD conditions i true ≡ true
+held [] all i = refl
+held (condition ∷ others) all zero = both-true condition (allHold others) all .0
+held (condition ∷ others) all (suc i) = held others (both-true condition (allHold others) all .1) i
+
+pub party-means : (count : ℕ) (party : Party) → partySound count party ≡ true → SoundParty count party
+party-means count party h =
+    let each =
+    held
+    (leb 1 (party .scheme) ∷
+    leb (party .scheme) count ∷
+    leb 1 (party .capacity) ∷
+    leb (party .capacity) 1000000 ∷
+    leb (party .«put_in») 2000000000 ∷
+    leb (party .credited) 2000000000000 ∷
+    leb (party .«paid_out») (party .credited) ∷
+    [])
+    h in
+    record {
+      numbered = leb-true _ _ (each 0);
+      opened = leb-true _ _ (each 1);
+      some-capacity = leb-true _ _ (each 2);
+      capacity = leb-true _ _ (each 3);
+      put-in = leb-true _ _ (each 4);
+      credited = leb-true _ _ (each 5);
+      paid-out = leb-true _ _ (each 6);
+    }
+
+pub means-party : (count : ℕ) (party : Party) → SoundParty count party → partySound count party ≡ true
+means-party count party h =
+    rw (
+      le-leb _ _ (h .numbered),
+      le-leb _ _ (h .opened),
+      le-leb _ _ (h .some-capacity),
+      le-leb _ _ (h .capacity),
+      le-leb _ _ (h .put-in),
+      le-leb _ _ (h .credited),
+      le-leb _ _ (h .paid-out),
+    )
+
+scheme-means : (month : ℕ) (parties : List Party) (s : ℕ) (scheme : Scheme) → schemeSound month parties s scheme ≡ true → SoundScheme month parties s scheme
+scheme-means month parties s scheme h =
+    let entries = entriesOf s parties in
+    let first = firstPutIn s (schemeColumn parties) (putInColumn parties) in
+    let credited = sumOver s (schemeColumn parties) (creditedColumn parties) in
+    let putIn = sumOver s (schemeColumn parties) (putInColumn parties) in
+    let each =
+    held
+    (leb (scheme .fee) (scheme .minimum) ∷
+    leb (scheme .minimum) 1000000000 ∷
+    leb 84 (scheme .term) ∷
+    leb (scheme .opening) month ∷
+    leb 1 entries ∷
+    eqb first (scheme .cost) ∷
+    eqb (scheme .fees) (scheme .fee * (entries - 1)) ∷
+    eqb (scheme .cost + scheme .fees + credited) putIn ∷
+    [])
+    h in
+    record {
+      fee = leb-true _ _ (each 0);
+      minimum = leb-true _ _ (each 1);
+      term = leb-true _ _ (each 2);
+      opening = leb-true _ _ (each 3);
+      some-entry = leb-true _ _ (each 4);
+      first = eqb-true _ _ (each 5);
+      fees = eqb-true _ _ (each 6);
+      account = eqb-true _ _ (each 7);
+    }
+
+means-scheme : (month : ℕ) (parties : List Party) (s : ℕ) (scheme : Scheme) → SoundScheme month parties s scheme → schemeSound month parties s scheme ≡ true
+means-scheme month parties s scheme h =
+    rw (
+      le-leb _ _ (h .fee),
+      le-leb _ _ (h .minimum),
+      le-leb _ _ (h .term),
+      le-leb _ _ (h .opening),
+      le-leb _ _ (h .some-entry),
+      eq-eqb _ _ (h .first),
+      eq-eqb _ _ (h .fees),
+      eq-eqb _ _ (h .account),
+    )
+
+zero-means : (scheme : Scheme) → isZero scheme ≡ true → scheme ≡ noScheme
+zero-means scheme h =
+    let each =
+    held
+    (eqb (scheme .cost) 0 ∷
+    eqb (scheme .fee) 0 ∷
+    eqb (scheme .minimum) 0 ∷
+    eqb (scheme .opening) 0 ∷
+    eqb (scheme .term) 0 ∷
+    eqb (scheme .fees) 0 ∷
+    [])
+    h in
+    assembled (eqb-true _ _ (each 0)) (eqb-true _ _ (each 1)) (eqb-true _ _ (each 2)) (eqb-true _ _ (each 3)) (eqb-true _ _ (each 4))
+    (eqb-true _ _ (each 5))
+  where
+    assembled : {cost fee minimum opening term fees : ℕ} → cost ≡ 0 → fee ≡ 0 → minimum ≡ 0 → opening ≡ 0 → term ≡ 0 → fees ≡ 0 →
+        _≡_ {A = Scheme} (record { cost = cost; fee = fee; minimum = minimum; opening = opening; term = term; fees = fees }) noScheme
+    assembled a b c d e f = rw (a, b, c, d, e, f)
+
+-- ---- each of a list's records
+
+parties-mean : (count : ℕ) (parties : List Party) → partiesSound count parties ≡ true →
+    (i : ℕ) → i < length parties → SoundParty count (getD parties i noParty)
+unfolding partiesSound
+parties-mean count [] h i below = absurd (not-suc-le-zero below)
+parties-mean count (party ∷ parties) h zero below = party-means count party (both-true (partySound count party) (partiesSound count parties) h .0)
+parties-mean count (party ∷ parties) h (suc i) below =
+    parties-mean count parties (both-true (partySound count party) (partiesSound count parties) h .1) i (omega arith)
+
+mean-parties : (count : ℕ) (parties : List Party) → ((i : ℕ) → i < length parties → SoundParty count (getD parties i noParty)) →
+    partiesSound count parties ≡ true
+unfolding partiesSound
+mean-parties count [] h = refl
+mean-parties count (party ∷ parties) h =
+    rw (means-party count party (h 0 (omega arith)), mean-parties count parties (λ i below. h (suc i) (omega arith)))
+
+module _ (month : ℕ) (parties : List Party) where
+  schemes-mean : (s : ℕ) (schemes : List Scheme) → schemesSound month parties s schemes ≡ true →
+      (i : ℕ) → i < length schemes → SoundScheme month parties (s + i) (getD schemes i noScheme)
+  unfolding schemesSound
+  schemes-mean s [] h i below = absurd (not-suc-le-zero below)
+  schemes-mean s (scheme ∷ schemes) h zero below =
+      let number : s + 0 ≡ s = omega arith in
+      rw number (scheme-means month parties s scheme (both-true (schemeSound month parties s scheme) (schemesSound month parties (suc s) schemes) h .0))
+  schemes-mean s (scheme ∷ schemes) h (suc i) below =
+      let number : s + suc i ≡ suc s + i = omega arith in
+      rw number
+      (schemes-mean (suc s) schemes (both-true (schemeSound month parties s scheme) (schemesSound month parties (suc s) schemes) h .1) i (omega arith))
+
+  mean-schemes : (s : ℕ) (schemes : List Scheme) → ((i : ℕ) → i < length schemes → SoundScheme month parties (s + i) (getD schemes i noScheme)) →
+      schemesSound month parties s schemes ≡ true
+  unfolding schemesSound
+  mean-schemes s [] h = refl
+  mean-schemes s (scheme ∷ schemes) h =
+      let first : s + 0 ≡ s = omega arith in
+      rw (
+        means-scheme month parties s scheme (subst (λ number. SoundScheme month parties number scheme) first (h 0 (omega arith))),
+        mean-schemes
+            (suc s)
+            schemes
+            (λ i below. subst (λ number. SoundScheme month parties number (getD schemes i noScheme)) (omega arith) (h (suc i) (omega arith))),
+      )
+
+zeros-mean : (schemes : List Scheme) → allZero schemes ≡ true → (i : ℕ) → getD schemes i noScheme ≡ noScheme
+unfolding allZero
+zeros-mean [] h i = refl
+zeros-mean (scheme ∷ schemes) h zero = zero-means scheme (both-true (isZero scheme) (allZero schemes) h .0)
+zeros-mean (scheme ∷ schemes) h (suc i) = zeros-mean schemes (both-true (isZero scheme) (allZero schemes) h .1) i
+
+mean-zeros : (schemes : List Scheme) → ((i : ℕ) → getD schemes i noScheme ≡ noScheme) → allZero schemes ≡ true
+unfolding allZero
+mean-zeros [] h = refl
+mean-zeros (scheme ∷ schemes) h = rw (h 0, mean-zeros schemes (λ i. h (suc i)))
+
+-- ---- the whole ledger
+
+module _ (ledger : Ledger) (parties : List Party) (room : ℕ) where
+  pub sound-means : sound ledger parties room ≡ true → SoundLedger ledger parties room
+  unfolding sound
+  sound-means h =
+      let kept : List Party = take (ledger .entries) parties in
+      let schemes : List Scheme = take (ledger .count) (ledger .schemes) in
+      let both = both-true (countsSound ledger room) _ h in
+      let counts = held (leb (ledger .count) 64 ∷ leb (ledger .entries) 512 ∷ leb (ledger .entries) room ∷ []) (both .0) in
+      let each =
+      held
+      (sumsSound ledger ∷
+      partiesSound (ledger .count) kept ∷
+      schemesSound (ledger .month) kept 1 schemes ∷
+      allZero (drop (ledger .count) (ledger .schemes)) ∷
+      [])
+      (both .1) in
+      let sums =
+      held
+      (leb (ledger .connections) 1000000 ∷
+      leb (ledger .charged) (1100000000000 * ledger .connections) ∷
+      leb (ledger .borne) (1100000000000 * ledger .connections) ∷
+      [])
+      (each 0) in
+      record {
+        schemes = leb-true _ _ (counts 0);
+        entries = leb-true _ _ (counts 1);
+        in-table = leb-true _ _ (counts 2);
+        connections = leb-true _ _ (sums 0);
+        charged = leb-true _ _ (sums 1);
+        borne = leb-true _ _ (sums 2);
+        each-party = parties-mean (ledger .count) kept (each 1);
+        each-scheme =
+            λ s numbered opened within.
+            let below : s - 1 < length schemes = omega (arith, length-take (ledger .count) (ledger .schemes)) in
+            let number : 1 + (s - 1) ≡ s = omega arith in
+            let before : s - 1 < ledger .count = omega arith in
+            let told : SoundScheme (ledger .month) kept (1 + (s - 1)) (getD schemes (s - 1) noScheme) =
+            schemes-mean (ledger .month) kept 1 schemes (each 2) (s - 1) below in
+            rw (number, getD-take (ledger .count) (ledger .schemes) (s - 1) noScheme) at told;
+        rest-zero =
+            λ i past.
+            let place : ledger .count + (i - ledger .count) ≡ i = omega arith in
+            let told : getD (drop (ledger .count) (ledger .schemes)) (i - ledger .count) noScheme ≡ noScheme =
+            zeros-mean (drop (ledger .count) (ledger .schemes)) (each 3) (i - ledger .count) in
+            rw (getD-drop, place) at told;
+      }
+
+  pub means-sound : SoundLedger ledger parties room → sound ledger parties room ≡ true
+  unfolding sound
+  means-sound h =
+      let kept : List Party = take (ledger .entries) parties in
+      let schemes : List Scheme = take (ledger .count) (ledger .schemes) in
+      let kept-sound : partiesSound (ledger .count) kept ≡ true = mean-parties (ledger .count) kept (h .each-party) in
+      let schemes-sound : schemesSound (ledger .month) kept 1 schemes ≡ true =
+      mean-schemes (ledger .month) kept 1 schemes
+      (λ i below.
+      let within : i < min (ledger .count) (length (ledger .schemes)) = omega (arith, length-take (ledger .count) (ledger .schemes)) in
+      let told = h .each-scheme (1 + i) (omega arith) (omega arith) (omega arith) in
+      let place : 1 + i - 1 ≡ i = omega arith in
+      rw (getD-take (ledger .count) (ledger .schemes) i noScheme (omega arith)) (rw place at told)) in
+      let zeros : allZero (drop (ledger .count) (ledger .schemes)) ≡ true =
+      mean-zeros (drop (ledger .count) (ledger .schemes)) (λ i. rw getD-drop (h .rest-zero (ledger .count + i) (omega arith))) in
+      rw (
+        le-leb _ _ (h .schemes),
+        le-leb _ _ (h .entries),
+        le-leb _ _ (h .in-table),
+        le-leb _ _ (h .connections),
+        le-leb _ _ (h .charged),
+        le-leb _ _ (h .borne),
+        kept-sound,
+        schemes-sound,
+        zeros,
+      )
+
+  module _ (h : SoundLedger ledger parties room) (s : ℕ) where
+    -- a figure that no sound entry has above a bound, over the entries of scheme s
+    sum-within : (figure : Party → ℕ) (bound : ℕ) → ((party : Party) → SoundParty (ledger .count) party → figure party ≤ bound) →
+        sumOver s (schemeColumn (take (ledger .entries) parties)) (map figure (take (ledger .entries) parties)) ≤ bound * 512
+    sum-within figure bound within =
+        let entries : List Party = take (ledger .entries) parties in
+        let same : length (map figure entries) ≡ length entries = length-map entries figure in
+        let few : length (map figure entries) ≤ 512 = omega (arith, h .entries, length-take (ledger .entries) parties) in
+        omega (
+          arith,
+          mul-le-mul-left bound few,
+          sum-at-most s bound (schemeColumn entries) (map figure entries)
+              (λ e below. rw (column-at figure entries e noParty below) (within (getD entries e noParty) (h .each-party e (omega arith)))),
+        )
+
+    -- K is at least 1 and at most 512,000,000
+    pub some-capacity : 1 ≤ s → s ≤ ledger .count → s ≤ length (ledger .schemes) →
+        1 ≤ capacityOf s (schemeColumn (take (ledger .entries) parties)) (capacityColumn (take (ledger .entries) parties))
+    some-capacity numbered opened kept =
+        let entries : List Party = take (ledger .entries) parties in
+        let ones : length (onesColumn entries) ≡ length entries = length-map entries (λ party. 1) in
+        let same : length (onesColumn entries) ≡ length (capacityColumn entries) = ones ∙ sym (length-map entries (λ party. party .capacity)) in
+        omega (
+          arith,
+          h .each-scheme s numbered opened kept .some-entry,
+          sum-le s (schemeColumn entries) (onesColumn entries) (capacityColumn entries) same
+              (λ e below.
+              let within : e < length (capacityColumn entries) = omega arith in
+              rw (column-at (λ party. 1) entries e noParty below, column-at (λ party. party .capacity) entries e noParty within)
+              (h .each-party e (omega arith) .some-capacity)),
+        )
+
+    pub capacity-at-most : capacityOf s (schemeColumn (take (ledger .entries) parties)) (capacityColumn (take (ledger .entries) parties)) ≤ 512000000
+    capacity-at-most = sum-within (λ party. party .capacity) 1000000 (λ party sound. sound .capacity)
+
+    pub put-in-at-most : sumOver s (schemeColumn (take (ledger .entries) parties)) (putInColumn (take (ledger .entries) parties)) ≤ 1024000000000
+    put-in-at-most = sum-within (λ party. party .«put_in») 2000000000 (λ party sound. sound .put-in)
+
+    -- a scheme's cost is what its first entry put in
+    pub cost-at-most : 1 ≤ s → s ≤ ledger .count → s ≤ length (ledger .schemes) → getD (ledger .schemes) (s - 1) noScheme .cost ≤ 2000000000
+    cost-at-most numbered opened kept =
+        let entries : List Party = take (ledger .entries) parties in
+        let same : length (putInColumn entries) ≡ length entries = length-map entries (λ party. party .«put_in») in
+        omega (
+          arith,
+          h .each-scheme s numbered opened kept .first,
+          first-at-most s 2000000000 (schemeColumn entries) (putInColumn entries)
+              (λ e below. rw (column-at (λ party. party .«put_in») entries e noParty below) (h .each-party e (omega arith) .put-in)),
+        )
+
+    pub fees-at-most : 1 ≤ s → s ≤ ledger .count → s ≤ length (ledger .schemes) → getD (ledger .schemes) (s - 1) noScheme .fees ≤ 511000000000
+    fees-at-most numbered opened kept =
+        let many : entriesOf s (take (ledger .entries) parties) ≤ 1 * 512 = sum-within (λ party. 1) 1 (λ party sound. omega arith) in
+        let scheme = h .each-scheme s numbered opened kept in
+        let fee : getD (ledger .schemes) (s - 1) noScheme .fee ≤ 1000000000 = omega (arith, scheme .fee, scheme .minimum) in
+        let joinings : entriesOf s (take (ledger .entries) parties) - 1 ≤ 511 = omega arith in
+        omega (arith, scheme .fees, mul-le-mul fee joinings)
