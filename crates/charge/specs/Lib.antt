@@ -1,4 +1,5 @@
 pub mod Price
 pub mod PriceLaws
 pub mod PriceFacts
+pub mod PriceRefusals
 pub mod MarkedFigures

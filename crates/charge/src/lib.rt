@@ -15,7 +15,7 @@ ghost use Rattle.capacity.specs.Capacity.{TiersWithin};
 ghost use Rattle.rate_book.specs.BookWithin.{BookWithin};
 ghost use Rattle.rate_book.specs.ZonesWithin.{RatesWithin};
 ghost use Rattle.request.specs.RequestWithin.{RequestWithin};
-ghost use Rattle.charge.specs.Price.{zoneFound, distributionOf, transmissionOf, incrementalRevenueOf, tiersOf, costsOf, billOf, pricedAt, valuesPriced, requestPriced, priceOf, ZoneBelow};
+ghost use Rattle.charge.specs.Price.{zoneFound, incrementalRevenueOf, billOf, valuesPriced, requestPriced, priceOf, ZoneBelow};
 
 // What a scheme that opens takes from the book.
 pub struct Terms {

@@ -1,4 +1,4 @@
--- What holds of values that pass.
+-- What holds of values that pass; and the numbers that a reading refuses with.
 use Prim.Native.Nat.{ℕ, zero, suc, _+_, _*_, _<_, _≤_, zero-le}
 use mathlib.Core.Path.{_≡_, refl, ap₂, _∙_}
 use mathlib.Core.List.{List, [], _∷_}
@@ -10,7 +10,12 @@ use lib.Seq.{drop-drop}
 use lib.Dec.{ltb, eqb}
 use borrow.Author.Tests.{ltb-false, leb-true, le-ltb, eqb-true, eq-eqb}
 use Rattle.tagged.specs.BigEndian.{number, numberAt}
+use Rattle.tagged.specs.File.{refusal, standing}
+use Rattle.tagged.specs.FileLaws.{RefusesTo, standing-refusal-numbers}
 use Rattle.tagged.specs.WalkFacts.{by-test}
+use Rattle.tagged.specs.declared.file.Refusal.{Refusal}
+use Rattle.tagged.specs.declared.file.Standing.{Standing}
+use Rattle.tagged.specs.declared.file.Standing.the-variants.{Stands, Refused}
 use Rattle.field_values.specs.Judged.{judge, inOrder, firstFailure, widthOf, within, judgeNumbers, sameBytes}
 use Rattle.field_values.specs.declared.judged.Judged.{Judged}
 use Rattle.field_values.specs.declared.judged.Judged.the-variants.{Passes, Fails}
@@ -108,3 +113,15 @@ pub same-bytes-refl : (a : List ℕ) → sameBytes a a ≡ true
 unfolding sameBytes
 same-bytes-refl [] = refl
 same-bytes-refl (x ∷ a) = rw (eq-eqb x x refl) (same-bytes-refl a)
+
+-- A reading answers its file's refusal, or 3 where a value isn't as listed.
+pub reading-refusal-numbers : (rows : List (List ℕ)) (file : ℕ) (s : List ℕ) (answer : Standing → Judged → Standing) →
+    answer Stands Passes ≡ Stands → ((at : ℕ) → answer Stands (Fails at) ≡ Refused (refusal 3 file at)) →
+    ((r : Refusal) (judged : Judged) → answer (Refused r) judged ≡ Refused r) →
+    (judged : Judged) → RefusesTo 3 file (answer (standing rows file s) judged)
+reading-refusal-numbers rows file s answer accepted failed refused judged = by (standing rows file s) judged (standing-refusal-numbers rows file s)
+  where
+    by : (stands : Standing) (judged : Judged) → RefusesTo 2 file stands → RefusesTo 3 file (answer stands judged)
+    by Stands Passes h = rw accepted tt
+    by Stands (Fails at) h = rw (failed at) (omega arith, omega arith, refl)
+    by (Refused r) judged h = rw (refused r judged) (h .0, omega arith, h .2)

@@ -1,6 +1,7 @@
 pub mod Booking
 pub mod Deciding
 pub mod Looking
+pub mod Places
 pub mod Rest
 pub mod Tallying
 pub mod Tests

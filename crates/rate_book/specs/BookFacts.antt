@@ -8,20 +8,27 @@ use lib.ListN.{length, getD, set}
 use Rattle.tagged.specs.BigEndian.{Bytes}
 use Rattle.tagged.specs.Walk.{FieldsWalk}
 use Rattle.tagged.specs.File.{standing, fieldsPart, refusal}
-use Rattle.tagged.specs.FileLaws.{stands-means}
+use Rattle.tagged.specs.FileLaws.{stands-means, RefusesTo}
 use Rattle.tagged.specs.AlteredByte.{altered-file-refused}
 use Rattle.tagged.specs.declared.file.Refusal.{Refusal}
 use Rattle.tagged.specs.declared.file.Standing.{Standing}
 use Rattle.tagged.specs.declared.file.Standing.the-variants.{Stands, Refused}
+use Rattle.field_values.specs.JudgedLaws.{reading-refusal-numbers}
 use Rattle.field_values.specs.declared.judged.Judged.{Judged}
 use Rattle.field_values.specs.declared.judged.Judged.the-variants.{Passes, Fails}
 use Rattle.rate_book.specs.Rows.{bookRows}
-use Rattle.rate_book.specs.Book.{bookOf, bookValues, judgeBook, refusedBook, ofJudged}
+use Rattle.rate_book.specs.Book.{bookOf, bookValues, judgeBook, refusedBook, ofJudged, ofStanding}
 
 module _ (number : ℕ) (file : List ℕ) where
   pub book-refused : (r : Refusal) → standing bookRows number file ≡ Refused r → bookOf number file ≡ refusedBook r
   unfolding bookOf
   book-refused r e = rw e
+
+  pub book-refusal-numbers : RefusesTo 3 number (bookOf number file .answer)
+  unfolding bookOf
+  book-refusal-numbers =
+      reading-refusal-numbers bookRows number file (λ stands judged. ofStanding stands (ofJudged number judged (bookValues (fieldsPart file))) .answer)
+      refl (λ at. refl) (λ r judged. refl) (judgeBook (fieldsPart file))
 
   module _ (stands : standing bookRows number file ≡ Stands) where
     pub book-judged : bookOf number file ≡ ofJudged number (judgeBook (fieldsPart file)) (bookValues (fieldsPart file))

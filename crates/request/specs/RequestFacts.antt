@@ -7,14 +7,16 @@ use native.Mathlib.Omega.{arith}
 use lib.ListN.{length, getD, set}
 use Rattle.tagged.specs.BigEndian.{Bytes}
 use Rattle.tagged.specs.File.{refusal, standing, fieldsPart}
+use Rattle.tagged.specs.FileLaws.{RefusesTo}
 use Rattle.tagged.specs.AlteredByte.{altered-file-refused}
 use Rattle.tagged.specs.declared.file.Refusal.{Refusal}
 use Rattle.tagged.specs.declared.file.Standing.{Standing}
 use Rattle.tagged.specs.declared.file.Standing.the-variants.{Stands, Refused}
+use Rattle.field_values.specs.JudgedLaws.{reading-refusal-numbers}
 use Rattle.field_values.specs.declared.judged.Judged.{Judged}
 use Rattle.field_values.specs.declared.judged.Judged.the-variants.{Passes, Fails}
 use Rattle.request.specs.Rows.{requestRows}
-use Rattle.request.specs.Request.{judgeRequest, requestValues, refusedRequest, ofJudged, requestOf}
+use Rattle.request.specs.Request.{judgeRequest, requestValues, refusedRequest, ofJudged, ofStanding, requestOf}
 
 -- A request is accepted where its file stands and each of its values is as listed.
 pub record Accepted (number : ℕ) (file : List ℕ) : Type 0 where
@@ -31,6 +33,12 @@ module _ (number : ℕ) (file : List ℕ) where
       → requestOf number file ≡ ofJudged number judged (requestValues (fieldsPart file))
   unfolding requestOf
   request-judged judged e j = rw (e, j)
+
+  pub request-refusal-numbers : RefusesTo 3 number (requestOf number file .answer)
+  unfolding requestOf
+  request-refusal-numbers =
+      reading-refusal-numbers requestRows number file (λ stands judged. ofStanding stands (ofJudged number judged (requestValues (fieldsPart file))) .answer)
+      refl (λ at. refl) (λ r judged. refl) (judgeRequest (fieldsPart file))
 
   pub request-accepted : requestOf number file .answer ≡ Stands → Accepted number file
   request-accepted h = by-standing (standing requestRows number file) refl

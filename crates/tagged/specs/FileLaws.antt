@@ -1,8 +1,8 @@
--- How a file stands, by its last five bytes, its check and its walk; and what a file that stands satisfies.
+-- How a file stands, by its last five bytes, its check and its walk; what a file that stands satisfies; and the numbers of refusals.
 use Prim.Native.Nat.{ℕ, _-_, _≤_}
 use mathlib.Core.Path.{_≡_, refl, sym, ap, _∙_}
 use mathlib.Core.List.{List}
-use mathlib.Core.Bool.{true, false, true≢false}
+use mathlib.Core.Bool.{Bool, true, false, cond, true≢false}
 use mathlib.Core.Logic.{⊎-elim}
 use mathlib.Mathlib.Data.Bool.Basic.{dichotomy}
 use native.Mathlib.Omega.{arith}
@@ -12,6 +12,7 @@ use borrow.Author.Tests.{ltb-false}
 use Rattle.tagged.specs.Walk.{FieldAt, Walk, fields, stops, walk}
 use Rattle.tagged.specs.File.{tailStands, checkStands, fieldsPart, refusal, ofWalk, standing}
 use Rattle.tagged.specs.declared.file.Refusal.{Refusal}
+use Rattle.tagged.specs.declared.file.Standing.{Standing}
 use Rattle.tagged.specs.declared.file.Standing.the-variants.{Stands, Refused}
 
 pub tail-size : (s : List ℕ) → tailStands s ≡ true → 5 ≤ length s
@@ -51,3 +52,21 @@ stands-means rows file s e = ⊎-elim (λ tail. no (bad-tail rows file s tail)) 
         (λ checked. no (bad-check rows file s tail checked))
         (λ checked. by-walk tail checked (walk rows (fieldsPart s)) refl)
         (dichotomy (checkStands s))
+
+-- a refusal of this file, with a number from 1 to `most`
+abbrev pub RefusalTo : ℕ → ℕ → Refusal → Type 0
+RefusalTo most file r = (1 ≤ r .number) × (r .number ≤ most) × (r .file ≡ file)
+
+abbrev pub RefusesTo : ℕ → ℕ → Standing → Type 0
+RefusesTo most file Stands = Unit {0}
+RefusesTo most file (Refused r) = RefusalTo most file r
+
+pub standing-refusal-numbers : (rows : List (List ℕ)) (file : ℕ) (s : List ℕ) → RefusesTo 2 file (standing rows file s)
+standing-refusal-numbers rows file s = by (tailStands s) (checkStands s) (walk rows (fieldsPart s))
+  where
+    by : (tail checked : Bool) (w : Walk) →
+        RefusesTo 2 file (cond tail (cond checked (ofWalk file w) (Refused (refusal 2 file (length s - 2)))) (Refused (refusal 1 file 0)))
+    by false checked w = (omega arith, omega arith, refl)
+    by true false w = (omega arith, omega arith, refl)
+    by true true (fields fs) = tt
+    by true true (stops at) = (omega arith, omega arith, refl)

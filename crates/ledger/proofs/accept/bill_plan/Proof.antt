@@ -1,22 +1,10 @@
-use mathlib.Core.Path.{_≡_, sym, _∙_}
-use mathlib.Core.List.{List}
-use mir.Val.{Val}
-use lib.ListN.{length, length-map}
-use denote.Laws.{Is}
-use denote.Struct.Declared.{row}
-use denote.Struct.Laws.{owed}
+use mathlib.Core.Path.{sym, _∙_}
 use borrow.Author.Needs.{needs}
 use Rattle.ledger.specs.VerdictFacts.{verdict-given}
 use Rattle.ledger.specs.AcceptNeeds.{bookable, opening-fits, joining-due, planned}
-use Rattle.ledger.specs.declared.records.Ledger.{Ledger}
-use Rattle.ledger.proofs.records.Ledger.{the-type}
-use Rattle.ledger.proofs.records.Ledger.Laws.{the-laws}
+use Rattle.ledger.proofs.Places.{schemes-places}
 use Rattle.ledger.proofs.accept.bill_plan.Statement.{statement}
 use Rattle.ledger.proofs.accept.bill_plan.Tie as tie
-
--- a ledger that code holds has 64 places for schemes
-schemes-places : (ledger : Ledger) (values : List Val) → Is (row the-type) ledger values → length (ledger .schemes) ≡ 64
-schemes-places ledger values is = simp length-map at (owed the-type the-laws ledger values is .1 .1 .1 .1 .1 .1 .0 .1 .0 .1)
 
 verdict-of-requires : tie.Need-verdict-of-requires
 verdict-of-requires c κs = search needs

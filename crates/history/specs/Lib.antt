@@ -1,0 +1,17 @@
+pub mod Calls
+pub mod Steps
+pub mod History
+pub mod Fair
+pub mod Demand
+pub mod Numbered
+pub mod Figures
+pub mod Shows
+pub mod PartySums
+pub mod Joining
+pub mod KeptByCalls
+pub mod Accounts
+pub mod Bounds
+pub mod SoundHistory
+pub mod EveryListOfCalls
+pub mod CreditedGrows
+pub mod TightBounds

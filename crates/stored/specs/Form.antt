@@ -1,0 +1,76 @@
+-- Document 01, 'Stored form': the fields that a ledger and its entries are stored as, and what a stored form's fields hold.
+use Prim.Native.Nat.{ℕ, _+_, _*_}
+use mathlib.Core.List.{List, [], _∷_, _++_, map}
+use lib.ListN.{length, take, replicate}
+use Rattle.tagged.specs.Walk.{FieldAt, valueOf}
+use Rattle.tagged.specs.Find.{fieldsOf, fieldsWith, fieldValue}
+use Rattle.tagged.specs.WalkFinds.{closed}
+use Rattle.ledger.specs.Records.{noScheme, noParty}
+use Rattle.ledger.specs.declared.records.Scheme.{Scheme}
+use Rattle.ledger.specs.declared.records.Party.{Party}
+use Rattle.ledger.specs.declared.records.Ledger.{Ledger}
+use Rattle.stored.specs.Layout.{recordBytes, recordValues, placed, headWidths, headValues, ledgerFrom, schemeWidths, schemeValues, schemeFrom, partyWidths, partyValues, partyFrom}
+
+-- "01: PION."
+abbrev pub letters : List ℕ
+letters = 80 ∷ 73 ∷ 79 ∷ 78 ∷ []
+
+-- a field's tag and value
+abbrev pub lettersPart : ℕ × List ℕ
+lettersPart = (1, letters)
+
+abbrev pub headPart : List ℕ → ℕ × List ℕ
+headPart values = (2, recordBytes headWidths values)
+
+abbrev pub schemePart : Scheme → ℕ × List ℕ
+schemePart scheme = (3, recordBytes schemeWidths (schemeValues scheme))
+
+abbrev pub partyPart : Party → ℕ × List ℕ
+partyPart party = (4, recordBytes partyWidths (partyValues party))
+
+unfoldable pub schemeParts : Ledger → List (ℕ × List ℕ)
+schemeParts ledger = map schemePart (take (ledger .count) (ledger .schemes))
+
+-- the first entries of the table are the ledger's
+unfoldable pub partyParts : Ledger → List Party → List (ℕ × List ℕ)
+partyParts ledger parties = map partyPart (take (ledger .entries) parties)
+
+abbrev pub storedParts : Ledger → List Party → List (ℕ × List ℕ)
+storedParts ledger parties = lettersPart ∷ headPart (headValues ledger) ∷ schemeParts ledger ++ partyParts ledger parties
+
+-- the file of these fields
+unfoldable pub storedForm : Ledger → List Party → List ℕ
+storedForm ledger parties = closed (storedParts ledger parties)
+
+-- how long it is, where a ledger has so many schemes and entries: fields of 7, 25, 27 and 33 bytes, and FF of 5
+abbrev pub formLength : ℕ → ℕ → ℕ
+formLength count entries = 37 + 27 * count + 33 * entries
+
+-- ---- what the fields of a file hold
+
+abbrev pub schemeOf : List ℕ → Scheme
+schemeOf value = schemeFrom (recordValues schemeWidths value)
+
+abbrev pub partyOf : List ℕ → Party
+partyOf value = partyFrom (recordValues partyWidths value)
+
+-- what is read of the values of those fields that have this tag, in file order
+abbrev pub eachWith : {A : Type 0} → (List ℕ → A) → ℕ → List ℕ → List FieldAt → List A
+eachWith read tag s fs = map (λ f. read (valueOf s f)) (fieldsWith tag fs)
+
+unfoldable pub schemesIn : List ℕ → List Scheme
+schemesIn s = eachWith schemeOf 3 s (fieldsOf s)
+
+unfoldable pub entriesIn : List ℕ → List Party
+entriesIn s = eachWith partyOf 4 s (fieldsOf s)
+
+-- "places past the last scheme hold zeros", and so do the records past the last entry where there is no table
+unfoldable pub noSchemes : List Scheme
+noSchemes = replicate 64 noScheme
+
+unfoldable pub noParties : List Party
+noParties = replicate 512 noParty
+
+unfoldable pub storedLedger : List ℕ → Ledger
+storedLedger s =
+    ledgerFrom (recordValues headWidths (fieldValue 2 s)) (length (entriesIn s)) (length (schemesIn s)) (placed (schemesIn s) noSchemes)

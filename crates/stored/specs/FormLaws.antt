@@ -1,0 +1,72 @@
+-- The length of the stored form and of its fields.
+use Prim.Native.Nat.{ℕ, _+_, _*_, _≤_}
+use mathlib.Core.Path.{_≡_, refl}
+use mathlib.Core.List.{List, [], _∷_, _++_, flatMap, map}
+use native.Mathlib.Omega.{arith}
+use lib.ListN.{length, take, length-append}
+use lib.Seq.{length-take-le}
+use Rattle.tagged.specs.BigEndianLaws.{length-bytesOf}
+use Rattle.tagged.specs.WalkFinds.{joined, joined-append}
+use Rattle.ledger.specs.declared.records.Scheme.{Scheme}
+use Rattle.ledger.specs.declared.records.Party.{Party}
+use Rattle.ledger.specs.declared.records.Ledger.{Ledger}
+use Rattle.stored.specs.Layout.{headWidths, headValues, schemeWidths, schemeValues, partyWidths, partyValues}
+use Rattle.stored.specs.LayoutLaws.{length-recordBytes}
+use Rattle.stored.specs.Form.{lettersPart, headPart, schemePart, partyPart, schemeParts, partyParts, storedParts, storedForm, formLength}
+
+pub length-one : (part : ℕ × List ℕ) → length (joined (part ∷ [])) ≡ length (part .1) + 3
+unfolding flatMap
+length-one part = simp (length-append, length-bytesOf) (omega arith)
+
+pub length-joined : (parts others : List (ℕ × List ℕ)) → length (joined (parts ++ others)) ≡ length (joined parts) + length (joined others)
+length-joined parts others = rw (joined-append, length-append)
+
+-- fields with values of one size
+pub length-each : {A : Type 0} (part : A → ℕ × List ℕ) (size : ℕ) → ((x : A) → length (part x .1) ≡ size) → (xs : List A) →
+    length (joined (map part xs)) ≡ (size + 3) * length xs
+unfolding flatMap
+length-each part size sized [] = omega arith
+length-each part size sized (x ∷ xs) =
+    simp (length-append, length-bytesOf) (omega (arith, sized x, length-each part size sized xs))
+
+pub scheme-size : (scheme : Scheme) → length (schemePart scheme .1) ≡ 24
+scheme-size scheme = length-recordBytes schemeWidths (schemeValues scheme) refl
+
+pub party-size : (party : Party) → length (partyPart party .1) ≡ 30
+party-size party = length-recordBytes partyWidths (partyValues party) refl
+
+pub length-schemes : (schemes : List Scheme) → length (joined (map schemePart schemes)) ≡ 27 * length schemes
+length-schemes schemes = length-each schemePart 24 scheme-size schemes
+
+pub length-parties : (parties : List Party) → length (joined (map partyPart parties)) ≡ 33 * length parties
+length-parties parties = length-each partyPart 30 party-size parties
+
+-- the two fields before the schemes
+pub length-front : (ledger : Ledger) → length (joined (lettersPart ∷ headPart (headValues ledger) ∷ [])) ≡ 32
+length-front ledger =
+    let head = headPart (headValues ledger) in
+    let size : length (head .1) ≡ 22 = length-recordBytes headWidths (headValues ledger) refl in
+    omega (arith, length-joined (lettersPart ∷ []) (head ∷ []), length-one lettersPart, length-one head)
+
+-- and all before the entries
+pub length-until-entries : (ledger : Ledger) → ledger .count ≤ length (ledger .schemes) →
+    length (joined (lettersPart ∷ headPart (headValues ledger) ∷ schemeParts ledger)) ≡ 32 + 27 * ledger .count
+unfolding schemeParts
+length-until-entries ledger places =
+    let front = lettersPart ∷ headPart (headValues ledger) ∷ [] in
+    let schemes = take (ledger .count) (ledger .schemes) in
+    let long : length schemes ≡ ledger .count = length-take-le (ledger .count) (ledger .schemes) places in
+    omega (arith, length-joined front (map schemePart schemes), length-front ledger, length-schemes schemes)
+
+module _ (ledger : Ledger) (parties : List Party) (places : ledger .count ≤ length (ledger .schemes)) (entries : ledger .entries ≤ length parties) where
+  pub length-fields : length (joined (storedParts ledger parties)) + 5 ≡ formLength (ledger .count) (ledger .entries)
+  unfolding partyParts
+  length-fields =
+      let until = lettersPart ∷ headPart (headValues ledger) ∷ schemeParts ledger in
+      let records = take (ledger .entries) parties in
+      let long : length records ≡ ledger .entries = length-take-le (ledger .entries) parties entries in
+      omega (arith, length-joined until (map partyPart records), length-until-entries ledger places, length-parties records)
+
+  pub length-form : length (storedForm ledger parties) ≡ formLength (ledger .count) (ledger .entries)
+  unfolding storedForm
+  length-form = simp (length-append, length-bytesOf) (omega (arith, length-fields))

@@ -1,0 +1,88 @@
+-- The stored form's bytes, and how small files read: each refusal of reading and of writing, at its limit and one past it.
+use Prim.Native.Nat.{ℕ}
+use mathlib.Core.Path.{_≡_, refl}
+use mathlib.Core.List.{List, [], _∷_, _++_, map, flatMap}
+use lib.ListN.{length, replicate}
+use Rattle.tagged.specs.BigEndian.{number, bytesOf}
+use Rattle.tagged.specs.Check.{checkFrom}
+use Rattle.tagged.specs.Walk.{dueFrom, allHad, frontOf, walkFrom}
+use Rattle.tagged.specs.Find.{fieldsFrom, firstWith, fieldsWith}
+use Rattle.tagged.specs.File.{refusal}
+use Rattle.tagged.specs.declared.file.Standing.{Standing}
+use Rattle.tagged.specs.declared.file.Standing.the-variants as standing
+use Rattle.field_values.specs.Judged.{sameBytes}
+use Rattle.ledger.specs.Records.{noScheme, noParty, newLedger}
+use Rattle.ledger.specs.Columns.{sumOver, firstPutIn}
+use Rattle.ledger.specs.Sound.{partiesSound, schemesSound, allZero, sound}
+use Rattle.ledger.specs.declared.records.Party.{Party}
+use Rattle.ledger.specs.declared.records.Ledger.{Ledger}
+use Rattle.stored.specs.Layout.{recordBytes, valuesAt, placed}
+use Rattle.stored.specs.Form.{schemeParts, partyParts, storedForm, schemesIn, entriesIn, noSchemes, storedLedger}
+use Rattle.stored.specs.Writing.{writtenAnswer, writeOf}
+use Rattle.stored.specs.Reading.{tableAnswer, readAnswer, readOf}
+use Rattle.stored.specs.declared.writing.Written.the-variants as written
+
+-- a ledger of one scheme and its first entry
+abbrev pub oneScheme : Ledger
+oneScheme =
+    record {
+      month = 12;
+      connections = 1;
+      charged = 300;
+      borne = 7;
+      entries = 1;
+      count = 1;
+      schemes = record { cost = 5; fee = 1; minimum = 2; opening = 6; term = 84; fees = 0 } ∷ replicate 63 noScheme;
+    }
+
+abbrev pub oneParty : Party
+oneParty = record { scheme = 1; person = 70000; capacity = 3; «put_in» = 5; credited = 0; «paid_out» = 0 }
+
+abbrev pub newForm : List ℕ
+newForm = 1 ∷ 0 ∷ 4 ∷ 80 ∷ 73 ∷ 79 ∷ 78 ∷ 2 ∷ 0 ∷ 22 ∷ 0 ∷ 0 ∷ 0 ∷ 0 ∷ 0 ∷ 0 ∷ 0 ∷ 0 ∷ 0 ∷ 0 ∷ 0 ∷ 0 ∷ 0 ∷ 0 ∷ 0 ∷ 0 ∷ 0 ∷ 0 ∷ 0 ∷ 0 ∷ 0 ∷ 0 ∷ 255 ∷ 0 ∷ 2 ∷ 90 ∷ 114 ∷ []
+
+abbrev pub oneForm : List ℕ
+oneForm =
+    1 ∷ 0 ∷ 4 ∷ 80 ∷ 73 ∷ 79 ∷ 78 ∷ 2 ∷ 0 ∷ 22 ∷ 0 ∷ 12 ∷ 0 ∷ 0 ∷ 0 ∷ 1 ∷ 0 ∷ 0 ∷ 0 ∷ 0 ∷ 0 ∷ 0 ∷ 1 ∷ 44 ∷ 0 ∷ 0 ∷ 0 ∷ 0 ∷ 0 ∷ 0 ∷ 0 ∷ 7 ∷ 3 ∷ 0 ∷ 24 ∷ 0 ∷ 0 ∷ 0 ∷ 5 ∷ 0 ∷ 0 ∷ 0 ∷ 1 ∷ 0 ∷ 0 ∷ 0 ∷ 2 ∷ 0 ∷ 6 ∷ 0 ∷ 84 ∷ 0 ∷ 0 ∷ 0 ∷ 0 ∷ 0 ∷ 0 ∷ 0 ∷ 0 ∷ 4 ∷ 0 ∷ 30 ∷ 0 ∷ 1 ∷ 0 ∷ 1 ∷ 17 ∷ 112 ∷ 0 ∷ 0 ∷ 0 ∷ 3 ∷ 0 ∷ 0 ∷ 0 ∷ 5 ∷ 0 ∷ 0 ∷ 0 ∷ 0 ∷ 0 ∷ 0 ∷ 0 ∷ 0 ∷ 0 ∷ 0 ∷ 0 ∷ 0 ∷ 0 ∷ 0 ∷ 0 ∷ 0 ∷ 255 ∷ 0 ∷ 2 ∷ 75 ∷ 47 ∷ []
+
+-- put in 6, not the cost
+abbrev pub unsoundForm : List ℕ
+unsoundForm =
+    1 ∷ 0 ∷ 4 ∷ 80 ∷ 73 ∷ 79 ∷ 78 ∷ 2 ∷ 0 ∷ 22 ∷ 0 ∷ 12 ∷ 0 ∷ 0 ∷ 0 ∷ 1 ∷ 0 ∷ 0 ∷ 0 ∷ 0 ∷ 0 ∷ 0 ∷ 1 ∷ 44 ∷ 0 ∷ 0 ∷ 0 ∷ 0 ∷ 0 ∷ 0 ∷ 0 ∷ 7 ∷ 3 ∷ 0 ∷ 24 ∷ 0 ∷ 0 ∷ 0 ∷ 5 ∷ 0 ∷ 0 ∷ 0 ∷ 1 ∷ 0 ∷ 0 ∷ 0 ∷ 2 ∷ 0 ∷ 6 ∷ 0 ∷ 84 ∷ 0 ∷ 0 ∷ 0 ∷ 0 ∷ 0 ∷ 0 ∷ 0 ∷ 0 ∷ 4 ∷ 0 ∷ 30 ∷ 0 ∷ 1 ∷ 0 ∷ 1 ∷ 17 ∷ 112 ∷ 0 ∷ 0 ∷ 0 ∷ 3 ∷ 0 ∷ 0 ∷ 0 ∷ 6 ∷ 0 ∷ 0 ∷ 0 ∷ 0 ∷ 0 ∷ 0 ∷ 0 ∷ 0 ∷ 0 ∷ 0 ∷ 0 ∷ 0 ∷ 0 ∷ 0 ∷ 0 ∷ 0 ∷ 255 ∷ 0 ∷ 2 ∷ 65 ∷ 55 ∷ []
+
+pub forms : (storedForm newLedger [] ≡ newForm) × (storedForm oneScheme (oneParty ∷ noParty ∷ []) ≡ oneForm)
+unfolding storedForm schemeParts partyParts recordBytes bytesOf checkFrom flatMap
+forms = (refl, refl)
+
+abbrev refused : ℕ → ℕ → ℕ → Standing
+refused n file place = standing.Refused (refusal n file place)
+
+-- a file, the table's length, and the answer
+abbrev pub readRows : List ((ℕ × List ℕ) × Standing)
+readRows =
+    ((0, []), refused 1 1 0) ∷
+    ((0, 1 ∷ 0 ∷ 4 ∷ 80 ∷ 73 ∷ 79 ∷ 78 ∷ 2 ∷ 0 ∷ 22 ∷ 0 ∷ 0 ∷ 0 ∷ 0 ∷ 0 ∷ 0 ∷ 0 ∷ 0 ∷ 0 ∷ 0 ∷ 0 ∷ 0 ∷ 0 ∷ 0 ∷ 0 ∷ 0 ∷ 0 ∷ 0 ∷ 0 ∷ 0 ∷ 0 ∷ 0 ∷ 255 ∷ 0 ∷ 2 ∷ 90 ∷ 115 ∷ []), refused 2 1 35) ∷
+    ((0, 1 ∷ 0 ∷ 4 ∷ 80 ∷ 73 ∷ 79 ∷ 77 ∷ 2 ∷ 0 ∷ 22 ∷ 0 ∷ 0 ∷ 0 ∷ 0 ∷ 0 ∷ 0 ∷ 0 ∷ 0 ∷ 0 ∷ 0 ∷ 0 ∷ 0 ∷ 0 ∷ 0 ∷ 0 ∷ 0 ∷ 0 ∷ 0 ∷ 0 ∷ 0 ∷ 0 ∷ 0 ∷ 255 ∷ 0 ∷ 2 ∷ 253 ∷ 157 ∷ []), refused 3 1 3) ∷
+    ((0, newForm), standing.Stands) ∷
+    ((1, oneForm), standing.Stands) ∷
+    ((0, oneForm), refused 9 0 0) ∷
+    ((1, unsoundForm), refused 13 0 0) ∷
+    []
+
+pub read-rows-hold : map (λ row. readAnswer (row .0 .0) (row .0 .1)) readRows ≡ map (λ row. row .1) readRows
+unfolding readAnswer tableAnswer entriesIn schemesIn storedLedger placed noSchemes valuesAt number checkFrom dueFrom allHad frontOf walkFrom fieldsFrom firstWith fieldsWith sameBytes sound partiesSound schemesSound allZero sumOver firstPutIn
+read-rows-hold = refl
+
+-- what is read, with a table of two records
+pub read-row-holds : readOf newLedger (noParty ∷ noParty ∷ []) oneForm ≡ record { answer = standing.Stands; ledger = oneScheme; table = oneParty ∷ noParty ∷ [] }
+unfolding readAnswer tableAnswer entriesIn schemesIn storedLedger placed noSchemes valuesAt number checkFrom dueFrom allHad frontOf walkFrom fieldsFrom firstWith fieldsWith sameBytes sound partiesSound schemesSound allZero sumOver firstPutIn
+read-row-holds = refl
+
+-- an output as long as the form, one byte longer and one byte shorter; a table shorter than the entries
+pub write-rows-hold :
+    (writeOf oneScheme (oneParty ∷ []) (replicate 97 7) ≡ record { answer = written.Length 97; output = oneForm }) ×
+    (writeOf oneScheme (oneParty ∷ []) (replicate 98 7) ≡ record { answer = written.Length 97; output = oneForm ++ (7 ∷ []) }) ×
+    (writeOf oneScheme (oneParty ∷ []) (replicate 96 7) ≡ record { answer = written.Refused (refusal 14 0 0); output = replicate 96 7 }) ×
+    (writeOf oneScheme [] (replicate 97 7) ≡ record { answer = written.Refused (refusal 13 0 0); output = replicate 97 7 })
+unfolding writtenAnswer storedForm schemeParts partyParts recordBytes bytesOf checkFrom flatMap placed sound partiesSound schemesSound allZero sumOver firstPutIn
+write-rows-hold = (refl, refl, refl, refl)

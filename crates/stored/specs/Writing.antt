@@ -1,0 +1,38 @@
+-- Document 01: "Writing answers the form's length and leaves output past that alone." Order: 13, 14.
+use Prim.Native.Nat.{ℕ}
+use mathlib.Core.List.{List}
+use mathlib.Core.Bool.{cond}
+use lib.ListN.{length}
+use lib.Dec.{leb}
+use Rattle.tagged.specs.File.{refusal}
+use Rattle.ledger.specs.Sound.{sound}
+use Rattle.ledger.specs.declared.records.Party.{Party}
+use Rattle.ledger.specs.declared.records.Ledger.{Ledger}
+use Rattle.stored.specs.Layout.{placed}
+use Rattle.stored.specs.Form.{storedForm}
+use Rattle.stored.specs.declared.writing.Written.{Written}
+use Rattle.stored.specs.declared.writing.Written.the-variants.{Length, Refused}
+
+-- the answer, and the output afterwards; `room` is the table's length
+unfoldable pub writtenAnswer : Ledger → List Party → ℕ → List ℕ → Written
+writtenAnswer ledger parties room out =
+    cond (sound ledger parties room)
+    (cond (leb (length (storedForm ledger parties)) (length out)) (Length (length (storedForm ledger parties))) (Refused (refusal 14 0 0)))
+    (Refused (refusal 13 0 0))
+
+-- by the answer: the form at the start of the output, or the output as it was
+abbrev pub outputBy : Written → List ℕ → List ℕ → List ℕ
+outputBy (Length size) form out = placed form out
+outputBy (Refused r) form out = out
+
+abbrev pub writtenOutput : Ledger → List Party → ℕ → List ℕ → List ℕ
+writtenOutput ledger parties room out = outputBy (writtenAnswer ledger parties room out) (storedForm ledger parties) out
+
+-- The call with a table of any length: its first records are the ledger's entries.
+pub record WriteEnd : Type 0 where
+  pub answer : Written
+  pub output : List ℕ
+
+abbrev pub writeOf : Ledger → List Party → List ℕ → WriteEnd
+writeOf ledger table out =
+    record { answer = writtenAnswer ledger table (length table) out; output = writtenOutput ledger table (length table) out }

@@ -1,0 +1,43 @@
+-- The cases of writing, in document 01's order, and what a refused one changes.
+use Prim.Native.Nat.{ℕ, _<_, _≤_}
+use mathlib.Core.Path.{_≡_, ap}
+use mathlib.Core.List.{List}
+use mathlib.Core.Bool.{true, false}
+use lib.ListN.{length}
+use borrow.Author.Tests.{le-leb, lt-leb}
+use Rattle.tagged.specs.File.{refusal}
+use Rattle.tagged.specs.declared.file.Refusal.{Refusal}
+use Rattle.ledger.specs.Sound.{sound}
+use Rattle.ledger.specs.declared.records.Party.{Party}
+use Rattle.ledger.specs.declared.records.Ledger.{Ledger}
+use Rattle.stored.specs.Layout.{placed}
+use Rattle.stored.specs.Form.{storedForm}
+use Rattle.stored.specs.Writing.{writtenAnswer, outputBy, writtenOutput, writeOf}
+use Rattle.stored.specs.declared.writing.Written.the-variants.{Length, Refused}
+
+module _ (ledger : Ledger) (parties : List Party) (room : ℕ) (out : List ℕ) where
+  pub write-refused-13 : sound ledger parties room ≡ false → writtenAnswer ledger parties room out ≡ Refused (refusal 13 0 0)
+  unfolding writtenAnswer
+  write-refused-13 unsound = rw unsound
+
+  pub write-refused-14 : sound ledger parties room ≡ true → length out < length (storedForm ledger parties) →
+      writtenAnswer ledger parties room out ≡ Refused (refusal 14 0 0)
+  unfolding writtenAnswer
+  write-refused-14 holds short = rw (holds, lt-leb (length (storedForm ledger parties)) (length out) short)
+
+  pub write-done : sound ledger parties room ≡ true → length (storedForm ledger parties) ≤ length out →
+      writtenAnswer ledger parties room out ≡ Length (length (storedForm ledger parties))
+  unfolding writtenAnswer
+  write-done holds fits = rw (holds, le-leb (length (storedForm ledger parties)) (length out) fits)
+
+  -- the output, by the answer
+  pub output-refused : {r : Refusal} → writtenAnswer ledger parties room out ≡ Refused r → writtenOutput ledger parties room out ≡ out
+  output-refused refused = ap (λ answer. outputBy answer (storedForm ledger parties) out) refused
+
+  pub output-done : {size : ℕ} → writtenAnswer ledger parties room out ≡ Length size → writtenOutput ledger parties room out ≡ placed (storedForm ledger parties) out
+  output-done done = ap (λ answer. outputBy answer (storedForm ledger parties) out) done
+
+-- a refused write leaves the output as it was
+pub refused-write-changes-nothing : (ledger : Ledger) (table : List Party) (out : List ℕ) (r : Refusal) →
+    writeOf ledger table out .answer ≡ Refused r → writeOf ledger table out .output ≡ out
+refused-write-changes-nothing ledger table out r e = output-refused ledger table (length table) out e
