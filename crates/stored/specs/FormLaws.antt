@@ -41,12 +41,14 @@ length-schemes schemes = length-each schemePart 24 scheme-size schemes
 pub length-parties : (parties : List Party) → length (joined (map partyPart parties)) ≡ 33 * length parties
 length-parties parties = length-each partyPart 30 party-size parties
 
+pub head-size : (ledger : Ledger) → length (headPart (headValues ledger) .1) ≡ 22
+head-size ledger = length-recordBytes headWidths (headValues ledger) refl
+
 -- the two fields before the schemes
 pub length-front : (ledger : Ledger) → length (joined (lettersPart ∷ headPart (headValues ledger) ∷ [])) ≡ 32
 length-front ledger =
     let head = headPart (headValues ledger) in
-    let size : length (head .1) ≡ 22 = length-recordBytes headWidths (headValues ledger) refl in
-    omega (arith, length-joined (lettersPart ∷ []) (head ∷ []), length-one lettersPart, length-one head)
+    omega (arith, length-joined (lettersPart ∷ []) (head ∷ []), length-one lettersPart, length-one head, head-size ledger)
 
 -- and all before the entries
 pub length-until-entries : (ledger : Ledger) → ledger .count ≤ length (ledger .schemes) →
