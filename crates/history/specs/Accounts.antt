@@ -10,8 +10,7 @@ use lib.ListN.{getD}
 use lib.Dec.{eqb}
 use borrow.Author.Tests.{eqb-true, eqb-false}
 use Rattle.charge.specs.declared.Bill.{Bill}
-use Rattle.ledger.specs.Columns.{sumOver}
-use Rattle.ledger.specs.RulesLaws.{sumOf}
+use Rattle.ledger.specs.Columns.{sumOver, sumOf}
 use Rattle.history.specs.Calls.{Call, Fits}
 use Rattle.history.specs.History.{Event, connected, opened, joined, paid, handed, where-same, ofCredit, ofPayment, charged, borne, entered, cost, fee, joinings, collected, fees, credited, paidOut, schemes, schemeOf, putIn, creditedTo, paidTo, entries, withCall}
 use Rattle.history.specs.Demand.{overParties, Balanced}

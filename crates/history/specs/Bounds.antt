@@ -10,7 +10,7 @@ use lib.ListN.{getD}
 use lib.Dec.{eqb}
 use borrow.Author.Tests.{eqb-true, eqb-false}
 use Rattle.charge.specs.declared.Bill.{Bill}
-use Rattle.ledger.specs.Rules.{credits}
+use Rattle.acceptance.specs.Rules.{credits}
 use Rattle.history.specs.Fair.{Fair, fair-opened, fair-joiner, fair-joined}
 use Rattle.history.specs.Calls.{Call, Fits}
 use Rattle.history.specs.History.{Event, connected, opened, joined, paid, handed, where-same, ofOpening, ofJoining, ofCredit, cost, fee, joinings, schemes, schemeOf, capacity, putIn, creditedTo, entries, numbered, withCall}

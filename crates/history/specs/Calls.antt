@@ -3,10 +3,10 @@ use Prim.Native.Nat.{ℕ, _^_, _<_}
 use mathlib.Core.Path.{_≡_}
 use mathlib.Core.List.{List, [], _∷_}
 use Rattle.tagged.specs.BigEndian.{Bytes}
-use Rattle.ledger.specs.Promises.{Accepts, PaysOut, HandsOver}
+use Rattle.acceptance.specs.Promises.{Accepts, PaysOut, HandsOver}
 use Rattle.ledger.specs.declared.records.Party.{Party}
 use Rattle.ledger.specs.declared.records.Ledger.{Ledger}
-use Rattle.ledger.specs.declared.accept.AcceptAnswer.{AcceptAnswer}
+use Rattle.acceptance.specs.declared.accept.AcceptAnswer.{AcceptAnswer}
 use Rattle.ledger.specs.declared.entries.Answer.{Answer}
 
 pub data Call : Type 0 where

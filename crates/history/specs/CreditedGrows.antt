@@ -7,13 +7,13 @@ use Rattle.charge.specs.Price.{priceOf}
 use Rattle.charge.specs.declared.Bill.{Bill}
 use Rattle.charge.specs.declared.Pricing.{Pricing}
 use Rattle.charge.specs.declared.Pricing.the-variants.{Priced, NotPriced}
-use Rattle.ledger.specs.Verdict.{verdict}
-use Rattle.ledger.specs.Accept.{answerOf}
-use Rattle.ledger.specs.declared.verdict.Verdict.{Verdict}
-use Rattle.ledger.specs.declared.verdict.Verdict.the-variants.{StaysPlain, Opens, Joins, IsSmall, HasEnded, Refuses}
-use Rattle.ledger.specs.declared.accept.SchemeAnswer.{SchemeAnswer}
-use Rattle.ledger.specs.declared.accept.SchemeAnswer.the-variants.{Plain, Opened, Joined, Small, Ended}
-use Rattle.ledger.specs.declared.accept.AcceptAnswer.the-variants.{Accepted, NotAccepted}
+use Rattle.acceptance.specs.Verdict.{verdict}
+use Rattle.acceptance.specs.Accept.{answerOf}
+use Rattle.acceptance.specs.declared.verdict.Verdict.{Verdict}
+use Rattle.acceptance.specs.declared.verdict.Verdict.the-variants.{StaysPlain, Opens, Joins, IsSmall, HasEnded, Refuses}
+use Rattle.acceptance.specs.declared.accept.SchemeAnswer.{SchemeAnswer}
+use Rattle.acceptance.specs.declared.accept.SchemeAnswer.the-variants.{Plain, Opened, Joined, Small, Ended}
+use Rattle.acceptance.specs.declared.accept.AcceptAnswer.the-variants.{Accepted, NotAccepted}
 use Rattle.ledger.specs.declared.entries.Answer.{Answer}
 use Rattle.ledger.specs.declared.entries.Answer.the-variants.{Done, Refused}
 use Rattle.history.specs.Calls.{Call, accept, payOut, handOver, CallAnswer, ofAccept, ofEntry}

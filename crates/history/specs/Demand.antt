@@ -8,7 +8,7 @@ use Rattle.ledger.specs.Columns.{sumOver}
 use Rattle.ledger.specs.declared.records.Scheme.{Scheme}
 use Rattle.ledger.specs.declared.records.Party.{Party}
 use Rattle.ledger.specs.declared.records.Ledger.{Ledger}
-use Rattle.ledger.specs.declared.accept.AcceptAnswer.the-variants.{Accepted, NotAccepted}
+use Rattle.acceptance.specs.declared.accept.AcceptAnswer.the-variants.{Accepted, NotAccepted}
 use Rattle.ledger.specs.declared.entries.Answer.the-variants.{Done, Refused}
 use Rattle.history.specs.Fair.{Fair}
 use Rattle.history.specs.Calls.{Call, CallAnswer, ofAccept, ofEntry, State, Trace, AllFit}

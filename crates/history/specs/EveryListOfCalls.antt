@@ -17,13 +17,13 @@ use Rattle.charge.specs.declared.Pricing.the-variants.{Priced, NotPriced}
 use Rattle.ledger.specs.Records.{newLedger}
 use Rattle.ledger.specs.Sound.{partiesSound, schemesSound, allZero, sound}
 use Rattle.ledger.specs.SoundFacts.{SoundLedger, sound-means}
-use Rattle.ledger.specs.Verdict.{Columns, opensScheme, tableFull, termsAt, verdict}
-use Rattle.ledger.specs.Accept.{answerOf}
-use Rattle.ledger.specs.AcceptKeepsSound.{PricingWithin, accept-keeps-sound}
+use Rattle.acceptance.specs.Verdict.{Columns, opensScheme, tableFull, termsAt, verdict}
+use Rattle.acceptance.specs.Accept.{answerOf}
+use Rattle.acceptance.specs.AcceptKeepsSound.{PricingWithin, accept-keeps-sound}
 use Rattle.ledger.specs.EntriesKeepSound.{pay-out-keeps-sound, hand-over-keeps-sound}
 use Rattle.ledger.specs.declared.records.Party.{Party}
-use Rattle.ledger.specs.declared.verdict.Verdict.{Verdict}
-use Rattle.ledger.specs.declared.verdict.Verdict.the-variants.{StaysPlain, Opens, Joins, IsSmall, HasEnded, Refuses}
+use Rattle.acceptance.specs.declared.verdict.Verdict.{Verdict}
+use Rattle.acceptance.specs.declared.verdict.Verdict.the-variants.{StaysPlain, Opens, Joins, IsSmall, HasEnded, Refuses}
 use Rattle.ledger.specs.declared.entries.Answer.{Answer}
 use Rattle.ledger.specs.declared.entries.Answer.the-variants.{Done, Refused}
 use Rattle.history.specs.Calls.{Call, accept, payOut, handOver, CallAnswer, ofAccept, ofEntry, State, Trace, none, more, Fits, AllFit}

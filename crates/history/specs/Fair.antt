@@ -5,8 +5,9 @@ use mathlib.Core.List.{List}
 use native.Mathlib.Nat.{mul-le-mul-right, le-of-mul-le-mul-right}
 use native.Mathlib.Omega.{arith}
 use lib.ListN.{length, getD}
-use Rattle.ledger.specs.Rules.{weights, capacityOf, contribution, credits}
-use Rattle.ledger.specs.RulesLaws.{getD-le-sum, sum-weights, weight-own, share-low, share-high, contribution-low, contribution-high}
+use Rattle.ledger.specs.Columns.{capacityOf}
+use Rattle.acceptance.specs.Rules.{weights, contribution, credits}
+use Rattle.acceptance.specs.RulesLaws.{getD-le-sum, sum-weights, weight-own, share-low, share-high, contribution-low, contribution-high}
 
 -- What a party put in less what it was credited, held against scheme cost × its kVA / all parties' kVA: at most 1 cent for each joining below, and at
 -- most 2 cents and the fee for each joining above. Multiplied out by all parties' kVA, and with no difference, which could be negative.

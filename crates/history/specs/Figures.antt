@@ -14,13 +14,13 @@ use Rattle.charge.specs.Price.{priceOf}
 use Rattle.charge.specs.declared.Bill.{Bill}
 use Rattle.charge.specs.declared.Pricing.{Pricing}
 use Rattle.charge.specs.declared.Pricing.the-variants.{Priced, NotPriced}
-use Rattle.ledger.specs.RulesLaws.{length-credits}
-use Rattle.ledger.specs.Verdict.{termsAt, verdict}
-use Rattle.ledger.specs.VerdictFacts.{OpensScheme, JoinsScheme, VerdictHas, verdict-has}
-use Rattle.ledger.specs.Accept.{joiningCredits}
+use Rattle.acceptance.specs.RulesLaws.{length-credits}
+use Rattle.acceptance.specs.Verdict.{termsAt, verdict}
+use Rattle.acceptance.specs.VerdictFacts.{OpensScheme, JoinsScheme, VerdictHas, verdict-has}
+use Rattle.acceptance.specs.Accept.{joiningCredits}
 use Rattle.ledger.specs.SoundFacts.{both-true}
-use Rattle.ledger.specs.declared.verdict.Verdict.{Verdict}
-use Rattle.ledger.specs.declared.verdict.Verdict.the-variants.{StaysPlain, Opens, Joins, IsSmall, HasEnded, Refuses}
+use Rattle.acceptance.specs.declared.verdict.Verdict.{Verdict}
+use Rattle.acceptance.specs.declared.verdict.Verdict.the-variants.{StaysPlain, Opens, Joins, IsSmall, HasEnded, Refuses}
 use Rattle.ledger.specs.declared.entries.Answer.{Answer}
 use Rattle.ledger.specs.declared.entries.Answer.the-variants.{Done, Refused}
 use Rattle.history.specs.Calls.{Call, accept, payOut, handOver}

@@ -4,19 +4,19 @@ use mathlib.Core.List.{List, [], _∷_, _++_}
 use mathlib.Core.Bool.{Bool, cond}
 use lib.ListN.{getD}
 use lib.Dec.{leb, eqb}
+use Rattle.ledger.specs.Columns.{sumOf}
 use Rattle.tagged.specs.File.{refusal}
 use Rattle.charge.specs.Price.{priceOf}
 use Rattle.charge.specs.declared.Bill.{Bill}
 use Rattle.charge.specs.declared.Pricing.{Pricing}
 use Rattle.charge.specs.declared.Pricing.the-variants.{Priced, NotPriced}
 use Rattle.ledger.specs.Sound.{allHold}
-use Rattle.ledger.specs.RulesLaws.{sumOf}
-use Rattle.ledger.specs.Verdict.{SchemeTerms, Columns, verdict}
-use Rattle.ledger.specs.Accept.{answerOf, joiningCredits}
-use Rattle.ledger.specs.declared.verdict.Verdict.{Verdict}
-use Rattle.ledger.specs.declared.verdict.Verdict.the-variants.{StaysPlain, Opens, Joins, IsSmall, HasEnded, Refuses}
-use Rattle.ledger.specs.declared.accept.AcceptAnswer.{AcceptAnswer}
-use Rattle.ledger.specs.declared.accept.AcceptAnswer.the-variants.{NotAccepted}
+use Rattle.acceptance.specs.Verdict.{SchemeTerms, Columns, verdict}
+use Rattle.acceptance.specs.Accept.{answerOf, joiningCredits}
+use Rattle.acceptance.specs.declared.verdict.Verdict.{Verdict}
+use Rattle.acceptance.specs.declared.verdict.Verdict.the-variants.{StaysPlain, Opens, Joins, IsSmall, HasEnded, Refuses}
+use Rattle.acceptance.specs.declared.accept.AcceptAnswer.{AcceptAnswer}
+use Rattle.acceptance.specs.declared.accept.AcceptAnswer.the-variants.{NotAccepted}
 use Rattle.ledger.specs.declared.entries.Answer.{Answer}
 use Rattle.ledger.specs.declared.entries.Answer.the-variants.{Done, Refused}
 use Rattle.history.specs.Calls.{Call, accept, payOut, handOver, CallAnswer, ofAccept, ofEntry}

@@ -9,12 +9,12 @@ use lib.ListN.{length, getD, List·getD-eq-default}
 use lib.Dec.{eqb}
 use borrow.Author.Tests.{eqb-true, eqb-false}
 use Rattle.charge.specs.declared.Bill.{Bill}
-use Rattle.ledger.specs.Columns.{sumOver}
-use Rattle.ledger.specs.Rules.{contribution, credits}
-use Rattle.ledger.specs.RulesLaws.{sumOf, length-credits, credits-sum, credits-sum-own, credit-other, credits-sum-other}
-use Rattle.ledger.specs.Verdict.{noTerms, termsAt}
-use Rattle.ledger.specs.VerdictFacts.{JoinsScheme}
-use Rattle.ledger.specs.Accept.{joiningCredits}
+use Rattle.ledger.specs.Columns.{sumOver, sumOf}
+use Rattle.acceptance.specs.Rules.{contribution, credits}
+use Rattle.acceptance.specs.RulesLaws.{length-credits, credits-sum, credits-sum-own, credit-other, credits-sum-other}
+use Rattle.acceptance.specs.Verdict.{noTerms, termsAt}
+use Rattle.acceptance.specs.VerdictFacts.{JoinsScheme}
+use Rattle.acceptance.specs.Accept.{joiningCredits}
 use Rattle.history.specs.History.{Event, connected, where-same, cost, fee, minimum, schemes, schemeOf, capacity, entries, numbered, termsIn, columnsIn}
 use Rattle.history.specs.Demand.{overParties}
 use Rattle.history.specs.Numbered.{length-numbered, numbered-by, numbered-same}

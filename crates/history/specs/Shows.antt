@@ -18,16 +18,16 @@ use Rattle.ledger.specs.Table.{creditedMore, creditEach, newEntry}
 use Rattle.ledger.specs.TableLaws.{length-credit-each, credit-none, credited-at}
 use Rattle.ledger.specs.Sound.{sound}
 use Rattle.ledger.specs.SoundFacts.{sound-means}
-use Rattle.ledger.specs.Verdict.{Columns, termsOf, columnsOf, verdict}
-use Rattle.ledger.specs.VerdictFacts.{VerdictHas, verdict-has}
-use Rattle.ledger.specs.Accept as accepting
-use Rattle.ledger.specs.Accept.{booked, newScheme, firstEntry, feeTaken, joinerEntry, joiningCredits, answerOf, ledgerAfter, tableAfter, acceptedBy, acceptPriced, acceptOf}
+use Rattle.acceptance.specs.Verdict.{Columns, termsOf, columnsOf, verdict}
+use Rattle.acceptance.specs.VerdictFacts.{VerdictHas, verdict-has}
+use Rattle.acceptance.specs.Accept as accepting
+use Rattle.acceptance.specs.Accept.{booked, newScheme, firstEntry, feeTaken, joinerEntry, joiningCredits, answerOf, ledgerAfter, tableAfter, acceptedBy, acceptPriced, acceptOf}
 use Rattle.ledger.specs.Entries as entryCalls
 use Rattle.ledger.specs.Entries.{entryAt, paidMore, handedTo, changeOf, payOutChange, handOverChange, withEntry}
 use Rattle.ledger.specs.declared.records.Scheme.{Scheme}
 use Rattle.ledger.specs.declared.records.Party.{Party}
-use Rattle.ledger.specs.declared.verdict.Verdict.{Verdict}
-use Rattle.ledger.specs.declared.verdict.Verdict.the-variants.{StaysPlain, Opens, Joins, IsSmall, HasEnded, Refuses}
+use Rattle.acceptance.specs.declared.verdict.Verdict.{Verdict}
+use Rattle.acceptance.specs.declared.verdict.Verdict.the-variants.{StaysPlain, Opens, Joins, IsSmall, HasEnded, Refuses}
 use Rattle.ledger.specs.declared.entries.Answer.{Answer}
 use Rattle.ledger.specs.declared.entries.Answer.the-variants.{Done, Refused}
 use Rattle.history.specs.Calls.{Call, accept, payOut, handOver, ofAccept, ofEntry, State}

@@ -2,7 +2,7 @@
 use mathlib.Core.Path.{_≡_, refl, ap, ap₂}
 use mathlib.Core.List.{List}
 use Rattle.charge.specs.Price.{priceOf}
-use Rattle.ledger.specs.Accept.{acceptOf}
+use Rattle.acceptance.specs.Accept.{acceptOf}
 use Rattle.ledger.specs.Entries.{payOutOf, handOverOf}
 use Rattle.ledger.specs.declared.records.Party.{Party}
 use Rattle.ledger.specs.declared.records.Ledger.{Ledger}

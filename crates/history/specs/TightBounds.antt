@@ -8,8 +8,8 @@ use Rattle.reconciliation.specs.declared.Percent.the-variants.{None}
 use Rattle.charge.specs.declared.Bill.{Bill}
 use Rattle.charge.specs.declared.Pricing.the-variants.{Priced}
 use Rattle.ledger.specs.Columns.{sumOver}
-use Rattle.ledger.specs.Rules.{weights, shares}
-use Rattle.ledger.specs.Verdict.{verdict}
+use Rattle.acceptance.specs.Rules.{weights, shares}
+use Rattle.acceptance.specs.Verdict.{verdict}
 use Rattle.history.specs.History.{Event, cost, fee, joinings, collected, credited, capacity, putIn, creditedTo, columnsIn, withPricing}
 use Rattle.history.specs.Demand.{overParties}
 

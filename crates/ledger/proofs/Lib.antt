@@ -1,5 +1,3 @@
-pub mod Booking
-pub mod Deciding
 pub mod Looking
 pub mod Places
 pub mod Rest

@@ -10,10 +10,9 @@ use lib.Dec.{leb, eqb}
 use lib.Seq.{getD-take, getD-drop}
 use borrow.Author.Tests.{leb-true, eqb-true, le-leb, eq-eqb}
 use Rattle.ledger.specs.Records.{noScheme, noParty}
-use Rattle.ledger.specs.Columns.{schemeColumn, capacityColumn, putInColumn, creditedColumn, onesColumn, sumOver, entriesOf, firstPutIn}
+use Rattle.ledger.specs.Columns.{schemeColumn, capacityColumn, putInColumn, creditedColumn, onesColumn, sumOver, entriesOf, firstPutIn, capacityOf}
 use Rattle.ledger.specs.ColumnsLaws.{column-at, sum-le, sum-at-most, first-at-most}
 use Rattle.ledger.specs.Sound.{allHold, countsSound, sumsSound, partySound, partiesSound, schemeSound, schemesSound, isZero, allZero, sound}
-use Rattle.ledger.specs.Rules.{capacityOf}
 use Rattle.ledger.specs.declared.records.Scheme.{Scheme}
 use Rattle.ledger.specs.declared.records.Party.{Party}
 use Rattle.ledger.specs.declared.records.Ledger.{Ledger}

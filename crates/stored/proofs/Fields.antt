@@ -7,11 +7,11 @@ use native.Mathlib.Numerals.{add-one}
 use native.Mathlib.Omega.{arith}
 use lib.ListN.{length, getD, take}
 use lib.Seq.{take-suc, length-take-le}
+use Rattle.ledger.specs.Columns.{sumOf}
 use Rattle.tagged.specs.BigEndian.{bytesOf, written}
 use Rattle.tagged.specs.BigEndianLaws.{length-bytesOf, length-written, take-written, written-written}
 use Rattle.tagged.specs.Check.{check}
 use Rattle.tagged.specs.WalkFinds.{joined, closed, joined-append}
-use Rattle.ledger.specs.RulesLaws.{sumOf}
 use Rattle.ledger.specs.declared.records.Party.{Party}
 use Rattle.ledger.specs.declared.records.Ledger.{Ledger}
 use Rattle.stored.specs.Layout.{recordBytes, placed, headValues}

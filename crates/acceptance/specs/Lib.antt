@@ -1,0 +1,13 @@
+pub mod Rules
+pub mod RulesLaws
+pub mod Verdict
+pub mod VerdictLaws
+pub mod VerdictFacts
+pub mod Accept
+pub mod AcceptColumns
+pub mod AcceptNeeds
+pub mod AcceptFacts
+pub mod AcceptKeepsSound
+pub mod AcceptRows
+pub mod MarkedFigures
+pub mod Promises
