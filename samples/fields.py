@@ -24,3 +24,7 @@ def closed(fields):
     """The fields, with the field FF after them."""
     data = b"".join(fields) + b"\xff\x00\x02"
     return data + number(2, check(data))
+
+
+def altered(data, place, value):
+    return data[:place] + bytes([value]) + data[place + 1:]

@@ -1,6 +1,6 @@
 #!/usr/bin/env python3
-"""Writes the sample files that the programs read: document 01's slip as rate book and request, a
-stored ledger with one scheme and two parties, and damaged copies of them; document 000's examples.
+"""Writes the sample files that the programs read: document 01's slip as rate book and request, stored
+ledgers, and damaged copies of them; document 000's examples.
 
 make.py          writes them into each program's data folder
 make.py --check  says which of them differ from what it would write, and fails if one does
@@ -10,8 +10,9 @@ from pathlib import Path
 
 sys.dont_write_bytecode = True
 
+import ledgers
 import worked_examples
-from fields import closed, field, number, numbers
+from fields import altered, closed, field, number, numbers
 
 ROOT = Path(__file__).resolve().parent.parent
 
@@ -49,25 +50,9 @@ def slip_request(zone=1, extension=1_598_500, tiers=POSTED_TIERS, revenue=57_320
     ]
 
 
-def one_scheme_ledger():
-    """Cost 6,000,000; a second party of half the first one's capacity joined: G 2,000,000, fee 20,000."""
-    month = 24_320
-    return [
-        field(0x01, b"PION"),
-        field(0x02, number(2, month) + number(4, 2) + number(8, 7_500_000) + number(8, 900_000)),
-        field(0x03, numbers(4, [6_000_000, 20_000, 20_000]) + numbers(2, [24_315, 84]) + number(8, 20_000)),
-        field(0x04, number(2, 1) + numbers(4, [4_711, 10_000, 6_000_000]) + numbers(8, [1_980_000, 0])),
-        field(0x04, number(2, 1) + numbers(4, [4_712, 5_000, 2_000_000]) + numbers(8, [0, 0])),
-    ]
-
-
-def altered(data, place, value):
-    return data[:place] + bytes([value]) + data[place + 1:]
-
-
 def listed_files():
     """What the program list_fields walks. Every damaged file but three has a right check, so that the walk is what refuses it."""
-    book, request, ledger = slip_book(), slip_request(), one_scheme_ledger()
+    book, request, ledger = slip_book(), slip_request(), ledgers.one_scheme()
     whole = closed(book)
     return {
         "book.bin": whole,
@@ -116,11 +101,76 @@ def refused_slip_files():
     }
 
 
+def scenario_files():
+    """A pioneer ledger's life: books, requests, and ledgers with one place left or unsound. A request that isn't told otherwise is
+    the slip's, whose credit is 558,870: so ME 6,558,870 makes X 6,000,000."""
+
+    def book(terms=(5_000_000, 20_000, 20_000), term=84, charged=1):
+        fields = slip_book(charged=charged)
+        return fields[:5] + [field(0x06, numbers(4, terms) + number(2, term))] + fields[6:]
+
+    def request(person, month, capacity, scheme=0, mark=0, **values):
+        fields = slip_request(**values)
+        applicant = number(2, month) + number(4, capacity) + number(2, scheme) + number(1, mark)
+        return fields[:1] + [field(0x02, number(4, person))] + fields[2:11] + [field(0x0C, applicant)]
+
+    def opening(person, month, capacity, cost, **values):
+        return request(person, month, capacity, extension=cost + 558_870, **values)
+
+    def ledger(connections, schemes, entries):
+        fields = [field(0x01, b"PION"), field(0x02, number(2, 24_320) + number(4, connections) + numbers(8, [0, 0]))]
+        for cost, fees in schemes:
+            fields.append(field(0x03, numbers(4, [cost, 20_000, 20_000]) + numbers(2, [24_315, 84]) + number(8, fees)))
+        for scheme, person, capacity, put_in, credited in entries:
+            fields.append(field(0x04, number(2, scheme) + numbers(4, [person, capacity, put_in]) + numbers(8, [credited, 0])))
+        return fields
+
+    bespoke = POSTED_TIERS[:2] + [(2, 200, 12_750)] + POSTED_TIERS[3:]
+    # 510 joined a scheme of 6,000,000 with 30,000 each; after the fees the rest is the first entry's credit
+    joined = [(1, 5_000 + i, 100, 30_000, 0) for i in range(1, 511)]
+    files = {
+        "book.bin": book(),
+        "other_book.bin": book((4_000_000, 50_000, 2_000_000), term=120, charged=0),
+        "book_without_02.bin": book()[:1] + book()[2:],
+        "book_term_83.bin": book(term=83),
+        "at_threshold.bin": opening(4_701, 24_315, 10_000, 5_000_000),
+        "opening.bin": opening(4_711, 24_315, 10_000, 6_000_000),
+        "opted_out.bin": opening(4_712, 24_316, 10_000, 6_000_000, mark=1),
+        "real_estate.bin": opening(4_713, 24_316, 10_000, 6_000_000, mark=2),
+        "first_joining.bin": request(4_714, 24_320, 5_000, scheme=1),
+        "below_minimum.bin": request(4_715, 24_320, 50, scheme=1),
+        "second_joining.bin": request(4_716, 24_330, 5_000, scheme=1),
+        "one_over_threshold.bin": opening(4_717, 24_340, 8_000, 5_000_001),
+        "other_opening.bin": opening(4_718, 24_350, 1_000_000, 4_000_001),
+        "one_below_minimum.bin": request(4_719, 24_351, 999_999, scheme=3),
+        "at_minimum.bin": request(4_711, 24_351, 1_000_000, scheme=3),
+        "last_month.bin": request(4_720, 24_398, 10_000, scheme=1),
+        "first_month_after.bin": request(4_721, 24_399, 10_000, scheme=1),
+        "request_capacity_0.bin": request(4_722, 24_399, 0),
+        "request_zone_2.bin": request(4_722, 24_399, 10_000, zone=2),
+        "request_at_150_percent.bin": request(4_722, 24_399, 10_000, tiers=bespoke),
+        "never_opened.bin": request(4_722, 24_399, 10_000, scheme=4),
+        "plain.bin": request(4_723, 24_399, 10_000),
+        "late_opening.bin": opening(4_724, 24_399, 10_000, 6_000_000),
+        "ledger_63_schemes.bin": ledger(63, [(6_000_000, 0)] * 63, [(n, 5_000 + n, 10_000, 6_000_000, 0) for n in range(1, 64)]),
+        "ledger_511_entries.bin": ledger(511, [(6_000_000, 10_200_000)], [(1, 5_000, 100_000, 6_000_000, 5_100_000)] + joined),
+        "ledger_999999.bin": ledger(999_999, [], []),
+        "ledger_unsound.bin": ledger(2, [(6_000_000, 20_000)], [(1, 4_711, 10_000, 6_000_000, 1_980_001), (1, 4_712, 5_000, 2_000_000, 0)]),
+    }
+    files = {name: closed(fields) for name, fields in files.items()}
+    return files | {
+        "altered_book.bin": altered(files["book.bin"], 20, 1),
+        "altered_request.bin": altered(files["opening.bin"], 30, 1),
+    }
+
+
 def wanted():
     programs = {
         "list_fields": listed_files(),
         "slip": slip_files(),
         "slip_refusals": refused_slip_files(),
+        "stored_ledgers": ledgers.files(),
+        "scenario": scenario_files(),
         "worked_examples": worked_examples.files(),
     }
     return {ROOT / "crates" / program / "data" / name: data for program, files in programs.items() for name, data in files.items()}

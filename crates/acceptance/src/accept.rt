@@ -1,11 +1,11 @@
 // Accept: what it answers, and what it makes of the ledger and the table. Deciding is verdict.rt's; nothing is refused here
 // once a verdict accepts.
-use ledger::records::Ledger;
-use ledger::records::Party;
-use ledger::records::Scheme;
 use crate::verdict::Verdict;
 use charge::Bill;
 use charge::Pricing;
+use ledger::records::Ledger;
+use ledger::records::Party;
+use ledger::records::Scheme;
 use reconciliation::Reconciliation;
 use tagged::file::Refusal;
 ghost use mathlib.Core.Path.{_≡_};

@@ -1,7 +1,7 @@
 // Deciding: what becomes of a priced request. All refusals of accept but 13 and pricing's are here, and nothing is changed.
+use charge::Bill;
 use ledger::records::Ledger;
 use ledger::records::Party;
-use charge::Bill;
 ghost use mathlib.Core.Path.{_≡_};
 ghost use mathlib.Core.Bool.{true};
 ghost use mathlib.Core.List.{List};

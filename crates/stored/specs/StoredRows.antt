@@ -38,6 +38,25 @@ oneScheme =
 abbrev pub oneParty : Party
 oneParty = record { scheme = 1; person = 70000; capacity = 3; «put_in» = 5; credited = 0; «paid_out» = 0 }
 
+-- a ledger of one scheme that was joined, with a part of the credit paid out
+abbrev pub joinedScheme : Ledger
+joinedScheme =
+    record {
+      month = 12;
+      connections = 2;
+      charged = 300;
+      borne = 7;
+      entries = 2;
+      count = 1;
+      schemes = record { cost = 50; fee = 1; minimum = 2; opening = 6; term = 84; fees = 1 } ∷ replicate 63 noScheme;
+    }
+
+abbrev pub joinedParties : List Party
+joinedParties =
+    record { scheme = 1; person = 70000; capacity = 3; «put_in» = 50; credited = 24; «paid_out» = 7 } ∷
+    record { scheme = 1; person = 9; capacity = 3; «put_in» = 25; credited = 0; «paid_out» = 0 } ∷
+    []
+
 abbrev pub newForm : List ℕ
 newForm = 1 ∷ 0 ∷ 4 ∷ 80 ∷ 73 ∷ 79 ∷ 78 ∷ 2 ∷ 0 ∷ 22 ∷ 0 ∷ 0 ∷ 0 ∷ 0 ∷ 0 ∷ 0 ∷ 0 ∷ 0 ∷ 0 ∷ 0 ∷ 0 ∷ 0 ∷ 0 ∷ 0 ∷ 0 ∷ 0 ∷ 0 ∷ 0 ∷ 0 ∷ 0 ∷ 0 ∷ 0 ∷ 255 ∷ 0 ∷ 2 ∷ 90 ∷ 114 ∷ []
 
@@ -45,14 +64,19 @@ abbrev pub oneForm : List ℕ
 oneForm =
     1 ∷ 0 ∷ 4 ∷ 80 ∷ 73 ∷ 79 ∷ 78 ∷ 2 ∷ 0 ∷ 22 ∷ 0 ∷ 12 ∷ 0 ∷ 0 ∷ 0 ∷ 1 ∷ 0 ∷ 0 ∷ 0 ∷ 0 ∷ 0 ∷ 0 ∷ 1 ∷ 44 ∷ 0 ∷ 0 ∷ 0 ∷ 0 ∷ 0 ∷ 0 ∷ 0 ∷ 7 ∷ 3 ∷ 0 ∷ 24 ∷ 0 ∷ 0 ∷ 0 ∷ 5 ∷ 0 ∷ 0 ∷ 0 ∷ 1 ∷ 0 ∷ 0 ∷ 0 ∷ 2 ∷ 0 ∷ 6 ∷ 0 ∷ 84 ∷ 0 ∷ 0 ∷ 0 ∷ 0 ∷ 0 ∷ 0 ∷ 0 ∷ 0 ∷ 4 ∷ 0 ∷ 30 ∷ 0 ∷ 1 ∷ 0 ∷ 1 ∷ 17 ∷ 112 ∷ 0 ∷ 0 ∷ 0 ∷ 3 ∷ 0 ∷ 0 ∷ 0 ∷ 5 ∷ 0 ∷ 0 ∷ 0 ∷ 0 ∷ 0 ∷ 0 ∷ 0 ∷ 0 ∷ 0 ∷ 0 ∷ 0 ∷ 0 ∷ 0 ∷ 0 ∷ 0 ∷ 0 ∷ 255 ∷ 0 ∷ 2 ∷ 75 ∷ 47 ∷ []
 
+abbrev pub joinedForm : List ℕ
+joinedForm =
+    1 ∷ 0 ∷ 4 ∷ 80 ∷ 73 ∷ 79 ∷ 78 ∷ 2 ∷ 0 ∷ 22 ∷ 0 ∷ 12 ∷ 0 ∷ 0 ∷ 0 ∷ 2 ∷ 0 ∷ 0 ∷ 0 ∷ 0 ∷ 0 ∷ 0 ∷ 1 ∷ 44 ∷ 0 ∷ 0 ∷ 0 ∷ 0 ∷ 0 ∷ 0 ∷ 0 ∷ 7 ∷ 3 ∷ 0 ∷ 24 ∷ 0 ∷ 0 ∷ 0 ∷ 50 ∷ 0 ∷ 0 ∷ 0 ∷ 1 ∷ 0 ∷ 0 ∷ 0 ∷ 2 ∷ 0 ∷ 6 ∷ 0 ∷ 84 ∷ 0 ∷ 0 ∷ 0 ∷ 0 ∷ 0 ∷ 0 ∷ 0 ∷ 1 ∷ 4 ∷ 0 ∷ 30 ∷ 0 ∷ 1 ∷ 0 ∷ 1 ∷ 17 ∷ 112 ∷ 0 ∷ 0 ∷ 0 ∷ 3 ∷ 0 ∷ 0 ∷ 0 ∷ 50 ∷ 0 ∷ 0 ∷ 0 ∷ 0 ∷ 0 ∷ 0 ∷ 0 ∷ 24 ∷ 0 ∷ 0 ∷ 0 ∷ 0 ∷ 0 ∷ 0 ∷ 0 ∷ 7 ∷ 4 ∷ 0 ∷ 30 ∷ 0 ∷ 1 ∷ 0 ∷ 0 ∷ 0 ∷ 9 ∷ 0 ∷ 0 ∷ 0 ∷ 3 ∷ 0 ∷ 0 ∷ 0 ∷ 25 ∷ 0 ∷ 0 ∷ 0 ∷ 0 ∷ 0 ∷ 0 ∷ 0 ∷ 0 ∷ 0 ∷ 0 ∷ 0 ∷ 0 ∷ 0 ∷ 0 ∷ 0 ∷ 0 ∷ 255 ∷ 0 ∷ 2 ∷ 37 ∷ 254 ∷ []
+
 -- put in 6, not the cost
 abbrev pub unsoundForm : List ℕ
 unsoundForm =
     1 ∷ 0 ∷ 4 ∷ 80 ∷ 73 ∷ 79 ∷ 78 ∷ 2 ∷ 0 ∷ 22 ∷ 0 ∷ 12 ∷ 0 ∷ 0 ∷ 0 ∷ 1 ∷ 0 ∷ 0 ∷ 0 ∷ 0 ∷ 0 ∷ 0 ∷ 1 ∷ 44 ∷ 0 ∷ 0 ∷ 0 ∷ 0 ∷ 0 ∷ 0 ∷ 0 ∷ 7 ∷ 3 ∷ 0 ∷ 24 ∷ 0 ∷ 0 ∷ 0 ∷ 5 ∷ 0 ∷ 0 ∷ 0 ∷ 1 ∷ 0 ∷ 0 ∷ 0 ∷ 2 ∷ 0 ∷ 6 ∷ 0 ∷ 84 ∷ 0 ∷ 0 ∷ 0 ∷ 0 ∷ 0 ∷ 0 ∷ 0 ∷ 0 ∷ 4 ∷ 0 ∷ 30 ∷ 0 ∷ 1 ∷ 0 ∷ 1 ∷ 17 ∷ 112 ∷ 0 ∷ 0 ∷ 0 ∷ 3 ∷ 0 ∷ 0 ∷ 0 ∷ 6 ∷ 0 ∷ 0 ∷ 0 ∷ 0 ∷ 0 ∷ 0 ∷ 0 ∷ 0 ∷ 0 ∷ 0 ∷ 0 ∷ 0 ∷ 0 ∷ 0 ∷ 0 ∷ 0 ∷ 255 ∷ 0 ∷ 2 ∷ 65 ∷ 55 ∷ []
 
-pub forms : (storedForm newLedger [] ≡ newForm) × (storedForm oneScheme (oneParty ∷ noParty ∷ []) ≡ oneForm)
+pub forms :
+    (storedForm newLedger [] ≡ newForm) × (storedForm oneScheme (oneParty ∷ noParty ∷ []) ≡ oneForm) × (storedForm joinedScheme joinedParties ≡ joinedForm)
 unfolding storedForm schemeParts partyParts recordBytes bytesOf checkFrom flatMap
-forms = (refl, refl)
+forms = (refl, refl, refl)
 
 abbrev refused : ℕ → ℕ → ℕ → Standing
 refused n file place = standing.Refused (refusal n file place)
@@ -66,6 +90,8 @@ readRows =
     ((0, newForm), standing.Stands) ∷
     ((1, oneForm), standing.Stands) ∷
     ((0, oneForm), refused 9 0 0) ∷
+    ((2, joinedForm), standing.Stands) ∷
+    ((1, joinedForm), refused 9 0 0) ∷
     ((1, unsoundForm), refused 13 0 0) ∷
     []
 

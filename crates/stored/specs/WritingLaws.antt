@@ -1,10 +1,12 @@
--- The cases of writing, in document 01's order, and what a refused one changes.
+-- The cases of writing, in document 01's order; what is written fits; what a refused one changes.
 use Prim.Native.Nat.{ℕ, _<_, _≤_}
-use mathlib.Core.Path.{_≡_, ap}
+use mathlib.Core.Path.{_≡_, refl, ap}
 use mathlib.Core.List.{List}
-use mathlib.Core.Bool.{true, false}
+use mathlib.Core.Bool.{Bool, true, false, cond}
+use native.Mathlib.Omega.{arith}
+use lib.Dec.{leb}
 use lib.ListN.{length}
-use borrow.Author.Tests.{le-leb, lt-leb}
+use borrow.Author.Tests.{leb-true, le-leb, lt-leb}
 use Rattle.tagged.specs.File.{refusal}
 use Rattle.tagged.specs.declared.file.Refusal.{Refusal}
 use Rattle.ledger.specs.Sound.{sound}
@@ -29,6 +31,20 @@ module _ (ledger : Ledger) (parties : List Party) (room : ℕ) (out : List ℕ) 
       writtenAnswer ledger parties room out ≡ Length (length (storedForm ledger parties))
   unfolding writtenAnswer
   write-done holds fits = rw (holds, le-leb (length (storedForm ledger parties)) (length out) fits)
+
+  -- what is written fits the output
+  pub written-within : {size : ℕ} → writtenAnswer ledger parties room out ≡ Length size → size ≤ length out
+  unfolding writtenAnswer
+  written-within done = by (sound ledger parties room) (leb (length (storedForm ledger parties)) (length out)) refl done
+    where
+      by : {size : ℕ} (holds fits : Bool) → leb (length (storedForm ledger parties)) (length out) ≡ fits →
+          cond holds (cond fits (Length (length (storedForm ledger parties))) (Refused (refusal 14 0 0))) (Refused (refusal 13 0 0)) ≡ Length size →
+          size ≤ length out
+      by {size} true true t e =
+          let same : length (storedForm ledger parties) ≡ size = cc in
+          omega (arith, leb-true (length (storedForm ledger parties)) (length out) t)
+      by true false t e = let z : _≡_ {A = ℕ} 0 1 = cc in absurd (omega arith)
+      by false fits t e = let z : _≡_ {A = ℕ} 0 1 = cc in absurd (omega arith)
 
   -- the output, by the answer
   pub output-refused : {r : Refusal} → writtenAnswer ledger parties room out ≡ Refused r → writtenOutput ledger parties room out ≡ out

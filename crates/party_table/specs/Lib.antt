@@ -1,0 +1,2 @@
+pub mod PartyTable
+pub mod PartyTableLaws

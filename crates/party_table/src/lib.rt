@@ -1,0 +1,130 @@
+// The party table, lent: a snapshot of its entries to decide on, and the writes. Every write goes
+// through a function that writes one record.
+use ledger::records::Party;
+ghost use mathlib.Core.Path.{_≡_};
+ghost use mathlib.Core.List.{_++_};
+ghost use Prim.Native.Nat.{_+_, _≤_, _<_, _^_, min};
+ghost use lib.ListN.{length, set, getD, replicate, take, drop};
+ghost use Rattle.ledger.specs.Records.{noParty};
+ghost use Rattle.ledger.specs.Entries.{paidMore, handedTo};
+ghost use Rattle.ledger.specs.Table.{creditedMore, creditEach};
+ghost use Rattle.party_table.specs.PartyTable.{snapshotOf, CreditsFit};
+
+// How many records a snapshot takes of a table of `room` records.
+fn kept(entries: u32, room: usize) -> usize
+    ensures { λ r. ⌜ r ≡ min (min entries 512) room ⌝ }
+{
+    let count = entries as usize;
+    if count < 512 {
+        if room < count { room } else { count }
+    } else {
+        if room < 512 { room } else { 512 }
+    }
+}
+
+fn no_parties() -> [Party; 512]
+    ensures { λ r. ⌜ r ≡ replicate 512 noParty ⌝ }
+{
+    [Party {
+        scheme: 0,
+        person: 0,
+        capacity: 0,
+        put_in: 0,
+        credited: 0,
+        paid_out: 0,
+    }; 512]
+}
+
+// The entries' records, and zeros up to 512.
+pub fn snapshot(table: &[Party], entries: u32) -> [Party; 512]
+    ensures { λ r. ⌜ r ≡ snapshotOf entries (now (table .entry)) ⌝ }
+{
+    let count = kept(entries, table.len());
+    let mut parties = no_parties();
+    let mut i: usize = 0;
+    while i < count {
+        parties[i] = table[i];
+        i += 1;
+    }
+    parties
+}
+
+fn credited(party: Party, credit: u64) -> Party
+    requires { ⌜ party .credited + credit < 2 ^ 64 ⌝ }
+    ensures { λ r. ⌜ r ≡ creditedMore party credit ⌝ }
+{
+    let mut changed = party;
+    changed.credited = party.credited + credit;
+    changed
+}
+
+fn paid(party: Party, amount: u64) -> Party
+    requires { ⌜ party .«paid_out» + amount < 2 ^ 64 ⌝ }
+    ensures { λ r. ⌜ r ≡ paidMore party amount ⌝ }
+{
+    let mut changed = party;
+    changed.paid_out = party.paid_out + amount;
+    changed
+}
+
+fn handed(party: Party, person: u32) -> Party
+    ensures { λ r. ⌜ r ≡ handedTo party person ⌝ }
+{
+    let mut changed = party;
+    changed.person = person;
+    changed
+}
+
+pub fn put_one(table: &mut [Party], at: usize, party: Party)
+    requires { ⌜ at < length (now table) ⌝ }
+    ensures { λ _. ⌜ now (table .exit) ≡ set (now (table .entry)) at party ⌝ }
+{
+    table[at] = party;
+}
+
+pub fn credit_one(table: &mut [Party], at: usize, credit: u64)
+    requires { ⌜ (at < length (now table)) × (getD (now table) at noParty .credited + credit < 2 ^ 64) ⌝ }
+    ensures { λ _. ⌜ now (table .exit) ≡ set (now (table .entry)) at (creditedMore (getD (now (table .entry)) at noParty) credit) ⌝ }
+{
+    table[at] = credited(table[at], credit);
+}
+
+pub fn pay_one(table: &mut [Party], at: usize, amount: u64)
+    requires { ⌜ (at < length (now table)) × (getD (now table) at noParty .«paid_out» + amount < 2 ^ 64) ⌝ }
+    ensures { λ _. ⌜ now (table .exit) ≡ set (now (table .entry)) at (paidMore (getD (now (table .entry)) at noParty) amount) ⌝ }
+{
+    table[at] = paid(table[at], amount);
+}
+
+pub fn hand_one(table: &mut [Party], at: usize, person: u32)
+    requires { ⌜ at < length (now table) ⌝ }
+    ensures { λ _. ⌜ now (table .exit) ≡ set (now (table .entry)) at (handedTo (getD (now (table .entry)) at noParty) person) ⌝ }
+{
+    table[at] = handed(table[at], person);
+}
+
+// Each entry gets its credit.
+pub fn credit_each(table: &mut [Party], entries: u32, credits: [u64; 512])
+    requires { ⌜ (entries ≤ 512) × (entries ≤ length (now table)) × CreditsFit entries (now table) credits ⌝ }
+    ensures { λ _. ⌜ now (table .exit) ≡ creditEach (now (table .entry)) (take entries credits) ⌝ }
+{
+    let count = entries as usize;
+    let mut i: usize = 0;
+    while i < count {
+        credit_one(table, i, credits[i]);
+        i += 1;
+    }
+}
+
+// The first records of the table become those of the array.
+pub fn store_each(table: &mut [Party], entries: u32, parties: [Party; 512])
+    requires { ⌜ (entries ≤ 512) × (entries ≤ length (now table)) ⌝ }
+    ensures { λ _. ⌜ now (table .exit) ≡ take entries parties ++ drop entries (now (table .entry)) ⌝ }
+{
+    let count = entries as usize;
+    let mut i: usize = 0;
+    while i < count {
+        put_one(table, i, parties[i]);
+        i += 1;
+    }
+}

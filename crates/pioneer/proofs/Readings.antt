@@ -1,0 +1,108 @@
+-- What a reading leaves of the table, by its answer.
+use Prim.Native.Nat.{ℕ, _≤_}
+use mathlib.Core.Path.{_≡_, refl, sym, _∙_, ap, subst}
+use mathlib.Core.List.{List, _++_}
+use mathlib.Core.Bool.{true, not}
+use mathlib.Core.Logic.{⊎-elim}
+use mathlib.Mathlib.Data.Bool.Basic.{dichotomy}
+use native.Mathlib.Omega.{arith}
+use lib.ListN.{length, take, drop}
+use lib.Dec.{T, leb}
+use borrow.Author.Tests.{leb-true, leb-false}
+use Rattle.tagged.specs.File.{standing, fieldsPart}
+use Rattle.tagged.specs.declared.file.Refusal.{Refusal}
+use Rattle.tagged.specs.declared.file.Standing.{Standing}
+use Rattle.tagged.specs.declared.file.Standing.the-variants.{Stands, Refused}
+use Rattle.field_values.specs.Judged.{judgeLetters}
+use Rattle.ledger.specs.Sound.{sound}
+use Rattle.ledger.specs.SoundFacts.{SoundLedger, sound-means}
+use Rattle.ledger.specs.declared.records.Party.{Party}
+use Rattle.ledger.specs.declared.records.Ledger.{Ledger}
+use Rattle.stored.specs.Rows.{storedRows}
+use Rattle.stored.specs.Layout.{placed}
+use Rattle.stored.specs.LayoutLaws.{length-placed, take-placed}
+use Rattle.stored.specs.Form.{letters, entriesIn, noParties, storedLedger}
+use Rattle.stored.specs.Reading.{inTurn, lettersAnswer, tableAnswer, fieldsAnswer, readAnswer, readBy, readBack, tableBy, readOf}
+use Rattle.stored.specs.ReadingLaws.{read-refused-9, read-refused-13}
+use Rattle.pioneer.specs.Calls.{readRefused, readResult}
+
+not-refused : {r : Refusal} → Refused r ≡ Stands → ⊥
+not-refused e = let z : _≡_ {A = ℕ} 0 1 = cc in omega arith
+
+later-stands : (first later : Standing) → inTurn first later ≡ Stands → later ≡ Stands
+later-stands Stands later e = e
+later-stands (Refused r) later e = absurd (not-refused e)
+
+-- a file that stands holds a sound ledger, whose entries have room
+fields-sound : (room : ℕ) (s : List ℕ) → tableAnswer room s ≡ Stands → sound (storedLedger s) (entriesIn s) room ≡ true
+fields-sound room s e =
+    ⊎-elim (λ short. absurd (not-refused (sym (read-refused-9 room s (leb-false (length (entriesIn s)) room short)) ∙ e)))
+    (λ fits.
+    ⊎-elim (λ unsound. absurd (not-refused (sym (read-refused-13 room s (leb-true (length (entriesIn s)) room fits) unsound) ∙ e))) (λ stands. stands)
+    (dichotomy (sound (storedLedger s) (entriesIn s) room)))
+    (dichotomy (leb (length (entriesIn s)) room))
+
+pub file-sound : (room : ℕ) (file : List ℕ) → readAnswer room file ≡ Stands →
+    sound (storedLedger (fieldsPart file)) (entriesIn (fieldsPart file)) room ≡ true
+unfolding readAnswer
+file-sound room file e =
+    let s : List ℕ = fieldsPart file in
+    let fields : fieldsAnswer room s ≡ Stands = later-stands (standing storedRows 1 file) (fieldsAnswer room s) e in
+    fields-sound room s (later-stands (lettersAnswer (judgeLetters letters s)) (tableAnswer room s) fields)
+
+entries-count : (s : List ℕ) → storedLedger s .entries ≡ length (entriesIn s)
+unfolding storedLedger
+entries-count s = refl
+
+module _ (ledger : Ledger) (table : List Party) (file : List ℕ) where
+  abbrev s : List ℕ
+  s = fieldsPart file
+
+  -- the same answer and ledger as with the table
+  pub read-same : readResult (readBack ledger (length table) file .answer) (readBack ledger (length table) file .ledger)
+      ≡ readResult (readOf ledger table file .answer) (readOf ledger table file .ledger)
+  read-same = by-answer (readAnswer (length table) file)
+    where
+      by-answer : (answer : Standing) → readResult (readBy answer ledger s .answer) (readBy answer ledger s .ledger)
+          ≡ readResult (tableBy answer ledger table s .answer) (tableBy answer ledger table s .ledger)
+      by-answer Stands = refl
+      by-answer (Refused r) = refl
+
+  pub refused-leaves : T (readRefused (readBack ledger (length table) file .answer)) → table ≡ readOf ledger table file .table
+  refused-leaves = by-answer (readAnswer (length table) file)
+    where
+      by-answer : (answer : Standing) → T (readRefused (readBy answer ledger s .answer)) → table ≡ tableBy answer ledger table s .table
+      by-answer Stands refused = absurd refused
+      by-answer (Refused r) refused = refl
+
+  stands-means : readAnswer (length table) file ≡ Stands → SoundLedger (storedLedger s) (entriesIn s) (length table)
+  stands-means e = sound-means (storedLedger s) (entriesIn s) (length table) (file-sound (length table) file e)
+
+  pub read-length : length (readOf ledger table file .table) ≡ length table
+  read-length = by-answer (readAnswer (length table) file) refl
+    where
+      by-answer : (answer : Standing) → readAnswer (length table) file ≡ answer → length (tableBy answer ledger table s .table) ≡ length table
+      by-answer Stands e = length-placed (entriesIn s) table (subst (λ (n : ℕ). n ≤ length table) (entries-count s) (stands-means e .in-table))
+      by-answer (Refused r) e = refl
+
+  -- what storing the entries needs and leaves
+  pub record Stores (entries : ℕ) (parties : List Party) : Type 0 where
+    pub limit : entries ≤ 512
+    pub room : entries ≤ length table
+    pub leaves : take entries parties ++ drop entries table ≡ readOf ledger table file .table
+
+  entries-stored : (n : ℕ) → n ≡ length (entriesIn s) → take n (placed (entriesIn s) noParties) ++ drop n table ≡ placed (entriesIn s) table
+  unfolding placed
+  entries-stored n e = rw e (ap (λ (entries : List Party). entries ++ drop (length (entriesIn s)) table) (take-placed (entriesIn s) noParties))
+
+  pub standing-stores : T (not (readRefused (readBack ledger (length table) file .answer))) →
+      Stores (readBack ledger (length table) file .ledger .entries) (readBack ledger (length table) file .parties)
+  standing-stores h =
+      let e : readAnswer (length table) file ≡ Stands = stands (readAnswer (length table) file) h in
+      let means : SoundLedger (storedLedger s) (entriesIn s) (length table) = stands-means e in
+      rw e
+      (record { limit = means .entries; room = means .in-table; leaves = rw e (entries-stored (storedLedger s .entries) (entries-count s)) })
+    where
+      stands : (answer : Standing) → T (not (readRefused (readBy answer ledger s .answer))) → answer ≡ Stands
+      stands Stands h = refl
+      stands (Refused r) h = absurd h

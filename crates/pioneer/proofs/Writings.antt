@@ -1,0 +1,37 @@
+-- A writing leaves the output as long as it was.
+use Prim.Native.Nat.{ℕ}
+use mathlib.Core.Path.{_≡_, _∙_, ap}
+use mathlib.Core.List.{List}
+use mathlib.Core.Bool.{true}
+use mathlib.Core.Logic.{⊎-elim}
+use mathlib.Mathlib.Data.Bool.Basic.{dichotomy}
+use lib.ListN.{length}
+use lib.Dec.{leb}
+use borrow.Author.Tests.{leb-true, leb-false}
+use Rattle.ledger.specs.Sound.{sound}
+use Rattle.ledger.specs.declared.records.Party.{Party}
+use Rattle.ledger.specs.declared.records.Ledger.{Ledger}
+use Rattle.stored.specs.LayoutLaws.{length-placed}
+use Rattle.stored.specs.Form.{storedForm}
+use Rattle.stored.specs.Writing.{writtenOutput}
+use Rattle.stored.specs.WritingLaws.{write-refused-13, write-refused-14, write-done, output-refused, output-done}
+
+module _ (ledger : Ledger) (parties : List Party) (room : ℕ) (out : List ℕ) where
+  abbrev form : List ℕ
+  form = storedForm ledger parties
+
+  standing-length : sound ledger parties room ≡ true → length (writtenOutput ledger parties room out) ≡ length out
+  standing-length stands =
+      ⊎-elim
+      (λ short.
+      ap length
+      (output-refused ledger parties room out (write-refused-14 ledger parties room out stands (leb-false (length form) (length out) short))))
+      (λ fits.
+      ap length (output-done ledger parties room out (write-done ledger parties room out stands (leb-true (length form) (length out) fits)))
+      ∙ length-placed form out (leb-true (length form) (length out) fits))
+      (dichotomy (leb (length form) (length out)))
+
+  pub written-length : length (writtenOutput ledger parties room out) ≡ length out
+  written-length =
+      ⊎-elim (λ unsound. ap length (output-refused ledger parties room out (write-refused-13 ledger parties room out unsound))) standing-length
+      (dichotomy (sound ledger parties room))

@@ -1,0 +1,53 @@
+use Prim.Native.Nat.{_≤_, _-_}
+use borrow.Author.Needs.{needs}
+use Rattle.scenario.proofs.lines.write_entries.Statement.{statement}
+use Rattle.scenario.proofs.lines.write_entries.Tie as tie
+
+abbrev Inv-loop : tie.InvT-loop
+Inv-loop entries parties i₀ i = i ≤ entries
+
+abbrev μ-loop : tie.MeasureT-loop
+μ-loop entries parties i₀ i = entries - i
+
+loop-holds : tie.Need-loop-holds Inv-loop μ-loop
+loop-holds c = search needs
+
+add-write-entry : tie.Need-add-write-entry Inv-loop μ-loop
+add-write-entry c = search needs
+
+mul-write-entry : tie.Need-mul-write-entry Inv-loop μ-loop
+mul-write-entry c = search needs
+
+array-copy-out-write-entry : tie.Need-array-copy-out-write-entry Inv-loop μ-loop
+array-copy-out-write-entry c = search needs
+
+write-entry-requires : tie.Need-write-entry-requires Inv-loop μ-loop
+write-entry-requires c κs = search needs
+
+add-i : tie.Need-add-i Inv-loop μ-loop
+add-i c = search needs
+
+loop-less : tie.Need-loop-less Inv-loop μ-loop
+loop-less c = search needs
+
+loop-again : tie.Need-loop-again Inv-loop μ-loop
+loop-again c = search needs
+
+returns : tie.Need-returns Inv-loop μ-loop
+returns c = search needs
+
+pub write-entries-spec : {M : Type 1} → statement M
+write-entries-spec =
+    tie.close
+    (tie.spec
+    Inv-loop
+    μ-loop
+    loop-holds
+    add-write-entry
+    mul-write-entry
+    array-copy-out-write-entry
+    write-entry-requires
+    add-i
+    loop-less
+    loop-again
+    returns)
