@@ -8,6 +8,7 @@ pub mod AcceptColumns
 pub mod AcceptNeeds
 pub mod AcceptFacts
 pub mod AcceptKeepsSound
+pub mod AlteredFiles
 pub mod AcceptRows
 pub mod MarkedFigures
 pub mod Promises

@@ -1,0 +1,52 @@
+use mathlib.Core.Path.{ap, _∙_}
+use borrow.Author.Needs.{needs}
+use Rattle.stored_calls.specs.StoredCalls.{acceptOnRead}
+use Rattle.stored_calls.proofs.Ends.{once-read}
+use Rattle.stored_calls.proofs.accept_stored.Statement.{statement}
+use Rattle.stored_calls.proofs.accept_stored.Tie as tie
+
+read-stored-requires : tie.Need-read-stored-requires
+read-stored-requires c κs = search needs
+
+enum-told : tie.Need-enum-told
+enum-told c = search needs
+
+accept-read-requires : tie.Need-accept-read-requires
+accept-read-requires c κs = search needs
+
+enum-known-answer : tie.Need-enum-known-answer
+enum-known-answer c = search needs
+
+same-length : tie.Need-same-length
+same-length c = search needs
+
+returns : tie.Need-returns
+returns c =
+    let called = c .before .before in
+    let told = called .before .before in
+    let stood = told .before .before in
+    let args = stood .before .before .before .before .before .args in
+    let end = once-read (stood .read-stored .result) (λ read. acceptOnRead read (args .book .now) (args .request .now) (args .out .now)) (told .enum-told .given .1)
+    (stood .read-stored .ensures) in
+    (called .accept-read .ensures .0 ∙ ap (λ e. e .answer) end, called .accept-read .ensures .1 ∙ ap (λ e. e .output) end)
+
+returns-2 : tie.Need-returns-2
+returns-2 c =
+    let told = c .before in
+    let stood = told .before .before in
+    let args = stood .before .before .before .before .before .args in
+    let end = once-read (stood .read-stored .result) (λ read. acceptOnRead read (args .book .now) (args .request .now) (args .out .now)) (told .answer .given .1)
+    (stood .read-stored .ensures) in
+    (ap (λ e. e .answer) end, ap (λ e. e .output) end)
+
+pub accept-stored-spec : {M : Type 1} → statement M
+accept-stored-spec =
+    tie.close
+    (tie.spec
+    read-stored-requires
+    enum-told
+    accept-read-requires
+    enum-known-answer
+    same-length
+    returns
+    returns-2)

@@ -1,0 +1,57 @@
+use mathlib.Core.Path.{ap, _∙_}
+use borrow.Author.Needs.{needs}
+use Rattle.ledger.specs.Entries.{payOutOf}
+use Rattle.stored.specs.Reading.{ReadEnd}
+use Rattle.stored_calls.specs.StoredCalls.{CallEnd, entryCallOnRead}
+use Rattle.stored_calls.specs.declared.StoredAnswer.{StoredAnswer}
+use Rattle.stored_calls.proofs.Ends.{once-read}
+use Rattle.stored_calls.proofs.pay_out_stored.Statement.{statement}
+use Rattle.stored_calls.proofs.pay_out_stored.Tie as tie
+
+read-stored-requires : tie.Need-read-stored-requires
+read-stored-requires c κs = search needs
+
+enum-told : tie.Need-enum-told
+enum-told c = search needs
+
+pay-out-read-requires : tie.Need-pay-out-read-requires
+pay-out-read-requires c κs = search needs
+
+enum-known-answer : tie.Need-enum-known-answer
+enum-known-answer c = search needs
+
+same-length : tie.Need-same-length
+same-length c = search needs
+
+returns : tie.Need-returns
+returns c =
+    let called = c .before .before in
+    let told = called .before .before in
+    let stood = told .before .before in
+    let args = stood .before .before .before .args in
+    let call : (read : ReadEnd) → CallEnd StoredAnswer =
+    λ read. entryCallOnRead read (λ ledger table. payOutOf ledger table (args .entry) (args .amount)) (args .out .now) in
+    let end = once-read (stood .read-stored .result) call (told .enum-told .given .1) (stood .read-stored .ensures) in
+    (called .pay-out-read .ensures .0 ∙ ap (λ e. e .answer) end, called .pay-out-read .ensures .1 ∙ ap (λ e. e .output) end)
+
+returns-2 : tie.Need-returns-2
+returns-2 c =
+    let told = c .before in
+    let stood = told .before .before in
+    let args = stood .before .before .before .args in
+    let call : (read : ReadEnd) → CallEnd StoredAnswer =
+    λ read. entryCallOnRead read (λ ledger table. payOutOf ledger table (args .entry) (args .amount)) (args .out .now) in
+    let end = once-read (stood .read-stored .result) call (told .answer .given .1) (stood .read-stored .ensures) in
+    (ap (λ e. e .answer) end, ap (λ e. e .output) end)
+
+pub pay-out-stored-spec : {M : Type 1} → statement M
+pay-out-stored-spec =
+    tie.close
+    (tie.spec
+    read-stored-requires
+    enum-told
+    pay-out-read-requires
+    enum-known-answer
+    same-length
+    returns
+    returns-2)
