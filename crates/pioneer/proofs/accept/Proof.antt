@@ -67,10 +67,10 @@ use Rattle.party_table.proofs.snapshot as party-table-snapshot′
 use Rattle.party_table.proofs.snapshot.Symbol as party-table-snapshot-def
 use Rattle.party_table.proofs.snapshot.Symbol.{name as #party_table·snapshot}
 use Rattle.party_table.proofs.snapshot.Met as party-table-snapshot-thm
-use Rattle.acceptance.proofs.accept.accept as ledger-accept-accept′
-use Rattle.acceptance.proofs.accept.accept.Symbol as ledger-accept-accept-def
+use Rattle.acceptance.proofs.accept.accept as acceptance-accept-accept′
+use Rattle.acceptance.proofs.accept.accept.Symbol as acceptance-accept-accept-def
 use Rattle.acceptance.proofs.accept.accept.Symbol.{name as #acceptance·accept·accept}
-use Rattle.acceptance.proofs.accept.accept.Met as ledger-accept-accept-thm
+use Rattle.acceptance.proofs.accept.accept.Met as acceptance-accept-accept-thm
 use Rattle.pioneer.proofs.keeps_table as keeps-table′
 use Rattle.pioneer.proofs.keeps_table.Symbol as keeps-table-def
 use Rattle.pioneer.proofs.keeps_table.Symbol.{name as #pioneer·keeps-table}
@@ -180,10 +180,10 @@ module _ {M : Type 1} (𝓤 : URA M) (H : Heap 𝓤) (A : Atoms 𝓤) (W : Given
 
   module _ (𝓣 : Tables 𝓤 H) (fm : FmC 𝓤 H (W .laws) (𝓣 .C)) (known-party-table-snapshot : Triple 𝓤 (𝓣 .C #party_table·snapshot)
       (tripleOf 𝓤 H A party-table-snapshot′.signature (party-table-snapshot′.spec 𝓤 H A mem run)))
-      (known-ledger-accept-accept : Triple 𝓤 (𝓣 .C #acceptance·accept·accept) (tripleOf 𝓤 H A ledger-accept-accept′.signature
-      (ledger-accept-accept′.spec 𝓤 H A mem run))) (known-keeps-table : Triple 𝓤 (𝓣 .C #pioneer·keeps-table)
-      (tripleOf 𝓤 H A keeps-table′.signature (keeps-table′.spec 𝓤 H A mem run))) (known-accept-result : Triple 𝓤 (𝓣 .C #pioneer·accept-result)
-      (tripleOf 𝓤 H A accept-result′.signature (accept-result′.spec 𝓤 H A mem run)))
+      (known-acceptance-accept-accept : Triple 𝓤 (𝓣 .C #acceptance·accept·accept)
+      (tripleOf 𝓤 H A acceptance-accept-accept′.signature (acceptance-accept-accept′.spec 𝓤 H A mem run)))
+      (known-keeps-table : Triple 𝓤 (𝓣 .C #pioneer·keeps-table) (tripleOf 𝓤 H A keeps-table′.signature (keeps-table′.spec 𝓤 H A mem run)))
+      (known-accept-result : Triple 𝓤 (𝓣 .C #pioneer·accept-result) (tripleOf 𝓤 H A accept-result′.signature (accept-result′.spec 𝓤 H A mem run)))
       (known-carry-out : Triple 𝓤 (𝓣 .C #pioneer·carry-out) (tripleOf 𝓤 H A carry-out′.signature (carry-out′.spec 𝓤 H A mem run))) where
     walk : ent 𝓤 (onEntry 𝓤 H A accept′.signature (κ₀, (κ₁, (κ₂, tt))) (q₀, (q₁, (q₂, tt))) arguments values)
         (WpFn 𝓤 H (𝓣 .C) (𝓣 .Λ) code.function (ledger-value ledger ∷ table-value ∷ book-value ∷ request-value ∷ []) Post)
@@ -256,7 +256,7 @@ module _ {M : Type 1} (𝓤 : URA M) (H : Heap 𝓤) (A : Atoms 𝓤) (W : Given
         copied-known $
         fjoin ! $ owned ! LedgerRow (Is LedgerRow) (ledger-makes 𝓤 H A) ledger _ ledger-fits $
         fjoin ! $ nothing ! $ move ! (8 ∷ 0 ∷ []) $ join ! $ move ! (9 ∷ 0 ∷ []) $ join ! $ join ! $ nothing ! $ move ! (1 ∷ 0 ∷ []) $ join ! $
-        use1 W (raw ((tripleOf 𝓤 H A ledger-accept-accept′.signature (ledger-accept-accept′.spec 𝓤 H A mem run)) .pre (
+        use1 W (raw ((tripleOf 𝓤 H A acceptance-accept-accept′.signature (acceptance-accept-accept′.spec 𝓤 H A mem run)) .pre (
           (
             (κ₁, (κ₂, tt)),
             (q₁, (q₂, tt)),
@@ -267,12 +267,16 @@ module _ {M : Type 1} (𝓤 : URA M) (H : Heap 𝓤) (A : Atoms 𝓤) (W : Given
           tt,
         )))
         (id⊢ 𝓤 _) $
-        calls-at ! fm (tripleOf 𝓤 H A ledger-accept-accept′.signature (ledger-accept-accept′.spec 𝓤 H A mem run)) known-ledger-accept-accept (
+        calls-at ! fm (tripleOf 𝓤 H A acceptance-accept-accept′.signature (acceptance-accept-accept′.spec 𝓤 H A mem run))
+        known-acceptance-accept-accept (
           (
             (κ₁, (κ₂, tt)),
             (q₁, (q₂, tt)),
             tt,
-            (ledger, (parties, ((length table), (book-at book-name book, (request-at request-name request, tt))))),
+            (
+              ledger,
+              (parties, ((length table), (book-at book-name book, (request-at request-name request, tt)))),
+            ),
             (ledger-value ledger ∷ [], (copied-value ∷ [], (vint w64 (length table) ∷ [], (book-value ∷ [], (request-value ∷ [], tt))))),
           ),
           tt,
@@ -281,11 +285,11 @@ module _ {M : Type 1} (𝓤 : URA M) (H : Heap 𝓤) (A : Atoms 𝓤) (W : Given
         (and-then ! (load ! (from ! (stop !)) (look ! 16 refl)) (and-then ! (load ! (from ! (stop !)) (look ! 28 refl))
         (and-then ! (load ! (from ! (stop !)) (look ! 26 refl)) (no-more !)))))) (λ decided-value.
         use1 W (later (some (λ (decided : Plan). ((‵ (flft κ₁ q₁) ⊛ ‵ (flft κ₂ q₂) ⊛ ‵ ftrue) ⊛ ‵ (PlanRow .own decided (decided-value ∷ []))) ⊛ raw
-        (ensured 𝓤 H A ledger-accept-accept′.ended (ledger-accept-accept′.clauses 𝓤 H A mem run) (κ₁, (κ₂, tt))
+        (ensured 𝓤 H A acceptance-accept-accept′.ended (acceptance-accept-accept′.clauses 𝓤 H A mem run) (κ₁, (κ₂, tt))
         (ledger, (parties, ((length table), (book-at book-name book, (request-at request-name request, tt))))) tt decided)))) (id⊢ 𝓤 _) $
         await ! tt $ pick ! (λ decided.
         split ! $ move ! (1 ∷ []) $ use1 W (raw (fact 𝓤 (decided ≡ planOf ledger parties (length table) pricing))) (exE 𝓤 _ (λ last.
-        snd∗ 𝓤 (sem 𝓤 H A (lasts ledger-accept-accept′.ended (κ₁, (κ₂, tt)) (
+        snd∗ 𝓤 (sem 𝓤 H A (lasts acceptance-accept-accept′.ended (κ₁, (κ₂, tt)) (
           ledger,
           (parties, ((length table), (book-at book-name book, (request-at request-name request, tt)))),
         ) last))
@@ -430,10 +434,10 @@ module _ {M : Type 1} (𝓤 : URA M) (H : Heap 𝓤) (A : Atoms 𝓤) (W : Given
 module _ {M : Type 1} (𝓤 : URA M) (H : Heap 𝓤) (A : Atoms 𝓤) (W : Given 𝓤 H A) (mem : Memory → SProp 𝓤) (run : Routine → Fun 𝓤)
     (𝓣 : Tables 𝓤 H) (known-party-table-snapshot : Triple 𝓤 (𝓣 .C #party_table·snapshot)
     (tripleOf 𝓤 H A party-table-snapshot′.signature (party-table-snapshot′.spec 𝓤 H A mem run)))
-    (known-ledger-accept-accept : Triple 𝓤 (𝓣 .C #acceptance·accept·accept) (tripleOf 𝓤 H A ledger-accept-accept′.signature
-    (ledger-accept-accept′.spec 𝓤 H A mem run))) (known-keeps-table : Triple 𝓤 (𝓣 .C #pioneer·keeps-table)
-    (tripleOf 𝓤 H A keeps-table′.signature (keeps-table′.spec 𝓤 H A mem run))) (known-accept-result : Triple 𝓤 (𝓣 .C #pioneer·accept-result)
-    (tripleOf 𝓤 H A accept-result′.signature (accept-result′.spec 𝓤 H A mem run)))
+    (known-acceptance-accept-accept : Triple 𝓤 (𝓣 .C #acceptance·accept·accept)
+    (tripleOf 𝓤 H A acceptance-accept-accept′.signature (acceptance-accept-accept′.spec 𝓤 H A mem run)))
+    (known-keeps-table : Triple 𝓤 (𝓣 .C #pioneer·keeps-table) (tripleOf 𝓤 H A keeps-table′.signature (keeps-table′.spec 𝓤 H A mem run)))
+    (known-accept-result : Triple 𝓤 (𝓣 .C #pioneer·accept-result) (tripleOf 𝓤 H A accept-result′.signature (accept-result′.spec 𝓤 H A mem run)))
     (known-carry-out : Triple 𝓤 (𝓣 .C #pioneer·carry-out) (tripleOf 𝓤 H A carry-out′.signature (carry-out′.spec 𝓤 H A mem run))) where
   walks : Walks 𝓤 H A accept′.ended stayed (WpFn 𝓤 H (𝓣 .C) (𝓣 .Λ) code.function) (accept′.clauses 𝓤 H A mem run)
   walks =
@@ -453,7 +457,7 @@ module _ {M : Type 1} (𝓤 : URA M) (H : Heap 𝓤) (A : Atoms 𝓤) (W : Given
       (κs .0) (qs .0) (κs .1 .0) (qs .1 .0) (κs .1 .1 .0) (qs .1 .1 .0) (a .0) (a .1 .0 .ptr .0) (a .1 .0 .ptr .1) (a .1 .0 .name) (a .1 .0 .now)
       (a .1 .1 .0 .ptr .0) (a .1 .1 .0 .ptr .1) (a .1 .1 .0 .name) (a .1 .1 .0 .now) (a .1 .1 .1 .0 .ptr .0) (a .1 .1 .1 .0 .ptr .1)
       (a .1 .1 .1 .0 .name) (a .1 .1 .1 .0 .now) (are .0) (are .1 .0 .0 .1) (are .1 .1 .0 .0 .1) (are .1 .1 .1 .0 .0 .1) 𝓣 (fmOf 𝓤 H (W .laws) 𝓣)
-      known-party-table-snapshot known-ledger-accept-accept known-keeps-table known-accept-result known-carry-out))
+      known-party-table-snapshot known-acceptance-accept-accept known-keeps-table known-accept-result known-carry-out))
 
   meets : Meets 𝓤 H A accept′.signature (WpFn 𝓤 H (𝓣 .C) (𝓣 .Λ) code.function) (accept′.spec 𝓤 H A mem run)
   meets =
@@ -476,9 +480,9 @@ accept-spec 𝓤 H 𝓜 𝓖 𝓡 =
     (cited 𝓤 H (tripleOf 𝓤 H (𝓖 .A) party-table-snapshot′.signature (party-table-snapshot′.spec 𝓤 H (𝓖 .A) (𝓜 .mem) (𝓡 .run))) 𝓜 𝓡 code.env
     #party_table·snapshot
     party-table-snapshot-def.routine code.calls-party-table·snapshot (party-table-snapshot-thm.met 𝓤 H 𝓜 𝓖 𝓡))
-    (cited 𝓤 H (tripleOf 𝓤 H (𝓖 .A) ledger-accept-accept′.signature (ledger-accept-accept′.spec 𝓤 H (𝓖 .A) (𝓜 .mem) (𝓡 .run))) 𝓜 𝓡 code.env
+    (cited 𝓤 H (tripleOf 𝓤 H (𝓖 .A) acceptance-accept-accept′.signature (acceptance-accept-accept′.spec 𝓤 H (𝓖 .A) (𝓜 .mem) (𝓡 .run))) 𝓜 𝓡 code.env
     #acceptance·accept·accept
-    ledger-accept-accept-def.routine code.calls-acceptance·accept·accept (ledger-accept-accept-thm.met 𝓤 H 𝓜 𝓖 𝓡))
+    acceptance-accept-accept-def.routine code.calls-acceptance·accept·accept (acceptance-accept-accept-thm.met 𝓤 H 𝓜 𝓖 𝓡))
     (cited 𝓤 H (tripleOf 𝓤 H (𝓖 .A) keeps-table′.signature (keeps-table′.spec 𝓤 H (𝓖 .A) (𝓜 .mem) (𝓡 .run))) 𝓜 𝓡 code.env #pioneer·keeps-table
     keeps-table-def.routine code.calls-pioneer·keeps-table (keeps-table-thm.met 𝓤 H 𝓜 𝓖 𝓡))
     (cited 𝓤 H (tripleOf 𝓤 H (𝓖 .A) accept-result′.signature (accept-result′.spec 𝓤 H (𝓖 .A) (𝓜 .mem) (𝓡 .run))) 𝓜 𝓡 code.env #pioneer·accept-result
