@@ -1,9 +1,9 @@
--- Document 01, 'Accept': what holds of a joiner's contribution and of the credits made of it, and that M7 holds of the rules.
+-- Document 01, 'Accept': what holds of a joiner's contribution and of the credits made of it.
 use Prim.Native.Nat.{ℕ, zero, suc, _+_, _*_, _-_, _/_, _≤_, _<_, zero-le}
 use mathlib.Core.Path.{_≡_, refl, sym, ap, ap₂, _∙_}
 use mathlib.Core.List.{List, [], _∷_}
 use mathlib.Core.Bool.{Bool, true, false, cond}
-use native.Mathlib.Nat.{div-mul-le-self, lt-div-mul-add, div-le-of-le-mul, div-lt-iff-lt-mul, le-div-iff-mul-le, mul-div-cancel, zero-div, mul-pos, le-of-suc-le-suc, not-suc-le-zero, add-zero, zero-add, add-assoc, mul-zero, suc-inj}
+use native.Mathlib.Nat.{div-mul-le-self, lt-div-mul-add, div-le-of-le-mul, le-div-iff-mul-le, mul-div-cancel, zero-div, le-of-suc-le-suc, not-suc-le-zero, add-zero, zero-add, add-assoc, mul-zero, suc-inj}
 use native.Mathlib.Omega.{arith}
 use lib.Dec.{eqb}
 use lib.ListN.{length, getD}
@@ -172,29 +172,3 @@ contribution-high cost k total positive = omega (arith, lt-div-mul-add {a = cost
 
 pub contribution-le-cost : (cost k total : ℕ) → contribution cost k total ≤ cost
 contribution-le-cost cost k total = div-le-of-le-mul (total + k) (omega arith)
-
-pub contribution-below-cost : (cost k total : ℕ) → 0 < total → 0 < cost → contribution cost k total < cost
-contribution-below-cost cost k total positive some =
-    div-lt-iff-lt-mul {k = total + k} (omega arith) .1 (omega (arith, mul-pos some positive))
-
--- ---- M7: "cost 6,000,000, fee and minimum 20,000, capacities 10,000, 5,000, 5,000: collected 2,000,000 and 1,500,000; credits 1,980,000, then 986,666
--- and 493,334"
-
--- what a joiner of capacity 5,000 pays to scheme 1 and what each entry is credited, with the columns as they stand before the joining
-pub record MarkedJoining (schemes capacities : List ℕ) (collected : ℕ) (credited : List ℕ) : Type 0 where
-  pub pays : contribution 6000000 5000 (capacityOf 1 schemes capacities) ≡ collected
-  pub enough : 20000 ≤ collected
-  pub shared : credits 1 (collected - 20000) schemes capacities ≡ credited
-
--- both joinings, and both again with entries of another scheme among the scheme's own
-pub joining-marked-figures : MarkedJoining (1 ∷ []) (10000 ∷ []) 2000000 (1980000 ∷ [])
-    × MarkedJoining (1 ∷ 1 ∷ []) (10000 ∷ 5000 ∷ []) 1500000 (986666 ∷ 493334 ∷ [])
-    × MarkedJoining (2 ∷ 1 ∷ []) (7000 ∷ 10000 ∷ []) 2000000 (0 ∷ 1980000 ∷ [])
-    × MarkedJoining (2 ∷ 1 ∷ 2 ∷ 1 ∷ []) (7000 ∷ 10000 ∷ 900 ∷ 5000 ∷ []) 1500000 (0 ∷ 986666 ∷ 0 ∷ 493334 ∷ [])
-unfolding sumOver weights shares
-joining-marked-figures = (
-  record { pays = refl; enough = omega arith; shared = refl },
-  record { pays = refl; enough = omega arith; shared = refl },
-  record { pays = refl; enough = omega arith; shared = refl },
-  record { pays = refl; enough = omega arith; shared = refl },
-)

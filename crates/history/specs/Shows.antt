@@ -372,10 +372,6 @@ module _ (history : List Event) (start : List Party) where
         capacities = shown-column (λ party. party .capacity) i;
       }
 
-pub columns-same : (start : List Party) (history : List Event) (state : State) → Shows start history state → schemes history ≤ 64 →
-    columnsOf (state .ledger) (state .table) ≡ columnsIn history
-columns-same start history state shows few = ap₂ columnsOf (shows .ledger) (shows .table) ∙ columns-shown history start few
-
 -- ---- one more bill
 
 module _ (history : List Event) (start : List Party) (fresh : Fresh history) where
