@@ -1,6 +1,6 @@
 -- One more entry at the end of the list: what it adds to each scheme's sums.
 use Prim.Native.Nat.{ℕ, suc, _+_, _*_, _-_, _<_, _≤_}
-use mathlib.Core.Path.{_≡_, refl, ap, sym, subst, _∙_}
+use mathlib.Core.Path.{_≡_, refl, sym, subst, _∙_}
 use mathlib.Core.List.{List, [], _∷_, _++_, map, map-append}
 use mathlib.Core.Bool.{Bool, true, false, cond}
 use native.Mathlib.Omega.{arith}
@@ -188,43 +188,33 @@ pub record Kept (tallies : Tallies) (parties : List Party) (i : ℕ) : Type 0 wh
   pub tallied : Tallied tallies (take i parties)
   pub bounded : Bounded i tallies
 
-zero-at : (column : List ℕ) → column ≡ replicate 64 0 → (k : ℕ) → k < 64 → getD column k 0 ≡ 0
-zero-at column e k h = ap (λ (l : List ℕ). getD l k 0) e ∙ getD-replicate {A = ℕ} 64 k 0 0 h
+zero-at : (k : ℕ) → k < 64 → getD {A = ℕ} (replicate 64 0) k 0 ≡ 0
+zero-at k h = getD-replicate {A = ℕ} 64 k 0 0 h
 
-zero-length : (column : List ℕ) → column ≡ replicate 64 0 → length column ≡ 64
-zero-length column e = ap (λ (l : List ℕ). length l) e ∙ length-replicate {A = ℕ} 64 0
+zero-length : length {A = ℕ} (replicate 64 0) ≡ 64
+zero-length = length-replicate {A = ℕ} 64 0
 
-pub kept-start : (tallies : Tallies) (parties : List Party) → tallies ≡ noTallies → Kept tallies parties 0
+pub kept-start : (parties : List Party) → Kept noTallies parties 0
 unfolding sumOver firstPutIn
-kept-start tallies parties e =
-    let many : tallies .entries ≡ replicate 64 0 = ap (λ (t : Tallies). t .entries) e in
-    let put : tallies .«put_in» ≡ replicate 64 0 = ap (λ (t : Tallies). t .«put_in») e in
-    let credits : tallies .credited ≡ replicate 64 0 = ap (λ (t : Tallies). t .credited) e in
-    let firsts : tallies .first ≡ replicate 64 0 = ap (λ (t : Tallies). t .first) e in
+kept-start parties =
     record {
-      sized = record { many = zero-length _ many; put = zero-length _ put; credits = zero-length _ credits; firsts = zero-length _ firsts };
-      tallied = record { many = zero-at _ many; put = zero-at _ put; credits = zero-at _ credits; firsts = zero-at _ firsts };
-      bounded =
-          record {
-            many = λ k h. omega (arith, zero-at (tallies .entries) many k h);
-            put = λ k h. omega (arith, zero-at (tallies .«put_in») put k h);
-            credits = λ k h. omega (arith, zero-at (tallies .credited) credits k h);
-          };
+      sized = record { many = zero-length; put = zero-length; credits = zero-length; firsts = zero-length };
+      tallied = record { many = zero-at; put = zero-at; credits = zero-at; firsts = zero-at };
+      bounded = record { many = λ k h. omega (arith, zero-at k h); put = λ k h. omega (arith, zero-at k h); credits = λ k h. omega (arith, zero-at k h) };
     }
 
-pub kept-more : (tallies next : Tallies) (parties : List Party) (i count : ℕ) (none : Party) → next ≡ tallyWith tallies (getD parties i none)
-    → partySound count (getD parties i none) ≡ true → i < length parties → Kept tallies parties i → Kept next parties (i + 1)
-kept-more tallies next parties i count none e sound h kept =
+pub kept-more : (tallies : Tallies) (parties : List Party) (i count : ℕ) (none : Party) → partySound count (getD parties i none) ≡ true → i < length parties
+    → Kept tallies parties i → Kept (tallyWith tallies (getD parties i none)) parties (i + 1)
+kept-more tallies parties i count none sound h kept =
     let b : PartyBounds count (getD parties i none) = party-bounds count (getD parties i none) sound in
     let more : take (i + 1) parties ≡ take i parties ++ (getD parties i none ∷ []) = subst (λ (n : ℕ). take n parties ≡ take i parties ++ (getD parties i none ∷ [])) (sym (add-one i)) (take-suc parties i none h) in
-    rw e
-    (record {
+    record {
       sized = sized-more tallies (getD parties i none) (b .numbered) (kept .sized);
       tallied =
           subst (λ (l : List Party). Tallied (tallyWith tallies (getD parties i none)) l) (sym more)
           (tallied-more tallies (getD parties i none) (b .numbered) (kept .sized) (take i parties) (kept .tallied));
       bounded = bounded-more tallies (getD parties i none) (b .numbered) (kept .sized) i (b .put) (b .credits) (kept .bounded);
-    })
+    }
 
 pub kept-end : (tallies : Tallies) (parties : List Party) (i entries : ℕ) → Kept tallies parties i → i ≡ entries → entries ≤ 512
     → Tallied tallies (take entries parties) × Bounded 512 tallies

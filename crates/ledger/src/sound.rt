@@ -5,12 +5,12 @@ use crate::records::Scheme;
 ghost use mathlib.Core.Path.{_≡_};
 ghost use mathlib.Core.Bool.{true, cond};
 ghost use mathlib.Core.List.{List};
-ghost use Prim.Native.Nat.{ℕ, _<_, _≤_};
+ghost use Prim.Native.Nat.{_*_, _≤_};
 ghost use lib.Dec.{eqb};
-ghost use lib.ListN.{take, drop, getD};
+ghost use lib.ListN.{take, drop};
 ghost use Rattle.ledger.specs.declared.records.Party.{Party};
 ghost use Rattle.ledger.specs.Sound.{countsSound, sumsSound, partySound, partiesSound, accountsSound, schemesSound, isZero, allZero, sound};
-ghost use Rattle.ledger.specs.Tallied.{noTallies, tallyWith, Tallied, Bounded};
+ghost use Rattle.ledger.specs.Tallied.{noTallies, Tallied, Bounded};
 
 // What the entries of each scheme come to: how many, put in, credited, and what the first put in.
 pub struct Tallies {
@@ -116,60 +116,54 @@ fn first_of(entries: u64, first: u64, put_in: u64) -> u64
     first
 }
 
-fn with_entry(tallies: Tallies, party: Party) -> Tallies
-    requires { ⌜ (1 ≤ party .scheme) × (party .scheme ≤ 64) × (party .credited ≤ 2000000000000) × Bounded 511 tallies ⌝ }
-    ensures { λ r. ⌜ r ≡ tallyWith tallies party ⌝ }
-{
-    let k = party.scheme as usize - 1;
-    let mut entries = tallies.entries;
-    let mut put_in = tallies.put_in;
-    let mut credited = tallies.credited;
-    let mut first = tallies.first;
-    first[k] = first_of(entries[k], first[k], party.put_in as u64);
-    entries[k] = entries[k] + 1;
-    put_in[k] = put_in[k] + party.put_in as u64;
-    credited[k] = credited[k] + party.credited;
-    Tallies {
-        entries: entries,
-        put_in: put_in,
-        credited: credited,
-        first: first,
-    }
-}
-
 fn tally(parties: [Party; 512], entries: u32, count: u32) -> EntriesTally
     requires { ⌜ (entries ≤ 512) × (count ≤ 64) ⌝ }
     ensures { λ r. ⌜ r .sound ≡ partiesSound count (take entries parties) ⌝ }
     ensures { λ r. ⌜ (r .sound ≡ true → Tallied (r .tallies) (take entries parties) × Bounded 512 (r .tallies)) ⌝ }
 {
-    let mut tallies = no_tallies();
+    let mut entries_of = [0u64; 64];
+    let mut put_in = [0u64; 64];
+    let mut credited = [0u64; 64];
+    let mut first = [0u64; 64];
     let mut i = 0;
     while i < entries as usize {
         let party = parties[i];
         if !party_sound(count, party) {
             return EntriesTally {
                 sound: false,
-                tallies: tallies,
+                tallies: no_tallies(),
             };
         }
-        tallies = with_entry(tallies, party);
+        let k = party.scheme as usize - 1;
+        first[k] = first_of(entries_of[k], first[k], party.put_in as u64);
+        entries_of[k] = entries_of[k] + 1;
+        put_in[k] = put_in[k] + party.put_in as u64;
+        credited[k] = credited[k] + party.credited;
         i += 1;
     }
     EntriesTally {
         sound: true,
-        tallies: tallies,
+        tallies: Tallies {
+            entries: entries_of,
+            put_in: put_in,
+            credited: credited,
+            first: first,
+        },
     }
 }
 
-// A scheme's terms and accounts, by the tallies of its entries.
-fn scheme_sound(month: u16, scheme: Scheme, tallies: Tallies, index: usize) -> bool
-    requires { ⌜ (index < 64) × Bounded 512 tallies ⌝ }
-    ensures { λ r. ⌜ r ≡ accountsSound month scheme (getD (tallies .entries) index 0) (getD (tallies .first) index 0) (getD (tallies .credited) index 0) (getD (tallies .«put_in») index 0) ⌝ }
+// A scheme's terms and accounts, by what its entries come to.
+fn scheme_sound(
+    month: u16,
+    scheme: Scheme,
+    entries: u64,
+    first: u64,
+    credited: u64,
+    put_in: u64,
+) -> bool
+    requires { ⌜ (entries ≤ 512) × (credited ≤ 2000000000000 * 512) ⌝ }
+    ensures { λ r. ⌜ r ≡ accountsSound month scheme entries first credited put_in ⌝ }
 {
-    let entries = tallies.entries[index];
-    let put_in = tallies.put_in[index];
-    let credited = tallies.credited[index];
-    let first = tallies.first[index];
     if scheme.minimum < scheme.fee {
         return false;
     }
@@ -202,7 +196,14 @@ fn schemes_sound(month: u16, schemes: [Scheme; 64], count: u32, tallies: Tallies
 {
     let mut i = 0;
     while i < count as usize {
-        if !scheme_sound(month, schemes[i], tallies, i) {
+        if !scheme_sound(
+            month,
+            schemes[i],
+            tallies.entries[i],
+            tallies.first[i],
+            tallies.credited[i],
+            tallies.put_in[i],
+        ) {
             return false;
         }
         i += 1;

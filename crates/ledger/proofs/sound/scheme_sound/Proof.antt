@@ -1,33 +1,14 @@
 use Rattle.ledger.proofs.Tests.{last-holds, fees-bounded}
 use borrow.Author.Tests.{le-leb, lt-leb, eq-eqb, ne-eqb}
+use Prim.Native.Nat.{_*_, _-_, _≤_}
 use native.Mathlib.Omega.{arith}
 use borrow.Author.Needs.{needs}
 use Rattle.ledger.proofs.sound.scheme_sound.Statement.{statement}
 use Rattle.ledger.proofs.sound.scheme_sound.Tie as tie
 
-mul-entries : tie.Need-mul-entries
-mul-entries c = search needs
-
-element-copy-out-entries : tie.Need-element-copy-out-entries
-element-copy-out-entries c = search needs
-
-mul-put-in : tie.Need-mul-put-in
-mul-put-in c = search needs
-
-element-copy-out-put-in : tie.Need-element-copy-out-put-in
-element-copy-out-put-in c = search needs
-
-mul-credited : tie.Need-mul-credited
-mul-credited c = search needs
-
-element-copy-out-credited : tie.Need-element-copy-out-credited
-element-copy-out-credited c = search needs
-
-mul-first : tie.Need-mul-first
-mul-first c = search needs
-
-element-copy-out-first : tie.Need-element-copy-out-first
-element-copy-out-first c = search needs
+-- what the fees come to, once the fee is found within its limit
+fees-most : (c : tie.Else2) → c .before .before .before .before .args .scheme .fee * (c .before .before .before .before .args .entries - 1) ≤ 512000000000
+fees-most c = fees-bounded _ (c .before .before .before .before .args .scheme .minimum) _ (c .before .before .if1 .left) (c .if2 .left) (c .before .before .before .before .pre .0)
 
 returns : tie.Need-returns
 returns c = rw (lt-leb _ _ (c .if1 .taken))
@@ -54,7 +35,7 @@ cast-fees : tie.Need-cast-fees
 cast-fees c = search needs
 
 mul-fees : tie.Need-mul-fees
-mul-fees c = omega (arith, fees-bounded (c .before .before .before .before .before .before .before .before .before .before .before .before .before .before .before .before .args .scheme .fee) (c .before .before .before .before .before .before .before .before .before .before .before .before .before .before .before .before .args .scheme .minimum) _ (c .before .before .before .before .before .before .before .before .before .before .if1 .left) (c .before .before .before .before .before .before .before .before .if2 .left) (c .before .before .before .before .before .before .before .before .before .before .before .before .before .before .before .before .pre .1 .many (c .before .before .before .before .before .before .before .before .before .before .before .before .before .before .before .before .args .index) (c .before .before .before .before .before .before .before .before .before .before .before .before .before .before .before .before .pre .0)))
+mul-fees c = omega (arith, fees-most (c .before .before .before .before .before .before .before .before))
 
 returns-7 : tie.Need-returns-7
 returns-7 c = rw (le-leb _ _ (c .before .before .before .before .before .before .before .before .before .before .before .before .if1 .left), le-leb _ _ (c .before .before .before .before .before .before .before .before .before .before .if2 .left), le-leb _ _ (c .before .before .before .before .before .before .before .before .if3 .left), le-leb _ _ (c .before .before .before .before .before .before .if4 .left), le-leb _ _ (c .before .before .before .before .before .if5 .left), eq-eqb _ _ (c .before .before .before .if6 .left), ne-eqb _ _ (c .if7 .taken))
@@ -63,10 +44,10 @@ cast-told : tie.Need-cast-told
 cast-told c = search needs
 
 add-told : tie.Need-add-told
-add-told c = omega (arith, c .before .before .if7 .left, fees-bounded (c .before .before .before .before .before .before .before .before .before .before .before .before .before .before .before .before .before .before .before .before .args .scheme .fee) (c .before .before .before .before .before .before .before .before .before .before .before .before .before .before .before .before .before .before .before .before .args .scheme .minimum) _ (c .before .before .before .before .before .before .before .before .before .before .before .before .before .before .if1 .left) (c .before .before .before .before .before .before .before .before .before .before .before .before .if2 .left) (c .before .before .before .before .before .before .before .before .before .before .before .before .before .before .before .before .before .before .before .before .pre .1 .many (c .before .before .before .before .before .before .before .before .before .before .before .before .before .before .before .before .before .before .before .before .args .index) (c .before .before .before .before .before .before .before .before .before .before .before .before .before .before .before .before .before .before .before .before .pre .0)))
+add-told c = omega (arith, c .before .before .if7 .left, fees-most (c .before .before .before .before .before .before .before .before .before .before .before .before))
 
 add-told-2 : tie.Need-add-told-2
-add-told-2 c = omega (arith, c .before .before .if7 .left, fees-bounded (c .before .before .before .before .before .before .before .before .before .before .before .before .before .before .before .before .before .before .before .before .args .scheme .fee) (c .before .before .before .before .before .before .before .before .before .before .before .before .before .before .before .before .before .before .before .before .args .scheme .minimum) _ (c .before .before .before .before .before .before .before .before .before .before .before .before .before .before .if1 .left) (c .before .before .before .before .before .before .before .before .before .before .before .before .if2 .left) (c .before .before .before .before .before .before .before .before .before .before .before .before .before .before .before .before .before .before .before .before .pre .1 .many (c .before .before .before .before .before .before .before .before .before .before .before .before .before .before .before .before .before .before .before .before .args .index) (c .before .before .before .before .before .before .before .before .before .before .before .before .before .before .before .before .before .before .before .before .pre .0)), c .before .before .before .before .before .before .before .before .before .before .before .before .before .before .before .before .before .before .before .before .pre .1 .credits (c .before .before .before .before .before .before .before .before .before .before .before .before .before .before .before .before .before .before .before .before .args .index) (c .before .before .before .before .before .before .before .before .before .before .before .before .before .before .before .before .before .before .before .before .pre .0))
+add-told-2 c = omega (arith, c .before .before .if7 .left, fees-most (c .before .before .before .before .before .before .before .before .before .before .before .before), c .before .before .before .before .before .before .before .before .before .before .before .before .before .before .before .before .pre .1)
 
 returns-8 : tie.Need-returns-8
 returns-8 c = rw (le-leb _ _ (c .before .before .before .before .before .before .before .before .before .before .before .before .before .before .if1 .left), le-leb _ _ (c .before .before .before .before .before .before .before .before .before .before .before .before .if2 .left), le-leb _ _ (c .before .before .before .before .before .before .before .before .before .before .if3 .left), le-leb _ _ (c .before .before .before .before .before .before .before .before .if4 .left), le-leb _ _ (c .before .before .before .before .before .before .before .if5 .left), eq-eqb _ _ (c .before .before .before .before .before .if6 .left), eq-eqb _ _ (c .before .before .if7 .left)) (last-holds _)
@@ -75,14 +56,6 @@ pub scheme-sound-spec : {M : Type 1} → statement M
 scheme-sound-spec =
     tie.close
     (tie.spec
-    mul-entries
-    element-copy-out-entries
-    mul-put-in
-    element-copy-out-put-in
-    mul-credited
-    element-copy-out-credited
-    mul-first
-    element-copy-out-first
     returns
     returns-2
     returns-3

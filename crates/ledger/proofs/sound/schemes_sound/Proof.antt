@@ -14,10 +14,10 @@ use Rattle.ledger.proofs.sound.schemes_sound.Statement.{statement}
 use Rattle.ledger.proofs.sound.schemes_sound.Tie as tie
 
 abbrev Inv-loop : tie.InvT-loop
-Inv-loop month count tallies schemes i₀ i = (i ≤ count) × ((parties : List Party) → Tallied tallies parties → schemesSound month parties 1 (take count schemes) ≡ schemesSound month parties (suc i) (drop i (take count schemes)))
+Inv-loop month count schemes tallies i₀ i = (i ≤ count) × ((parties : List Party) → Tallied tallies parties → schemesSound month parties 1 (take count schemes) ≡ schemesSound month parties (suc i) (drop i (take count schemes)))
 
 abbrev μ-loop : tie.MeasureT-loop
-μ-loop month count tallies schemes i₀ i = count - i
+μ-loop month count schemes tallies i₀ i = count - i
 
 loop-holds : tie.Need-loop-holds Inv-loop μ-loop
 loop-holds c = (search needs, λ parties t. refl)
@@ -28,11 +28,35 @@ mul-scheme-sound c = search needs
 array-copy-out-scheme-sound : tie.Need-array-copy-out-scheme-sound Inv-loop μ-loop
 array-copy-out-scheme-sound c = search needs
 
+mul-scheme-sound-2 : tie.Need-mul-scheme-sound-2 Inv-loop μ-loop
+mul-scheme-sound-2 c = search needs
+
+element-copy-out-scheme-sound : tie.Need-element-copy-out-scheme-sound Inv-loop μ-loop
+element-copy-out-scheme-sound c = search needs
+
+mul-scheme-sound-3 : tie.Need-mul-scheme-sound-3 Inv-loop μ-loop
+mul-scheme-sound-3 c = search needs
+
+element-copy-out-scheme-sound-2 : tie.Need-element-copy-out-scheme-sound-2 Inv-loop μ-loop
+element-copy-out-scheme-sound-2 c = search needs
+
+mul-scheme-sound-4 : tie.Need-mul-scheme-sound-4 Inv-loop μ-loop
+mul-scheme-sound-4 c = search needs
+
+element-copy-out-scheme-sound-3 : tie.Need-element-copy-out-scheme-sound-3 Inv-loop μ-loop
+element-copy-out-scheme-sound-3 c = search needs
+
+mul-scheme-sound-5 : tie.Need-mul-scheme-sound-5 Inv-loop μ-loop
+mul-scheme-sound-5 c = search needs
+
+element-copy-out-scheme-sound-4 : tie.Need-element-copy-out-scheme-sound-4 Inv-loop μ-loop
+element-copy-out-scheme-sound-4 c = search needs
+
 scheme-sound-requires : tie.Need-scheme-sound-requires Inv-loop μ-loop
-scheme-sound-requires c κs = search needs
+scheme-sound-requires c κs = let b : c .before .before .before .before .before .before .loop .i < 64 = search needs in (c .before .before .before .before .before .before .before .pre .1 .many _ b, c .before .before .before .before .before .before .before .pre .1 .credits _ b)
 
 returns : tie.Need-returns Inv-loop μ-loop
-returns c = let w : (c .before .before .before .before .before .args .count) ≤ length (c .before .before .before .before .before .args .t2) = search needs in let h : c .before .before .before .before .loop .i < c .before .before .before .before .before .args .count = search needs in let b : c .before .before .before .before .loop .i < 64 = search needs in λ parties t. rw (c .before .before .before .before .loop .inv .1 parties t, schemes-from _ parties _ _ _ noScheme h w, ← by-tallies (c .before .before .before .before .before .args .month) (c .before .before .before .before .before .args .tallies) parties (c .before .before .before .before .loop .i) _ t b, fails (c .before .scheme-sound .ensures) (c .if1 .taken))
+returns c = let w : c .before .before .before .before .before .before .before .before .before .args .count ≤ length (c .before .before .before .before .before .before .before .before .before .args .t2) = search needs in let h : c .before .before .before .before .before .before .before .before .loop .i < c .before .before .before .before .before .before .before .before .before .args .count = search needs in let b : c .before .before .before .before .before .before .before .before .loop .i < 64 = search needs in λ parties t. rw (c .before .before .before .before .before .before .before .before .loop .inv .1 parties t, schemes-from _ parties _ _ _ noScheme h w, ← by-tallies (c .before .before .before .before .before .before .before .before .before .args .month) (c .before .before .before .before .before .before .before .before .before .args .t4) parties (c .before .before .before .before .before .before .before .before .loop .i) _ t b, fails (c .before .scheme-sound .ensures) (c .if1 .taken))
 
 add-i : tie.Need-add-i Inv-loop μ-loop
 add-i c = search needs
@@ -41,10 +65,10 @@ loop-less : tie.Need-loop-less Inv-loop μ-loop
 loop-less c = search needs
 
 loop-again : tie.Need-loop-again Inv-loop μ-loop
-loop-again c = let w : (c .before .before .before .before .before .args .count) ≤ length (c .before .before .before .before .before .args .t2) = search needs in let h : c .before .before .before .before .loop .i < c .before .before .before .before .before .args .count = search needs in let b : c .before .before .before .before .loop .i < 64 = search needs in (search needs, λ parties t. rw (c .before .before .before .before .loop .inv .1 parties t, schemes-from _ parties _ _ _ noScheme h w, ← by-tallies (c .before .before .before .before .before .args .month) (c .before .before .before .before .before .args .tallies) parties (c .before .before .before .before .loop .i) _ t b, passes (c .before .scheme-sound .ensures) (c .if1 .left), add-one))
+loop-again c = let w : c .before .before .before .before .before .before .before .before .before .args .count ≤ length (c .before .before .before .before .before .before .before .before .before .args .t2) = search needs in let h : c .before .before .before .before .before .before .before .before .loop .i < c .before .before .before .before .before .before .before .before .before .args .count = search needs in let b : c .before .before .before .before .before .before .before .before .loop .i < 64 = search needs in (search needs, λ parties t. rw (c .before .before .before .before .before .before .before .before .loop .inv .1 parties t, schemes-from _ parties _ _ _ noScheme h w, ← by-tallies (c .before .before .before .before .before .before .before .before .before .args .month) (c .before .before .before .before .before .before .before .before .before .args .t4) parties (c .before .before .before .before .before .before .before .before .loop .i) _ t b, passes (c .before .scheme-sound .ensures) (c .if1 .left), add-one))
 
 returns-2 : tie.Need-returns-2 Inv-loop μ-loop
-returns-2 c = let w : (c .before .before .args .count) ≤ length (c .before .before .args .t2) = search needs in let h : c .before .before .args .count ≤ c .before .loop .i = search needs in λ parties t. rw (c .before .loop .inv .1 parties t, schemes-end _ parties _ _ _ h w)
+returns-2 c = let w : c .before .before .args .count ≤ length (c .before .before .args .t2) = search needs in let h : c .before .before .args .count ≤ c .before .loop .i = search needs in λ parties t. rw (c .before .loop .inv .1 parties t, schemes-end _ parties _ _ _ h w)
 
 pub schemes-sound-spec : {M : Type 1} → statement M
 schemes-sound-spec =
@@ -55,6 +79,14 @@ schemes-sound-spec =
     loop-holds
     mul-scheme-sound
     array-copy-out-scheme-sound
+    mul-scheme-sound-2
+    element-copy-out-scheme-sound
+    mul-scheme-sound-3
+    element-copy-out-scheme-sound-2
+    mul-scheme-sound-4
+    element-copy-out-scheme-sound-3
+    mul-scheme-sound-5
+    element-copy-out-scheme-sound-4
     scheme-sound-requires
     returns
     add-i
