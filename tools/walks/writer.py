@@ -314,39 +314,34 @@ class Walk(Context):
         self.split("both", local, "array-own")
         self.full.add(local)
 
-    def lend_array(self, local, array, xs, length, pointer, slice):
-        """pointer = &local; slice = {pointer, 512}: the row `array` of xs is lent as a `&mut` for a lifetime ν of the call, under the name δ;
-        length: that xs has 512 elements. `array_back` ends it"""
+    def lend_first(self, local, array, xs, length, k, count, pointer, slice):
+        """pointer = &local; slice = {pointer, count}: of the row `array` of xs, which has 512 elements by `length`, the first k are lent as a `&mut` for
+        a lifetime ν of the call, under the name δ; count: their number's local and value, that they are as many, and that it fits a word.
+        `first_back` ends it"""
         element, place = ELEMENT[array], place_of(local)
+        number, records, same, fits = count
         self.assign(pointer, "(addr ! (from ! (stop !)))", "tt, tt")
-        parts = f"(and-then ! {self.load(pointer)} (and-then ! (lit ! tt) (no-more !)))"
-        self.assign(slice, f"(agg ! {parts})", "tt, (tt, (record { fits = lit< tt }, tt))")
-        item = f"λ (k : ℕ). ‵ (fat fullShare ({slice_of('mut', 'erased', element)}) {place_of(slice)} 0 (sliceVal ({place}, 0) k))"
-        self.rewrite(slice, item, f"sym {atom(length)}")
-        law = f"whole-in {GIVEN} {element.row} {xs} {place} 0"
-        self.use(["array"], "array", f"‵ (cells (in-memory {element.row}) {xs} {place} 0)", law)
+        parts = f"(and-then ! {self.load(pointer)} (and-then ! {self.load(number)} (no-more !)))"
+        self.assign(slice, f"(agg ! {parts})", f"tt, (tt, (record {{ fits = {fits} }}, tt))")
         self.step([], "lft-new ! tt (λ ν.", ["new-token"])
-        at, value = f"record {{ ptr = ({place}, 0); name = δ; now = {xs} }}", f"sliceVal ({place}, 0) (length {xs})"
+        at, value = f"record {{ ptr = ({place}, 0); name = δ; now = take {k} {xs} }}", f"sliceVal ({place}, 0) {records}"
         lent = f"‵ (MutSlice (named 0) (ν ∷ []) {element.row} .own ({at}) ({value} ∷ []))"
-        kept = f"‵ (flent (ν ∷ []) (Held {element.row} (length {xs}) {place} 0 δ))"
+        kept = f"‵ (LentFirst {element.row} {xs} {k} {place} 0 (ν ∷ []) δ)"
         room = f"(subst (Room {element.row}) (sym {atom(length)}) (lit< tt, lit< tt))"
-        law = f"lends-slice {GIVEN} {element.row} (named 0) (ν ∷ []) {xs} {place} 0 {room}"
+        law = f"lends-first {element.row} {xs} {k} {place} 0 {GIVEN} (ν ∷ []) (named 0) {room} {records} {atom(same)}"
         self.use(["array"], "both", f"later (some (λ (δ : GName). {lent} ⊛ {kept}))", law)
         self.emit("await ! tt $ pick ! (λ δ.")
-        self.split("both", "lent", "lent-array")
+        self.split("both", "lent", "lent-first")
         return Lent(Slice(True, element), at, value, "lent", "ν ∷ []", "fullShare", "new-token")
 
-    def array_back(self, local, array, xs, last):
-        """the array is back as a row, at the list `last`"""
+    def first_back(self, local, array, xs, k, last):
+        """the array is back as a row, with the list `last` as its first k elements"""
         element, place = ELEMENT[array].row, place_of(local)
         self.step(["new-token"], "lft-end ! tt $", ["dead"])
-        law = f"slice-back {GIVEN} {element} (ν ∷ []) δ {last} (length {xs}) {place} 0"
-        item = f"later (‵ (Arr (in-memory {element}) (length {xs}) .lies {last} {place} 0))"
-        self.use(["dead", "lent-array", "finally"], "array", item, law)
+        law = f"first-back {element} {xs} {k} {place} 0 {GIVEN} (ν ∷ []) δ {last}"
+        item = f"later (‵ (row {element} fullShare (withFirst {k} {xs} {last}) {place} 0))"
+        self.use(["dead", "lent-first", "finally"], "array", item, law)
         self.emit("await ! tt $")
-        self.fsplit("array", "array-length", "array")
-        self.drop("array-length")
-        self.use(["array"], "array", f"‵ (row {element} fullShare {last} {place} 0)", f"whole-out {GIVEN} {element} {last} {place} 0")
 
     # ---- a call
     def call(self, path, arguments, operands, row, name, ensures, requires=None, more=None):

@@ -50,7 +50,7 @@ file-sound room file e =
     let fields : fieldsAnswer room s ≡ Stands = later-stands (standing storedRows 1 file) (fieldsAnswer room s) e in
     fields-sound room s (later-stands (lettersAnswer (judgeLetters letters s)) (tableAnswer room s) fields)
 
-entries-count : (s : List ℕ) → storedLedger s .entries ≡ length (entriesIn s)
+pub entries-count : (s : List ℕ) → storedLedger s .entries ≡ length (entriesIn s)
 unfolding storedLedger
 entries-count s = refl
 

@@ -11,8 +11,8 @@ use stored::reading::ReadBack;
 use stored::writing::Written;
 use tagged::file::Standing;
 ghost use mathlib.Core.Path.{_≡_};
-ghost use Prim.Native.Nat.{_<_};
-ghost use lib.ListN.{length, set, take};
+ghost use Prim.Native.Nat.{_<_, min};
+ghost use lib.ListN.{length, set, take, drop};
 ghost use Rattle.ledger.specs.Table.{creditEach};
 ghost use Rattle.acceptance.specs.Promises.{Accepts, PaysOut, HandsOver};
 ghost use Rattle.stored.specs.Writing.{writeOf};
@@ -193,7 +193,14 @@ pub fn read(ledger: Ledger, table: &mut [Party], file: &[u8]) -> ReadResult
     read_result(back)
 }
 
-// The calls on parties by value, for callers that have no table to lend.
+// The calls on parties by value, for callers that have no table to lend. The table is the first `room` records of the array, or
+// all 512.
+pub fn records_of(room: usize) -> usize
+    ensures { λ r. ⌜ r ≡ min room 512 ⌝ }
+{
+    if room < 512 { room } else { 512 }
+}
+
 pub struct AcceptedTable {
     pub answer: AcceptAnswer,
     pub ledger: Ledger,
@@ -215,13 +222,18 @@ fn accepted_table(result: AcceptResult, parties: [Party; 512]) -> AcceptedTable
 pub fn accept_by_value(
     ledger: Ledger,
     parties: [Party; 512],
+    room: usize,
     book: &[u8],
     request: &[u8],
 ) -> AcceptedTable
-    ensures { λ r. ⌜ Accepts ledger parties (now (book .entry)) (now (request .entry)) (r .answer) (r .ledger) (r .parties) ⌝ }
+    ensures { λ r. ⌜
+        Accepts ledger (take room parties) (now (book .entry)) (now (request .entry)) (r .answer) (r .ledger) (take room (r .parties))
+        × (drop room (r .parties) ≡ drop room parties)
+        ⌝ }
 {
+    let records = records_of(room);
     let mut table = parties;
-    let result = accept(ledger, &mut table, book, request);
+    let result = accept(ledger, &mut table[..records], book, request);
     accepted_table(result, table)
 }
 
@@ -239,25 +251,35 @@ fn changed_table(answer: Answer, parties: [Party; 512]) -> ChangedTable
 pub fn pay_out_by_value(
     ledger: Ledger,
     parties: [Party; 512],
+    room: usize,
     entry: u32,
     amount: u64,
 ) -> ChangedTable
-    ensures { λ r. ⌜ PaysOut ledger parties entry amount (r .answer) (r .parties) ⌝ }
+    ensures { λ r. ⌜
+        PaysOut ledger (take room parties) entry amount (r .answer) (take room (r .parties))
+        × (drop room (r .parties) ≡ drop room parties)
+        ⌝ }
 {
+    let records = records_of(room);
     let mut table = parties;
-    let answer = pay_out(ledger, &mut table, entry, amount);
+    let answer = pay_out(ledger, &mut table[..records], entry, amount);
     changed_table(answer, table)
 }
 
 pub fn hand_over_by_value(
     ledger: Ledger,
     parties: [Party; 512],
+    room: usize,
     entry: u32,
     person: u32,
 ) -> ChangedTable
-    ensures { λ r. ⌜ HandsOver ledger parties entry person (r .answer) (r .parties) ⌝ }
+    ensures { λ r. ⌜
+        HandsOver ledger (take room parties) entry person (r .answer) (take room (r .parties))
+        × (drop room (r .parties) ≡ drop room parties)
+        ⌝ }
 {
+    let records = records_of(room);
     let mut table = parties;
-    let answer = hand_over(ledger, &mut table, entry, person);
+    let answer = hand_over(ledger, &mut table[..records], entry, person);
     changed_table(answer, table)
 }

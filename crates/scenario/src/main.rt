@@ -11,16 +11,19 @@ use stored::writing::Written;
 ghost use Prim.Native.Nat.{_≤_};
 ghost use Rattle.io.specs.Counts.{Counts};
 
+// The table is the first `room` records of the parties.
 struct State {
     ledger: Ledger,
     parties: [Party; 512],
+    room: usize,
 }
 
-fn new_state() -> State {
+fn new_state(room: usize) -> State {
     let none = ledger::records::no_party();
     State {
         ledger: ledger::records::new_ledger(),
         parties: [none; 512],
+        room,
     }
 }
 
@@ -55,12 +58,17 @@ fn show(state: State) {
 fn accepted(state: State, book: &[u8], request: &[u8]) -> State {
     let ledger = state.ledger;
     let parties = state.parties;
-    let after = pioneer::accept_by_value(ledger, parties, book, request);
+    let room = state.room;
+    let after = pioneer::accept_by_value(ledger, parties, room, book, request);
     let answer = after.answer;
     lines::write_accept_answer(answer);
     let ledger = after.ledger;
     let parties = after.parties;
-    State { ledger, parties }
+    State {
+        ledger,
+        parties,
+        room,
+    }
 }
 
 fn accept_by_book(state: State, book: &[u8], request_name: &[u8]) -> State {
@@ -80,22 +88,32 @@ fn pay_out(state: State, entry: u32, amount: u64) -> State {
     lines::start_entry_call(b"pay-out", entry, amount);
     let ledger = state.ledger;
     let parties = state.parties;
-    let after = pioneer::pay_out_by_value(ledger, parties, entry, amount);
+    let room = state.room;
+    let after = pioneer::pay_out_by_value(ledger, parties, room, entry, amount);
     let answer = after.answer;
     lines::write_answer(answer);
     let parties = after.parties;
-    State { ledger, parties }
+    State {
+        ledger,
+        parties,
+        room,
+    }
 }
 
 fn hand_over(state: State, entry: u32, person: u32) -> State {
     lines::start_entry_call(b"hand-over", entry, person as u64);
     let ledger = state.ledger;
     let parties = state.parties;
-    let after = pioneer::hand_over_by_value(ledger, parties, entry, person);
+    let room = state.room;
+    let after = pioneer::hand_over_by_value(ledger, parties, room, entry, person);
     let answer = after.answer;
     lines::write_answer(answer);
     let parties = after.parties;
-    State { ledger, parties }
+    State {
+        ledger,
+        parties,
+        room,
+    }
 }
 
 // What is read; the given ledger with no entries where the reading is refused.
@@ -105,7 +123,11 @@ fn read_bytes(ledger: Ledger, file: &[u8]) -> State {
     lines::write_standing(answer);
     let ledger = read.ledger;
     let parties = read.parties;
-    State { ledger, parties }
+    State {
+        ledger,
+        parties,
+        room: 512,
+    }
 }
 
 fn read(name: &[u8]) -> State {
@@ -281,6 +303,30 @@ fn last_entry() {
     lines::write_entry(512, parties[511]);
 }
 
+// The same ledger on a table of so many records.
+fn on_table(state: State, room: usize) -> State {
+    let ledger = state.ledger;
+    let parties = state.parties;
+    State {
+        ledger,
+        parties,
+        room,
+    }
+}
+
+// No record, one record; a connection that needs none is still taken; a table shorter than the entries.
+fn short_tables() {
+    part(b"short tables");
+    let state = accept(new_state(0), b"book.bin", b"opening.bin");
+    let state = accept(on_table(state, 1), b"book.bin", b"opening.bin");
+    let state = accept(state, b"book.bin", b"first_joining.bin");
+    let state = accept(state, b"book.bin", b"at_threshold.bin");
+    show(state);
+    let state = pay_out(on_table(state, 0), 1, 0);
+    let state = accept(on_table(state, 2), b"book.bin", b"first_joining.bin");
+    show(state);
+}
+
 fn last_connection() {
     part(b"the last connection");
     let state = read(b"ledger_999999.bin");
@@ -304,7 +350,11 @@ fn month_altered(state: State) -> State {
     let mut ledger = state.ledger;
     let parties = state.parties;
     ledger.month = 24_314;
-    State { ledger, parties }
+    State {
+        ledger,
+        parties,
+        room: 512,
+    }
 }
 
 // The same ledger with one entry counted that its table has no record of.
@@ -312,7 +362,11 @@ fn entries_altered(state: State) -> State {
     let mut ledger = state.ledger;
     let parties = state.parties;
     ledger.entries = 513;
-    State { ledger, parties }
+    State {
+        ledger,
+        parties,
+        room: 512,
+    }
 }
 
 fn unsound_ledgers(state: State) {
@@ -327,12 +381,12 @@ fn short_outputs() {
     part(b"short outputs");
     let mut short = [0u8; 36];
     let mut enough = [0u8; 37];
-    write_form(new_state(), &mut short);
-    write_form(new_state(), &mut enough);
+    write_form(new_state(512), &mut short);
+    write_form(new_state(512), &mut enough);
 }
 
 fn main() {
-    let state = marked_figures(new_state());
+    let state = marked_figures(new_state(512));
     let state = pay_outs(state);
     let state = hand_overs(state);
     let state = more_schemes(state);
@@ -340,6 +394,7 @@ fn main() {
     let state = refused_connections(state);
     last_scheme();
     last_entry();
+    short_tables();
     last_connection();
     unsound_ledgers(state);
     short_outputs();

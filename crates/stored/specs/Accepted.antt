@@ -47,7 +47,7 @@ pub record Accepted (room : ℕ) (file : List ℕ) : Type 0 where
 refused-not-stands : {A : Type 0} {r : Refusal} → Refused r ≡ Stands → A
 refused-not-stands e = let z : _≡_ {A = ℕ} 0 1 = cc in absurd (omega arith)
 
-in-turn-stands : (first second : Standing) → inTurn first second ≡ Stands → (first ≡ Stands) × (second ≡ Stands)
+pub in-turn-stands : (first second : Standing) → inTurn first second ≡ Stands → (first ≡ Stands) × (second ≡ Stands)
 in-turn-stands Stands second e = (refl, e)
 in-turn-stands (Refused r) second e = refused-not-stands e
 

@@ -47,7 +47,7 @@ refused-no-length e = let z : _≡_ {A = ℕ} 0 1 = cc in absurd (omega arith)
 -- a write that answers a length was of a sound ledger, and the length is the form's
 module _ (ledger : Ledger) (parties : List Party) (room : ℕ) (out : List ℕ) (size : ℕ)
     (written : writtenAnswer ledger parties room out ≡ Length size) where
-  written-sound : sound ledger parties room ≡ true
+  pub written-sound : sound ledger parties room ≡ true
   written-sound =
       ⊎-elim
       (λ unsound. refused-no-length (sym (write-refused-13 ledger parties room out unsound) ∙ written))
@@ -81,7 +81,7 @@ zeros-placed count schemes places few zeros =
     ∙ take-append-drop count schemes
 
 -- a ledger that is sound with a table is sound with any other that has its entries
-sound-in : (ledger : Ledger) (parties others : List Party) (room other : ℕ) → take (ledger .entries) others ≡ take (ledger .entries) parties →
+pub sound-in : (ledger : Ledger) (parties others : List Party) (room other : ℕ) → take (ledger .entries) others ≡ take (ledger .entries) parties →
     ledger .entries ≤ other → sound ledger parties room ≡ true → sound ledger others other ≡ true
 unfolding sound
 sound-in ledger parties others room other same fits holds =
@@ -149,13 +149,13 @@ read-of-write ledger before table other out size handed written fits =
 
 -- ---- what was read
 
+pub answer-of-table : (answer : Standing) (before : Ledger) (table : List Party) (s : List ℕ) → tableBy answer before table s .answer ≡ answer
+answer-of-table Stands before table s = refl
+answer-of-table (Refused r) before table s = refl
+
 module _ (before : Ledger) (table : List Party) (file : List ℕ) (bytes : Bytes file) (stands : readOf before table file .answer ≡ Stands) where
   answered : readAnswer (length table) file ≡ Stands
-  answered = sym (answer-is (readAnswer (length table) file)) ∙ stands
-    where
-      answer-is : (answer : Standing) → tableBy answer before table (fieldsPart file) .answer ≡ answer
-      answer-is Stands = refl
-      answer-is (Refused r) = refl
+  answered = sym (answer-of-table (readAnswer (length table) file) before table (fieldsPart file)) ∙ stands
 
   was-accepted : Accepted (length table) file
   was-accepted = accepted-means (length table) file answered
@@ -190,7 +190,7 @@ write-of-read before table file out bytes stands fits =
     λ i. record { answer = (done ∙ ap (λ bytes. Length (length bytes)) form) i; output = output i }
 
 -- the form is of the ledger and its entries alone
-same-form : {ledger ledger′ : Ledger} (parties parties′ : List Party) → ledger ≡ ledger′ →
+pub same-form : {ledger ledger′ : Ledger} (parties parties′ : List Party) → ledger ≡ ledger′ →
     take (ledger .entries) parties ≡ take (ledger′ .entries) parties′ → storedForm ledger parties ≡ storedForm ledger′ parties′
 unfolding storedForm partyParts
 same-form parties parties′ ledgers entries =

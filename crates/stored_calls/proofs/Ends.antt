@@ -1,13 +1,20 @@
--- Reading, the calls and writing on a table of 512 records by value end as they do on the whole.
-use Prim.Native.Nat.{ℕ}
+-- Reading, the calls and writing on the first records of an array by value end as they do on a table of them.
+use Prim.Native.Nat.{ℕ, zero, suc, _≤_, min}
 use mathlib.Core.Path.{_≡_, refl, sym, ap, _∙_}
-use mathlib.Core.List.{List}
-use lib.ListN.{length, replicate, length-replicate}
+use mathlib.Core.List.{List, [], _∷_}
+use mathlib.Core.Bool.{Bool, true, false, true≢false}
+use mathlib.Core.Logic.{⊎-elim}
+use mathlib.Mathlib.Data.Bool.Basic.{dichotomy}
+use native.Mathlib.Omega.{arith}
+use lib.ListN.{length, take, replicate, length-take, length-replicate}
+use lib.Seq.{take-all, take-take}
 use Rattle.tagged.specs.File.{fieldsPart}
 use Rattle.tagged.specs.declared.file.Refusal.{Refusal}
 use Rattle.tagged.specs.declared.file.Standing.{Standing}
 use Rattle.tagged.specs.declared.file.Standing.the-variants.{Stands, Refused}
 use Rattle.ledger.specs.Records.{noParty, newLedger}
+use Rattle.ledger.specs.Sound.{sound}
+use Rattle.ledger.specs.SoundFacts.{sound-means}
 use Rattle.acceptance.specs.Accept.{AfterAccept}
 use Rattle.ledger.specs.Entries.{AfterEntryCall}
 use Rattle.ledger.specs.declared.records.Party.{Party}
@@ -16,11 +23,15 @@ use Rattle.acceptance.specs.declared.accept.Acceptance.{Acceptance}
 use Rattle.acceptance.specs.declared.accept.AcceptAnswer.the-variants.{Accepted, NotAccepted}
 use Rattle.ledger.specs.declared.entries.Answer.{Answer}
 use Rattle.ledger.specs.declared.entries.Answer.the-variants as Answer
-use Rattle.stored.specs.Form.{noParties}
+use Rattle.stored.specs.Layout.{placed}
+use Rattle.stored.specs.Form.{storedForm, entriesIn, noParties, storedLedger}
+use Rattle.stored.specs.Accepted.{accepted-means}
 use Rattle.stored.specs.Reading.{ReadEnd, readAnswer, readBy, readBack, tableBy}
 use Rattle.stored.specs.Writing.{WriteEnd, writtenAnswer, writtenOutput, writeOf}
+use Rattle.stored.specs.RoundTrips.{sound-in, same-form}
 use Rattle.stored.specs.declared.reading.ReadBack.{ReadBack}
 use Rattle.stored_calls.specs.StoredCalls.{CallEnd, storedRead, readEnd, acceptBy, acceptEnd, writtenEnd, entryCallBy, entryCallEnd}
+use Rattle.stored_calls.specs.StoredCallsFacts.{length-room}
 use Rattle.stored_calls.specs.declared.StoredAccept.the-variants as StoredAccept
 use Rattle.stored_calls.specs.declared.StoredAnswer.the-variants as StoredAnswer
 
@@ -28,37 +39,81 @@ use Rattle.stored_calls.specs.declared.StoredAnswer.the-variants as Stor
 abbrev pub writeAt : Ledger → List Party → ℕ → List ℕ → WriteEnd
 writeAt ledger parties room out = record { answer = writtenAnswer ledger parties room out; output = writtenOutput ledger parties room out }
 
-pub length-no-parties : length noParties ≡ 512
-unfolding noParties
-length-no-parties = length-replicate 512 noParty
+-- what is placed within the first records of a list
+placed-within : {A : Type 0} (elements others : List A) (room : ℕ) → length elements ≤ room → length elements ≤ length others →
+    take room (placed elements others) ≡ placed elements (take room others)
+unfolding placed
+placed-within [] others room fits few = refl
+placed-within (x ∷ elements) others zero fits few = absurd (omega (arith, fits))
+placed-within (x ∷ elements) [] (suc room) fits few = absurd (omega (arith, few))
+placed-within (x ∷ elements) (y ∷ others) (suc room) fits few =
+    ap (λ l. x ∷ l) (placed-within elements others room (omega (arith, fits)) (omega (arith, few)))
 
-pub read-by-value : (file : List ℕ) → readEnd (readBack newLedger 512 file) ≡ storedRead file
-unfolding storedRead
-read-by-value file =
-    by-answer (readAnswer 512 file) ∙ ap (λ room. tableBy (readAnswer room file) newLedger noParties (fieldsPart file)) (sym length-no-parties)
+-- reading by value
+pub read-by-value : (file : List ℕ) (room : ℕ) → readEnd room (readBack newLedger (min room 512) file) ≡ storedRead file room
+unfolding storedRead noParties
+read-by-value file room =
+    by-answer (readAnswer (min room 512) file) refl
+    ∙ ap (λ records. tableBy (readAnswer records file) newLedger (take room noParties) (fieldsPart file)) (sym (length-room room))
   where
-    by-answer : (answer : Standing) → readEnd (readBy answer newLedger (fieldsPart file)) ≡ tableBy answer newLedger noParties (fieldsPart file)
-    by-answer Stands = refl
-    by-answer (Refused r) = refl
+    by-answer : (answer : Standing) → readAnswer (min room 512) file ≡ answer →
+        readEnd room (readBy answer newLedger (fieldsPart file)) ≡ tableBy answer newLedger (take room noParties) (fieldsPart file)
+    by-answer Stands stands =
+        let s = fieldsPart file in
+        let fits = accepted-means (min room 512) file stands .fits in
+        ap (λ table. record { answer = Stands; ledger = storedLedger s; table = table })
+        (placed-within (entriesIn s) noParties room (omega (arith, fits)) (omega (arith, fits, length-replicate 512 noParty)))
+    by-answer (Refused r) refused = refl
 
--- writing by value
-pub write-by-value : (ledger : Ledger) (parties : List Party) (out : List ℕ) → length parties ≡ 512 →
-    writeAt ledger parties 512 out ≡ writeOf ledger parties out
-write-by-value ledger parties out places = ap (λ room. writeAt ledger parties room out) (sym places)
+-- writing by value: the ledger and its entries are the same
+module _ (ledger : Ledger) (parties : List Party) (room : ℕ) where
+  abbrev table : List Party
+  table = take room parties
+
+  entries-kept : ledger .entries ≤ length table → take (ledger .entries) table ≡ take (ledger .entries) parties
+  entries-kept fits = take-take (ledger .entries) room parties (omega (arith, fits, length-take room parties))
+
+  sound-kept : (holds : Bool) → sound ledger table (length table) ≡ holds → sound ledger parties (length table) ≡ holds
+  sound-kept true holds =
+      let fits = sound-means ledger table (length table) holds .in-table in
+      sound-in ledger table parties (length table) (length table) (sym (entries-kept fits)) fits holds
+  sound-kept false unsound =
+      ⊎-elim (λ same. same)
+      (λ holds.
+      let fits = sound-means ledger parties (length table) holds .in-table in
+      absurd (true≢false (sym (sound-in ledger parties table (length table) (length table) (entries-kept fits) fits holds) ∙ unsound)))
+      (dichotomy (sound ledger parties (length table)))
+
+  written-kept : (out : List ℕ) → writeAt ledger parties (length table) out ≡ writeOf ledger table out
+  unfolding writtenAnswer
+  written-kept out = by-sound (sound ledger table (length table)) refl
+    where
+      by-sound : (holds : Bool) → sound ledger table (length table) ≡ holds → writeAt ledger parties (length table) out ≡ writeOf ledger table out
+      by-sound true holds =
+          let fits = sound-means ledger table (length table) holds .in-table in
+          let form : storedForm ledger parties ≡ storedForm ledger table = same-form parties table refl (sym (entries-kept fits)) in
+          rw (sound-kept true holds, holds, form)
+      by-sound false unsound = rw (sound-kept false unsound, unsound)
+
+  pub write-by-value : (out : List ℕ) → length parties ≡ 512 → writeAt ledger parties (min room 512) out ≡ writeOf ledger table out
+  write-by-value out places =
+      ap (λ records. writeAt ledger parties records out) (ap (min room) (sym places) ∙ sym (length-take room parties)) ∙ written-kept out
 
 -- a new ledger and no entries
 pub new-written : {ledger : Ledger} {none : Party} (out : List ℕ) → ledger ≡ newLedger → none ≡ noParty →
-    writeOf ledger (replicate 512 none) out ≡ writeOf newLedger noParties out
+    writeOf ledger (take 512 (replicate 512 none)) out ≡ writeOf newLedger noParties out
 unfolding noParties
-new-written out fresh nothing = λ i. writeOf (fresh i) (replicate 512 (nothing i)) out
+new-written out fresh nothing =
+    (λ i. writeOf (fresh i) (take 512 (replicate 512 (nothing i))) out)
+    ∙ ap (λ table. writeOf newLedger table out) (take-all 512 noParties (omega (arith, length-replicate 512 noParty)))
 
 -- ---- the ends, by the answers on the way
 
 -- what a call comes to on a ledger that was read with this answer
-pub once-read : {A : Type 0} {answer : Standing} {whole : ReadEnd} (read : ReadBack) (end : ReadEnd → CallEnd A) → read .answer ≡ answer →
-    readEnd read ≡ whole → end (record { answer = answer; ledger = read .ledger; table = read .parties }) ≡ end whole
-once-read read end told same =
-    ap (λ answer. end (record { answer = answer; ledger = read .ledger; table = read .parties })) (sym told) ∙ ap end same
+pub once-read : {A : Type 0} {answer : Standing} {whole : ReadEnd} (room : ℕ) (read : ReadBack) (end : ReadEnd → CallEnd A) → read .answer ≡ answer →
+    readEnd room read ≡ whole → end (record { answer = answer; ledger = read .ledger; table = take room (read .parties) }) ≡ end whole
+once-read room read end told same =
+    ap (λ answer. end (record { answer = answer; ledger = read .ledger; table = take room (read .parties) })) (sym told) ∙ ap end same
 
 pub accept-done : {after : AfterAccept} {acceptance : Acceptance} {ledger : Ledger} {parties : List Party} (out : List ℕ) →
     Accepted acceptance ≡ after .answer → ledger ≡ after .ledger → parties ≡ after .table →

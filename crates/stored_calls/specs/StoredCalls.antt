@@ -2,6 +2,7 @@
 -- output as it was; 14 where it is shorter than the new form.
 use Prim.Native.Nat.{ℕ}
 use mathlib.Core.List.{List}
+use lib.ListN.{take}
 use Rattle.tagged.specs.declared.file.Refusal.{Refusal}
 use Rattle.tagged.specs.declared.file.Standing.{Standing}
 use Rattle.tagged.specs.declared.file.Standing.the-variants as Standing
@@ -38,13 +39,13 @@ pub record CallEnd (A : Type 0) : Type 0 where
 
 -- ---- reading
 
--- a stored ledger, read into a table of 512 records
-unfoldable pub storedRead : List ℕ → ReadEnd
-storedRead file = readOf newLedger noParties file
+-- a stored ledger, read into a table of so many records, 512 at most
+unfoldable pub storedRead : List ℕ → ℕ → ReadEnd
+storedRead file room = readOf newLedger (take room noParties) file
 
 -- the same of what is read by value
-abbrev pub readEnd : ReadBack → ReadEnd
-readEnd read = record { answer = read .answer; ledger = read .ledger; table = read .parties }
+abbrev pub readEnd : ℕ → ReadBack → ReadEnd
+readEnd room read = record { answer = read .answer; ledger = read .ledger; table = take room (read .parties) }
 
 -- the call once the ledger was read, or reading's refusal with the output as it was
 abbrev pub onceRead : {A : Type 0} → Standing → (Refusal → A) → List ℕ → CallEnd A → CallEnd A
@@ -69,8 +70,8 @@ abbrev pub acceptOnRead : ReadEnd → List ℕ → List ℕ → List ℕ → Cal
 acceptOnRead read book request out =
     onceRead (read .answer) StoredAccept.NotRead out (acceptEnd (acceptOf (read .ledger) (read .table) (priceOf book request)) out)
 
-abbrev pub acceptStoredOf : List ℕ → List ℕ → List ℕ → List ℕ → CallEnd StoredAccept
-acceptStoredOf file book request out = acceptOnRead (storedRead file) book request out
+abbrev pub acceptStoredOf : List ℕ → ℕ → List ℕ → List ℕ → List ℕ → CallEnd StoredAccept
+acceptStoredOf file room book request out = acceptOnRead (storedRead file room) book request out
 
 -- ---- pay-out and hand-over, which leave the ledger as it is
 
@@ -92,15 +93,15 @@ abbrev pub entryCallOnRead : ReadEnd → (Ledger → List Party → AfterEntryCa
 entryCallOnRead read call out =
     onceRead (read .answer) StoredAnswer.NotRead out (entryCallEnd (read .ledger) (call (read .ledger) (read .table)) out)
 
-abbrev pub payOutStoredOf : List ℕ → ℕ → ℕ → List ℕ → CallEnd StoredAnswer
-payOutStoredOf file entry amount out = entryCallOnRead (storedRead file) (λ ledger table. payOutOf ledger table entry amount) out
+abbrev pub payOutStoredOf : List ℕ → ℕ → ℕ → ℕ → List ℕ → CallEnd StoredAnswer
+payOutStoredOf file room entry amount out = entryCallOnRead (storedRead file room) (λ ledger table. payOutOf ledger table entry amount) out
 
-abbrev pub handOverStoredOf : List ℕ → ℕ → ℕ → List ℕ → CallEnd StoredAnswer
-handOverStoredOf file entry person out = entryCallOnRead (storedRead file) (λ ledger table. handOverOf ledger table entry person) out
+abbrev pub handOverStoredOf : List ℕ → ℕ → ℕ → ℕ → List ℕ → CallEnd StoredAnswer
+handOverStoredOf file room entry person out = entryCallOnRead (storedRead file room) (λ ledger table. handOverOf ledger table entry person) out
 
--- what is left of such a call on a table by value
-abbrev pub afterCall : ChangedTable → AfterEntryCall
-afterCall changed = record { answer = changed .answer; table = changed .parties }
+-- what is left of such a call on a table of so many records by value
+abbrev pub afterCall : ℕ → ChangedTable → AfterEntryCall
+afterCall room changed = record { answer = changed .answer; table = take room (changed .parties) }
 
 -- ---- a new ledger, and the check of a stored one
 
@@ -122,5 +123,5 @@ abbrev pub checkBy : Standing → Ledger → StoredCheck
 checkBy Standing.Stands ledger = StoredCheck.Sound (countsOf ledger)
 checkBy (Standing.Refused r) ledger = StoredCheck.NotRead r
 
-abbrev pub checkStoredOf : List ℕ → StoredCheck
-checkStoredOf file = checkBy (storedRead file .answer) (storedRead file .ledger)
+abbrev pub checkStoredOf : List ℕ → ℕ → StoredCheck
+checkStoredOf file room = checkBy (storedRead file room .answer) (storedRead file room .ledger)

@@ -1,13 +1,13 @@
--- What a refused call on a stored ledger changes, and what a done one leaves.
-use Prim.Native.Nat.{ℕ}
-use mathlib.Core.Path.{_≡_, refl}
+-- How long the table is, and what a refused call on a stored ledger changes.
+use Prim.Native.Nat.{ℕ, min}
+use mathlib.Core.Path.{_≡_, refl, ap, _∙_}
 use mathlib.Core.List.{List}
 use mathlib.Core.Bool.{Bool, true, false, true≢false}
-use lib.ListN.{length}
+use lib.ListN.{length, take, length-take, length-replicate}
 use Rattle.tagged.specs.declared.file.Standing.{Standing}
 use Rattle.tagged.specs.declared.file.Standing.the-variants as Standing
 use Rattle.charge.specs.Price.{priceOf}
-use Rattle.ledger.specs.Records.{newLedger}
+use Rattle.ledger.specs.Records.{noParty, newLedger}
 use Rattle.acceptance.specs.Accept.{AfterAccept, acceptOf}
 use Rattle.ledger.specs.Entries.{AfterEntryCall, payOutOf, handOverOf}
 use Rattle.ledger.specs.declared.records.Party.{Party}
@@ -21,6 +21,7 @@ use Rattle.stored.specs.Form.{storedForm, noParties}
 use Rattle.stored.specs.Writing.{writtenAnswer, outputBy, writeOf}
 use Rattle.stored.specs.declared.writing.Written.{Written}
 use Rattle.stored.specs.declared.writing.Written.the-variants as Written
+use Rattle.pioneer.proofs.Readings.{read-length}
 use Rattle.stored_calls.specs.StoredCalls.{storedRead, onceRead, writtenAccept, acceptBy, acceptEnd, acceptStoredOf, writtenCall, entryCallBy, entryCallEnd, payOutStoredOf, handOverStoredOf, newStoredOf}
 use Rattle.stored_calls.specs.declared.StoredAccept.{StoredAccept}
 use Rattle.stored_calls.specs.declared.StoredAccept.the-variants as StoredAccept
@@ -37,14 +38,24 @@ isDone (StoredAnswer.NotRead r) = false
 isDone (StoredAnswer.Refused r) = false
 isDone (StoredAnswer.Done size) = true
 
+-- ---- the table has as many records as there is room for, and 512 at most
+
+pub length-room : (room : ℕ) → length (take room noParties) ≡ min room 512
+unfolding noParties
+length-room room = length-take room noParties ∙ ap (min room) (length-replicate 512 noParty)
+
+pub table-length : (file : List ℕ) (room : ℕ) → length (storedRead file room .table) ≡ min room 512
+unfolding storedRead
+table-length file room = read-length newLedger (take room noParties) file ∙ length-room room
+
 -- ---- an answer that is no success: the output is as it was
 
-pub accept-refused-changes-nothing : (file book request out : List ℕ) → isAccepted (acceptStoredOf file book request out .answer) ≡ false →
-    acceptStoredOf file book request out .output ≡ out
-accept-refused-changes-nothing file book request out = by-read (storedRead file .answer)
+pub accept-refused-changes-nothing : (file : List ℕ) (room : ℕ) (book request out : List ℕ) →
+    isAccepted (acceptStoredOf file room book request out .answer) ≡ false → acceptStoredOf file room book request out .output ≡ out
+accept-refused-changes-nothing file room book request out = by-read (storedRead file room .answer)
   where
     after : AfterAccept
-    after = acceptOf (storedRead file .ledger) (storedRead file .table) (priceOf book request)
+    after = acceptOf (storedRead file room .ledger) (storedRead file room .table) (priceOf book request)
 
     by-written : (acceptance : Acceptance) (written : Written) → isAccepted (writtenAccept acceptance written) ≡ false →
         outputBy written (storedForm (after .ledger) (after .table)) out ≡ out
@@ -82,16 +93,16 @@ entry-call-changes-nothing ledger after out Standing.Stands h = by-answer (after
     by-answer (Answer.Refused r) h = refl
 entry-call-changes-nothing ledger after out (Standing.Refused r) h = refl
 
-pub pay-out-refused-changes-nothing : (file : List ℕ) (entry amount : ℕ) (out : List ℕ) →
-    isDone (payOutStoredOf file entry amount out .answer) ≡ false → payOutStoredOf file entry amount out .output ≡ out
-pay-out-refused-changes-nothing file entry amount out =
-    let read = storedRead file in
+pub pay-out-refused-changes-nothing : (file : List ℕ) (room entry amount : ℕ) (out : List ℕ) →
+    isDone (payOutStoredOf file room entry amount out .answer) ≡ false → payOutStoredOf file room entry amount out .output ≡ out
+pay-out-refused-changes-nothing file room entry amount out =
+    let read = storedRead file room in
     entry-call-changes-nothing (read .ledger) (payOutOf (read .ledger) (read .table) entry amount) out (read .answer)
 
-pub hand-over-refused-changes-nothing : (file : List ℕ) (entry person : ℕ) (out : List ℕ) →
-    isDone (handOverStoredOf file entry person out .answer) ≡ false → handOverStoredOf file entry person out .output ≡ out
-hand-over-refused-changes-nothing file entry person out =
-    let read = storedRead file in
+pub hand-over-refused-changes-nothing : (file : List ℕ) (room entry person : ℕ) (out : List ℕ) →
+    isDone (handOverStoredOf file room entry person out .answer) ≡ false → handOverStoredOf file room entry person out .output ≡ out
+hand-over-refused-changes-nothing file room entry person out =
+    let read = storedRead file room in
     entry-call-changes-nothing (read .ledger) (handOverOf (read .ledger) (read .table) entry person) out (read .answer)
 
 pub new-refused-changes-nothing : (out : List ℕ) → isDone (newStoredOf out .answer) ≡ false → newStoredOf out .output ≡ out

@@ -1,6 +1,7 @@
 // The calls on a pioneer ledger that is kept as its stored bytes: document 01, 'Ledger calls' and 'Stored form'. The bytes are read
-// into a table of 512 records, the call is made on it, and the new form goes to the start of a lent buffer. In turn: reading's
-// refusals, the call's, and 14 where the buffer is shorter than the new form. A refusal leaves the buffer as it was.
+// into a table of `room` records, 512 where that is more, the call is made on it, and the new form goes to the start of a lent
+// buffer. In turn: reading's refusals, the call's, and 14 where the buffer is shorter than the new form. A refusal leaves the
+// buffer as it was.
 use acceptance::accept::AcceptAnswer;
 use acceptance::accept::Acceptance;
 use ledger::entries::Answer;
@@ -12,6 +13,7 @@ use stored::writing::Written;
 use tagged::file::Refusal;
 use tagged::file::Standing;
 ghost use mathlib.Core.Path.{_≡_};
+ghost use lib.ListN.{take};
 ghost use Rattle.charge.specs.Price.{priceOf};
 ghost use Rattle.acceptance.specs.Accept.{acceptOf};
 ghost use Rattle.ledger.specs.Entries.{payOutOf, handOverOf};
@@ -54,17 +56,21 @@ pub enum StoredCheck {
     Sound(StoredCounts),
 }
 
-fn read_stored(file: &[u8]) -> ReadBack
-    ensures { λ r. ⌜ readEnd r ≡ storedRead (now (file .entry)) ⌝ }
+fn read_stored(file: &[u8], room: usize) -> ReadBack
+    ensures { λ r. ⌜ readEnd room r ≡ storedRead (now (file .entry)) room ⌝ }
 {
-    stored::reading::read(ledger::records::new_ledger(), 512, file)
+    stored::reading::read(
+        ledger::records::new_ledger(),
+        pioneer::records_of(room),
+        file,
+    )
 }
 
-fn write_stored(ledger: Ledger, parties: [Party; 512], out: &mut [u8]) -> Written
-    ensures { λ r. ⌜ r ≡ writeOf ledger parties (now (out .entry)) .answer ⌝ }
-    ensures { λ _. ⌜ now (out .exit) ≡ writeOf ledger parties (now (out .entry)) .output ⌝ }
+fn write_stored(ledger: Ledger, parties: [Party; 512], room: usize, out: &mut [u8]) -> Written
+    ensures { λ r. ⌜ r ≡ writeOf ledger (take room parties) (now (out .entry)) .answer ⌝ }
+    ensures { λ _. ⌜ now (out .exit) ≡ writeOf ledger (take room parties) (now (out .entry)) .output ⌝ }
 {
-    stored::writing::write(ledger, parties, 512, out)
+    stored::writing::write(ledger, parties, pioneer::records_of(room), out)
 }
 
 // What an accept answers once its ledger was written.
@@ -87,93 +93,129 @@ fn written_call(written: Written) -> StoredAnswer
     }
 }
 
-fn accept_read(read: ReadBack, book: &[u8], request: &[u8], out: &mut [u8]) -> StoredAccept
-    ensures { λ r. ⌜ r ≡ acceptEnd (acceptOf (read .ledger) (read .parties) (priceOf (now (book .entry)) (now (request .entry)))) (now (out .entry)) .answer ⌝ }
-    ensures { λ _. ⌜ now (out .exit) ≡ acceptEnd (acceptOf (read .ledger) (read .parties) (priceOf (now (book .entry)) (now (request .entry)))) (now (out .entry)) .output ⌝ }
+fn accept_read(
+    read: ReadBack,
+    room: usize,
+    book: &[u8],
+    request: &[u8],
+    out: &mut [u8],
+) -> StoredAccept
+    ensures { λ r. ⌜ r ≡ acceptEnd (acceptOf (read .ledger) (take room (read .parties)) (priceOf (now (book .entry)) (now (request .entry)))) (now (out .entry)) .answer ⌝ }
+    ensures { λ _. ⌜ now (out .exit) ≡ acceptEnd (acceptOf (read .ledger) (take room (read .parties)) (priceOf (now (book .entry)) (now (request .entry)))) (now (out .entry)) .output ⌝ }
 {
     let before = read.ledger;
     let table = read.parties;
-    let accepted = pioneer::accept_by_value(before, table, book, request);
+    let accepted = pioneer::accept_by_value(before, table, room, book, request);
     let answer = accepted.answer;
     match answer {
         AcceptAnswer::Accepted(acceptance) => {
             let after = accepted.ledger;
             let parties = accepted.parties;
-            let written = write_stored(after, parties, out);
+            let written = write_stored(after, parties, room, out);
             written_accept(acceptance, written)
         }
         AcceptAnswer::NotAccepted(refusal) => StoredAccept::NotAccepted(refusal),
     }
 }
 
-pub fn accept_stored(file: &[u8], book: &[u8], request: &[u8], out: &mut [u8]) -> StoredAccept
-    ensures { λ r. ⌜ r ≡ acceptStoredOf (now (file .entry)) (now (book .entry)) (now (request .entry)) (now (out .entry)) .answer ⌝ }
-    ensures { λ _. ⌜ now (out .exit) ≡ acceptStoredOf (now (file .entry)) (now (book .entry)) (now (request .entry)) (now (out .entry)) .output ⌝ }
+pub fn accept_stored(
+    file: &[u8],
+    room: usize,
+    book: &[u8],
+    request: &[u8],
+    out: &mut [u8],
+) -> StoredAccept
+    ensures { λ r. ⌜ r ≡ acceptStoredOf (now (file .entry)) room (now (book .entry)) (now (request .entry)) (now (out .entry)) .answer ⌝ }
+    ensures { λ _. ⌜ now (out .exit) ≡ acceptStoredOf (now (file .entry)) room (now (book .entry)) (now (request .entry)) (now (out .entry)) .output ⌝ }
 {
-    let read = read_stored(file);
+    let read = read_stored(file, room);
     let answer = read.answer;
     match answer {
-        Standing::Stands => accept_read(read, book, request, out),
+        Standing::Stands => accept_read(read, room, book, request, out),
         Standing::Refused(refusal) => StoredAccept::NotRead(refusal),
     }
 }
 
 // The ledger, which these calls leave as it is, with the table after a call.
-fn write_changed(ledger: Ledger, changed: ChangedTable, out: &mut [u8]) -> StoredAnswer
-    ensures { λ r. ⌜ r ≡ entryCallEnd ledger (afterCall changed) (now (out .entry)) .answer ⌝ }
-    ensures { λ _. ⌜ now (out .exit) ≡ entryCallEnd ledger (afterCall changed) (now (out .entry)) .output ⌝ }
+fn write_changed(ledger: Ledger, changed: ChangedTable, room: usize, out: &mut [u8]) -> StoredAnswer
+    ensures { λ r. ⌜ r ≡ entryCallEnd ledger (afterCall room changed) (now (out .entry)) .answer ⌝ }
+    ensures { λ _. ⌜ now (out .exit) ≡ entryCallEnd ledger (afterCall room changed) (now (out .entry)) .output ⌝ }
 {
     let answer = changed.answer;
     match answer {
         Answer::Done => {
             let parties = changed.parties;
-            let written = write_stored(ledger, parties, out);
+            let written = write_stored(ledger, parties, room, out);
             written_call(written)
         }
         Answer::Refused(refusal) => StoredAnswer::Refused(refusal),
     }
 }
 
-fn pay_out_read(read: ReadBack, entry: u32, amount: u64, out: &mut [u8]) -> StoredAnswer
-    ensures { λ r. ⌜ r ≡ entryCallEnd (read .ledger) (payOutOf (read .ledger) (read .parties) entry amount) (now (out .entry)) .answer ⌝ }
-    ensures { λ _. ⌜ now (out .exit) ≡ entryCallEnd (read .ledger) (payOutOf (read .ledger) (read .parties) entry amount) (now (out .entry)) .output ⌝ }
+fn pay_out_read(
+    read: ReadBack,
+    room: usize,
+    entry: u32,
+    amount: u64,
+    out: &mut [u8],
+) -> StoredAnswer
+    ensures { λ r. ⌜ r ≡ entryCallEnd (read .ledger) (payOutOf (read .ledger) (take room (read .parties)) entry amount) (now (out .entry)) .answer ⌝ }
+    ensures { λ _. ⌜ now (out .exit) ≡ entryCallEnd (read .ledger) (payOutOf (read .ledger) (take room (read .parties)) entry amount) (now (out .entry)) .output ⌝ }
 {
     let ledger = read.ledger;
     let parties = read.parties;
-    let changed = pioneer::pay_out_by_value(ledger, parties, entry, amount);
-    write_changed(ledger, changed, out)
+    let changed = pioneer::pay_out_by_value(ledger, parties, room, entry, amount);
+    write_changed(ledger, changed, room, out)
 }
 
-pub fn pay_out_stored(file: &[u8], entry: u32, amount: u64, out: &mut [u8]) -> StoredAnswer
-    ensures { λ r. ⌜ r ≡ payOutStoredOf (now (file .entry)) entry amount (now (out .entry)) .answer ⌝ }
-    ensures { λ _. ⌜ now (out .exit) ≡ payOutStoredOf (now (file .entry)) entry amount (now (out .entry)) .output ⌝ }
+pub fn pay_out_stored(
+    file: &[u8],
+    room: usize,
+    entry: u32,
+    amount: u64,
+    out: &mut [u8],
+) -> StoredAnswer
+    ensures { λ r. ⌜ r ≡ payOutStoredOf (now (file .entry)) room entry amount (now (out .entry)) .answer ⌝ }
+    ensures { λ _. ⌜ now (out .exit) ≡ payOutStoredOf (now (file .entry)) room entry amount (now (out .entry)) .output ⌝ }
 {
-    let read = read_stored(file);
+    let read = read_stored(file, room);
     let answer = read.answer;
     match answer {
-        Standing::Stands => pay_out_read(read, entry, amount, out),
+        Standing::Stands => pay_out_read(read, room, entry, amount, out),
         Standing::Refused(refusal) => StoredAnswer::NotRead(refusal),
     }
 }
 
-fn hand_over_read(read: ReadBack, entry: u32, person: u32, out: &mut [u8]) -> StoredAnswer
-    ensures { λ r. ⌜ r ≡ entryCallEnd (read .ledger) (handOverOf (read .ledger) (read .parties) entry person) (now (out .entry)) .answer ⌝ }
-    ensures { λ _. ⌜ now (out .exit) ≡ entryCallEnd (read .ledger) (handOverOf (read .ledger) (read .parties) entry person) (now (out .entry)) .output ⌝ }
+fn hand_over_read(
+    read: ReadBack,
+    room: usize,
+    entry: u32,
+    person: u32,
+    out: &mut [u8],
+) -> StoredAnswer
+    ensures { λ r. ⌜ r ≡ entryCallEnd (read .ledger) (handOverOf (read .ledger) (take room (read .parties)) entry person) (now (out .entry)) .answer ⌝ }
+    ensures { λ _. ⌜ now (out .exit) ≡ entryCallEnd (read .ledger) (handOverOf (read .ledger) (take room (read .parties)) entry person) (now (out .entry)) .output ⌝ }
 {
     let ledger = read.ledger;
     let parties = read.parties;
-    let changed = pioneer::hand_over_by_value(ledger, parties, entry, person);
-    write_changed(ledger, changed, out)
+    let changed = pioneer::hand_over_by_value(ledger, parties, room, entry, person);
+    write_changed(ledger, changed, room, out)
 }
 
-pub fn hand_over_stored(file: &[u8], entry: u32, person: u32, out: &mut [u8]) -> StoredAnswer
-    ensures { λ r. ⌜ r ≡ handOverStoredOf (now (file .entry)) entry person (now (out .entry)) .answer ⌝ }
-    ensures { λ _. ⌜ now (out .exit) ≡ handOverStoredOf (now (file .entry)) entry person (now (out .entry)) .output ⌝ }
+pub fn hand_over_stored(
+    file: &[u8],
+    room: usize,
+    entry: u32,
+    person: u32,
+    out: &mut [u8],
+) -> StoredAnswer
+    ensures { λ r. ⌜ r ≡ handOverStoredOf (now (file .entry)) room entry person (now (out .entry)) .answer ⌝ }
+    ensures { λ _. ⌜ now (out .exit) ≡ handOverStoredOf (now (file .entry)) room entry person (now (out .entry)) .output ⌝ }
 {
-    let read = read_stored(file);
+    let read = read_stored(file, room);
     let answer = read.answer;
     match answer {
-        Standing::Stands => hand_over_read(read, entry, person, out),
+        Standing::Stands => hand_over_read(read, room, entry, person, out),
         Standing::Refused(refusal) => StoredAnswer::NotRead(refusal),
     }
 }
@@ -185,7 +227,7 @@ pub fn new_stored(out: &mut [u8]) -> StoredAnswer
 {
     let none = ledger::records::no_party();
     let parties = [none; 512];
-    let written = write_stored(ledger::records::new_ledger(), parties, out);
+    let written = write_stored(ledger::records::new_ledger(), parties, 512, out);
     written_call(written)
 }
 
@@ -202,10 +244,10 @@ fn counts_of(ledger: Ledger) -> StoredCounts
     }
 }
 
-pub fn check_stored(file: &[u8]) -> StoredCheck
-    ensures { λ r. ⌜ r ≡ checkStoredOf (now (file .entry)) ⌝ }
+pub fn check_stored(file: &[u8], room: usize) -> StoredCheck
+    ensures { λ r. ⌜ r ≡ checkStoredOf (now (file .entry)) room ⌝ }
 {
-    let read = read_stored(file);
+    let read = read_stored(file, room);
     let answer = read.answer;
     match answer {
         Standing::Stands => {

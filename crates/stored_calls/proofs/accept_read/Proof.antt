@@ -1,4 +1,5 @@
 use mathlib.Core.Path.{sym, ap, _∙_}
+use lib.ListN.{take}
 use borrow.Author.Needs.{needs}
 use Rattle.charge.specs.Price.{priceOf}
 use Rattle.acceptance.specs.Accept.{acceptOf}
@@ -30,7 +31,7 @@ returns c =
     let written = c .before .before .before in
     let told = written .before .before .before .before .before in
     let accepted = told .before .before in
-    let after = accepted .accept-by-value .ensures in
+    let after = accepted .accept-by-value .ensures .0 in
     let out = accepted .before .before .before .before .before .before .args .out .now in
     let end = accept-done out (sym (told .answer .given .1) ∙ after .answers) (after .books) (after .leaves) in (
       c .written-accept .ensures ∙ ap (writtenAccept _) (written .write-stored .ensures .0) ∙ ap (λ e. e .answer) end,
@@ -42,8 +43,8 @@ returns-2 c =
     let told = c .before in
     let accepted = told .before .before in
     let args = accepted .before .before .before .before .before .before .args in
-    let after = acceptOf (args .read .ledger) (args .read .parties) (priceOf (args .book .now) (args .request .now)) in
-    let end = accept-refused after (args .out .now) (sym (told .answer2 .given .1) ∙ accepted .accept-by-value .ensures .answers) in
+    let after = acceptOf (args .read .ledger) (take (args .room) (args .read .parties)) (priceOf (args .book .now) (args .request .now)) in
+    let end = accept-refused after (args .out .now) (sym (told .answer2 .given .1) ∙ accepted .accept-by-value .ensures .0 .answers) in
     (ap (λ e. e .answer) end, ap (λ e. e .output) end)
 
 pub accept-read-spec : {M : Type 1} → statement M

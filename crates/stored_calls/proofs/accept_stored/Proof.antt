@@ -26,7 +26,7 @@ returns c =
     let told = called .before .before in
     let stood = told .before .before in
     let args = stood .before .before .before .before .before .args in
-    let end = once-read (stood .read-stored .result) (λ read. acceptOnRead read (args .book .now) (args .request .now) (args .out .now)) (told .enum-told .given .1)
+    let end = once-read (args .room) (stood .read-stored .result) (λ read. acceptOnRead read (args .book .now) (args .request .now) (args .out .now)) (told .enum-told .given .1)
     (stood .read-stored .ensures) in
     (called .accept-read .ensures .0 ∙ ap (λ e. e .answer) end, called .accept-read .ensures .1 ∙ ap (λ e. e .output) end)
 
@@ -35,7 +35,7 @@ returns-2 c =
     let told = c .before in
     let stood = told .before .before in
     let args = stood .before .before .before .before .before .args in
-    let end = once-read (stood .read-stored .result) (λ read. acceptOnRead read (args .book .now) (args .request .now) (args .out .now)) (told .answer .given .1)
+    let end = once-read (args .room) (stood .read-stored .result) (λ read. acceptOnRead read (args .book .now) (args .request .now) (args .out .now)) (told .answer .given .1)
     (stood .read-stored .ensures) in
     (ap (λ e. e .answer) end, ap (λ e. e .output) end)
 

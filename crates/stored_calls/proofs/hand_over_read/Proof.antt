@@ -1,4 +1,5 @@
 use mathlib.Core.Path.{ap, _∙_}
+use lib.ListN.{take}
 use borrow.Author.Needs.{needs}
 use Rattle.ledger.specs.Entries.{handOverOf}
 use Rattle.stored_calls.proofs.Ends.{call-by-value}
@@ -19,8 +20,8 @@ returns c =
     let written = c .before .before in
     let called = written .before .before in
     let args = called .before .before .before .before .args in
-    let told = called .hand-over-by-value .ensures in
-    let after = handOverOf (args .read .ledger) (args .read .parties) (args .entry) (args .person) in
+    let told = called .hand-over-by-value .ensures .0 in
+    let after = handOverOf (args .read .ledger) (take (args .room) (args .read .parties)) (args .entry) (args .person) in
     let end = call-by-value (args .read .ledger) after (args .out .now) (told .answers) (told .leaves) in
     (written .write-changed .ensures .0 ∙ ap (λ e. e .answer) end, written .write-changed .ensures .1 ∙ ap (λ e. e .output) end)
 

@@ -31,7 +31,7 @@ returns c =
     let args = stood .before .before .before .args in
     let call : (read : ReadEnd) → CallEnd StoredAnswer =
     λ read. entryCallOnRead read (λ ledger table. handOverOf ledger table (args .entry) (args .person)) (args .out .now) in
-    let end = once-read (stood .read-stored .result) call (told .enum-told .given .1) (stood .read-stored .ensures) in
+    let end = once-read (args .room) (stood .read-stored .result) call (told .enum-told .given .1) (stood .read-stored .ensures) in
     (called .hand-over-read .ensures .0 ∙ ap (λ e. e .answer) end, called .hand-over-read .ensures .1 ∙ ap (λ e. e .output) end)
 
 returns-2 : tie.Need-returns-2
@@ -41,7 +41,7 @@ returns-2 c =
     let args = stood .before .before .before .args in
     let call : (read : ReadEnd) → CallEnd StoredAnswer =
     λ read. entryCallOnRead read (λ ledger table. handOverOf ledger table (args .entry) (args .person)) (args .out .now) in
-    let end = once-read (stood .read-stored .result) call (told .answer .given .1) (stood .read-stored .ensures) in
+    let end = once-read (args .room) (stood .read-stored .result) call (told .answer .given .1) (stood .read-stored .ensures) in
     (ap (λ e. e .answer) end, ap (λ e. e .output) end)
 
 pub hand-over-stored-spec : {M : Type 1} → statement M

@@ -1,4 +1,4 @@
-use mathlib.Core.Path.{ap, _∙_}
+use mathlib.Core.Path.{ap, ap₂, _∙_}
 use borrow.Author.Needs.{needs}
 use Rattle.stored.specs.Reading.{readBack}
 use Rattle.stored_calls.specs.StoredCalls.{readEnd}
@@ -9,14 +9,18 @@ use Rattle.stored_calls.proofs.read_stored.Tie as tie
 new-ledger-requires : tie.Need-new-ledger-requires
 new-ledger-requires c κs = search needs
 
+records-of-requires : tie.Need-records-of-requires
+records-of-requires c κs = search needs
+
 read-requires : tie.Need-read-requires
 read-requires c κs = search needs
 
 returns : tie.Need-returns
 returns c =
-    let file = c .before .before .before .args .file .now in
-    let fresh = c .before .new-ledger .ensures in
-    ap readEnd (c .read .ensures ∙ ap (λ ledger. readBack ledger 512 file) fresh) ∙ read-by-value file
+    let counted = c .before in
+    let args = counted .before .before .before .args in
+    let same = ap₂ (λ ledger records. readBack ledger records (args .file .now)) (counted .before .new-ledger .ensures) (counted .records-of .ensures) in
+    ap (readEnd (args .room)) (c .read .ensures ∙ same) ∙ read-by-value (args .file .now) (args .room)
 
 pub read-stored-spec : {M : Type 1} → statement M
-read-stored-spec = tie.close (tie.spec new-ledger-requires read-requires returns)
+read-stored-spec = tie.close (tie.spec new-ledger-requires records-of-requires read-requires returns)

@@ -25,7 +25,7 @@ returns c =
     let written = c .before .before .before in
     let told = written .before .before .before in
     let args = told .before .before .before .args in
-    let end = call-done (args .ledger) (afterCall (args .changed)) (args .out .now) (told .enum-told .given .1) in (
+    let end = call-done (args .ledger) (afterCall (args .room) (args .changed)) (args .out .now) (told .enum-told .given .1) in (
       c .written-call .ensures ∙ ap writtenCall (written .write-stored .ensures .0) ∙ ap (λ e. e .answer) end,
       written .write-stored .ensures .1 ∙ ap (λ e. e .output) end,
     )
@@ -34,7 +34,7 @@ returns-2 : tie.Need-returns-2
 returns-2 c =
     let told = c .before in
     let args = told .before .before .before .args in
-    let end = call-refused (args .ledger) (afterCall (args .changed)) (args .out .now) (told .answer .given .1) in
+    let end = call-refused (args .ledger) (afterCall (args .room) (args .changed)) (args .out .now) (told .answer .given .1) in
     (ap (λ e. e .answer) end, ap (λ e. e .output) end)
 
 pub write-changed-spec : {M : Type 1} → statement M

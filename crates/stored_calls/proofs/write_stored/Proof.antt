@@ -1,8 +1,11 @@
 use mathlib.Core.Path.{ap, _∙_}
 use borrow.Author.Needs.{needs}
-use Rattle.stored_calls.proofs.Ends.{write-by-value}
+use Rattle.stored_calls.proofs.Ends.{writeAt, write-by-value}
 use Rattle.stored_calls.proofs.write_stored.Statement.{statement}
 use Rattle.stored_calls.proofs.write_stored.Tie as tie
+
+records-of-requires : tie.Need-records-of-requires
+records-of-requires c κs = search needs
 
 write-requires : tie.Need-write-requires
 write-requires c κs = search needs
@@ -12,9 +15,14 @@ same-length c = search needs
 
 returns : tie.Need-returns
 returns c =
-    let args = c .before .before .before .before .before .args in
-    let same = write-by-value (args .ledger) (args .parties) (args .out .now) (search needs) in
-    (c .before .before .write .ensures .0 ∙ ap (λ end. end .answer) same, c .before .before .write .ensures .1 ∙ ap (λ end. end .output) same)
+    let written = c .before .before in
+    let counted = written .before .before in
+    let args = counted .before .before .args in
+    let out = args .out .now in
+    let same =
+    ap (λ records. writeAt (args .ledger) (args .parties) records out) (counted .records-of .ensures)
+    ∙ write-by-value (args .ledger) (args .parties) (args .room) out (search needs) in
+    (written .write .ensures .0 ∙ ap (λ end. end .answer) same, written .write .ensures .1 ∙ ap (λ end. end .output) same)
 
 pub write-stored-spec : {M : Type 1} → statement M
-write-stored-spec = tie.close (tie.spec write-requires same-length returns)
+write-stored-spec = tie.close (tie.spec records-of-requires write-requires same-length returns)
