@@ -9,8 +9,10 @@ use lib.ListN.{length, take, getD, set, length-take, length-set, length-map}
 use lib.Seq.{getD-set-same, getD-set-other}
 use lib.Dec.{eqb}
 use borrow.Author.Tests.{eqb-true, eqb-false}
+use Rattle.tagged.specs.BigEndian.{Bytes}
 use Rattle.tagged.specs.File.{refusal}
-use Rattle.charge.specs.PriceFacts.{BillWithin}
+use Rattle.charge.specs.Price.{priceOf}
+use Rattle.charge.specs.PriceFacts.{BillWithin, priced-within}
 use Rattle.charge.specs.declared.Bill.{Bill}
 use Rattle.charge.specs.declared.Pricing.{Pricing}
 use Rattle.charge.specs.declared.Pricing.the-variants.{Priced, NotPriced}
@@ -379,6 +381,13 @@ module _ (ledger : Ledger) (table : List Party) (bill : Bill) (h : SoundLedger l
 abbrev pub PricingWithin : Pricing → Type 0
 PricingWithin (Priced bill) = BillWithin bill
 PricingWithin (NotPriced r) = Unit {0}
+
+pub pricing-within : (book request : List ℕ) → Bytes book → Bytes request → PricingWithin (priceOf book request)
+pricing-within book request book-bytes request-bytes = by (priceOf book request) refl
+  where
+    by : (pricing : Pricing) → priceOf book request ≡ pricing → PricingWithin pricing
+    by (Priced bill) priced = priced-within book request bill book-bytes request-bytes priced
+    by (NotPriced r) refused = tt
 
 pub accept-keeps-sound : (ledger : Ledger) (table : List Party) (pricing : Pricing) → length (ledger .schemes) ≡ 64 → PricingWithin pricing →
     sound ledger table (length table) ≡ true →

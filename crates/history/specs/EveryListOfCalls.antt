@@ -9,7 +9,6 @@ use lib.Dec.{leb, ltb, eqb}
 use borrow.Author.Tests.{le-leb}
 use Rattle.tagged.specs.WalkFacts.{by-test}
 use Rattle.charge.specs.Price.{priceOf}
-use Rattle.charge.specs.PriceFacts.{priced-within}
 use Rattle.charge.specs.PriceRefusals.{pricing-refusal-numbers}
 use Rattle.charge.specs.declared.Bill.{Bill}
 use Rattle.charge.specs.declared.Pricing.{Pricing}
@@ -19,7 +18,7 @@ use Rattle.ledger.specs.Sound.{partiesSound, schemesSound, allZero, sound}
 use Rattle.ledger.specs.SoundFacts.{SoundLedger, sound-means}
 use Rattle.acceptance.specs.Verdict.{Columns, opensScheme, tableFull, termsAt, verdict}
 use Rattle.acceptance.specs.Accept.{answerOf}
-use Rattle.acceptance.specs.AcceptKeepsSound.{PricingWithin, accept-keeps-sound}
+use Rattle.acceptance.specs.AcceptKeepsSound.{pricing-within, accept-keeps-sound}
 use Rattle.ledger.specs.EntriesKeepSound.{pay-out-keeps-sound, hand-over-keeps-sound}
 use Rattle.ledger.specs.declared.records.Party.{Party}
 use Rattle.acceptance.specs.declared.verdict.Verdict.{Verdict}
@@ -123,16 +122,9 @@ module _ (start : List Party) (history : List Event) (state : State) (held : Hel
       sound-means (ledgerIn history) (tableIn history start) (length start)
       (ap₂ (λ ledger table. sound ledger table (length start)) (sym (held .shows .ledger)) (sym (held .shows .table)) ∙ held .stands)
 
-  bill-fits : (book request : List ℕ) → Fits (accept book request) → PricingWithin (priceOf book request)
-  bill-fits book request fits = by (priceOf book request) refl
-    where
-      by : (pricing : Pricing) → priceOf book request ≡ pricing → PricingWithin pricing
-      by (Priced bill) e = priced-within book request bill (fits .0) (fits .1) e
-      by (NotPriced r) e = tt
-
   stands-step : (call : Call) → Fits call → sound (leaves state call .ledger) (leaves state call .table) (length (state .table)) ≡ true
   stands-step (accept book request) fits =
-      accept-keeps-sound (state .ledger) (state .table) (priceOf book request) places (bill-fits book request fits) stands-here
+      accept-keeps-sound (state .ledger) (state .table) (priceOf book request) places (pricing-within book request (fits .0) (fits .1)) stands-here
   stands-step (payOut e amount) fits = pay-out-keeps-sound (state .ledger) (state .table) (length (state .table)) e amount stands-here
   stands-step (handOver e to) fits = hand-over-keeps-sound (state .ledger) (state .table) (length (state .table)) e to stands-here
 

@@ -45,8 +45,11 @@ reconciles costs ir a share h =
           ∙ ap (λ n. pos n -ℤ pos ir) parts,
     )
 
--- the limits that a ledger needs
+-- the limits that a ledger needs, and that every figure fits 64 bits with a sign
 pub record Bounded (r : Reconciliation) : Type 0 where
+  pub parts : r .ic ≡ r .me + r .mc + r .ce + r .cc2 + r .tw + r .hr + r .ol
+  pub ic : r .ic ≤ 1100000000000
+  pub ir : r .ir ≤ 3968000000000
   pub x : r .x ≤ 2000000000
   pub cc : r .cc ≤ 1100000000000
   pub borne : r .borne ≤ 1100000000000
@@ -63,6 +66,9 @@ pub reconciliation-bounded :
 reconciliation-bounded {costs} {ir} {a} {share} w i h s =
     let whole = reconciles costs ir a share h in
     record {
+      parts = refl;
+      ic = omega arith;
+      ir = i;
       x = omega arith;
       cc = omega (arith, whole .0);
       borne = omega (arith, whole .0);

@@ -50,7 +50,7 @@ pub struct Reconciliation {
     pub nc_ratio: Percent,
 }
 
-fn signed(x: u64) -> i64
+pub fn signed(x: u64) -> i64
     requires { ⌜ x < 9223372036854775808 ⌝ }
     ensures { λ r. ⌜ r ≡ pos x ⌝ }
 {

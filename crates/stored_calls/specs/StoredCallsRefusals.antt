@@ -17,16 +17,13 @@ use Rattle.tagged.specs.declared.file.Standing.{Standing}
 use Rattle.tagged.specs.declared.file.Standing.the-variants as Standing
 use Rattle.field_values.specs.Judged.{judgeLetters}
 use Rattle.charge.specs.Price.{priceOf}
-use Rattle.charge.specs.PriceFacts.{priced-within}
 use Rattle.charge.specs.declared.Bill.{Bill}
-use Rattle.charge.specs.declared.Pricing.{Pricing}
-use Rattle.charge.specs.declared.Pricing.the-variants.{Priced, NotPriced}
 use Rattle.ledger.specs.Records.{noScheme, newLedger}
 use Rattle.ledger.specs.Sound.{sound}
 use Rattle.ledger.specs.SoundFacts.{sound-means}
 use Rattle.acceptance.specs.Accept.{AfterAccept, acceptOf}
 use Rattle.acceptance.specs.AcceptFacts.{NoEntryLeft, MustOpen, MustJoin, Answers, opening-refused-9, joining-refused-9, refusedBy, answers-only}
-use Rattle.acceptance.specs.AcceptKeepsSound.{PricingWithin, accept-keeps-sound, accept-keeps-lengths}
+use Rattle.acceptance.specs.AcceptKeepsSound.{pricing-within, accept-keeps-sound, accept-keeps-lengths}
 use Rattle.ledger.specs.Entries.{AfterEntryCall, payOutChange, handOverChange, payOutOf, handOverOf}
 use Rattle.ledger.specs.EntriesFacts.{pay-out-refused-13, hand-over-refused-13}
 use Rattle.ledger.specs.EntriesKeepSound.{pay-out-keeps-sound, hand-over-keeps-sound}
@@ -99,10 +96,6 @@ module _ (file : List ℕ) (room : ℕ) (book request : List ℕ) (book-bytes : 
   abbrev after : AfterAccept
   after = acceptOf ledger table (priceOf book request)
 
-  within : (pricing : Pricing) → priceOf book request ≡ pricing → PricingWithin pricing
-  within (Priced bill) priced = priced-within book request bill book-bytes request-bytes priced
-  within (NotPriced r) refused = tt
-
   accepted-was-sound : (acceptance : Acceptance) → after .answer ≡ AcceptAnswer.Accepted acceptance → sound ledger table (length table) ≡ true
   unfolding acceptOf
   accepted-was-sound acceptance accepted =
@@ -120,7 +113,7 @@ module _ (file : List ℕ) (room : ℕ) (book request : List ℕ) (book-bytes : 
   accept-refused-14 out acceptance r stands accepted refused =
       let kept = accept-keeps-lengths ledger table (priceOf book request) .1 in
       let holds =
-      accept-keeps-sound ledger table (priceOf book request) (read-places file room) (within (priceOf book request) refl)
+      accept-keeps-sound ledger table (priceOf book request) (read-places file room) (pricing-within book request book-bytes request-bytes)
       (accepted-was-sound acceptance accepted) in
       let written = writeOf (after .ledger) (after .table) out in
       write-refusal (after .ledger) (after .table) out r (ap (sound (after .ledger) (after .table)) kept ∙ holds)

@@ -1,17 +1,16 @@
-use mathlib.Core.List.{List, _++_}
-use mathlib.Core.Path.{_≡_, ap, _∙_}
-use Prim.Native.Nat.{ℕ, _-_, _≤_}
+use mathlib.Core.Path.{_≡_}
+use Prim.Native.Nat.{_-_, _≤_}
 use native.Mathlib.Omega.{arith}
 use borrow.Author.Needs.{needs}
-use lib.ListN.{set, getD, length, take, drop}
+use lib.ListN.{length}
 use Rattle.slip_text.specs.Slip.{room}
-use Rattle.slip_text.proofs.Copying.{copy-one-more}
+use Rattle.slip_text.proofs.Copying.{copied, copy-one-more}
 use Rattle.slip_text.proofs.write_text.Statement.{statement}
 use Rattle.slip_text.proofs.write_text.Tie as tie
 
 abbrev Inv-loop : tie.InvT-loop
 Inv-loop out₀ text i₀ out i =
-    (out ≡ take i (text .bytes) ++ drop i out₀) × (length out ≡ length out₀) × (i ≤ text .len)
+    (out ≡ copied out₀ (text .bytes) i) × (length out ≡ length out₀) × (i ≤ text .len)
 
 abbrev μ-loop : tie.MeasureT-loop
 μ-loop out₀ text i₀ out i = text .len - i
@@ -37,8 +36,7 @@ loop-again c =
     let i = head .loop .i in
     let bytes = head .before .args .t1 .bytes in
     let long : length bytes ≡ room = search needs in (
-      ap (λ (l : List ℕ). set l i (getD bytes i 0)) (head .loop .inv .0)
-          ∙ copy-one-more (head .before .args .out .now) bytes i (omega arith) (omega arith),
+      copy-one-more (head .before .args .out .now) bytes i 0 (head .loop .inv .0) (omega arith) (omega arith),
       search needs,
       omega arith,
     )

@@ -1,0 +1,17 @@
+use mathlib.Core.Path.{ap, _∙_}
+use borrow.Author.Needs.{needs}
+use Rattle.quoting_unit.specs.Interface.{done}
+use Rattle.quoting_unit.proofs.acceptance_outcome.Statement.{statement}
+use Rattle.quoting_unit.proofs.acceptance_outcome.Tie as tie
+
+scheme-told-requires : tie.Need-scheme-told-requires
+scheme-told-requires c κs = search needs
+
+done-requires : tie.Need-done-requires
+done-requires c κs = search needs
+
+returns : tie.Need-returns
+returns c = c .done .ensures ∙ ap done (c .before .scheme-told .ensures)
+
+pub acceptance-outcome-spec : {M : Type 1} → statement M
+acceptance-outcome-spec = tie.close (tie.spec scheme-told-requires done-requires returns)

@@ -1,0 +1,87 @@
+use mir.Syntax.{w64}
+use mir.Val.{SFits}
+use mir.ValLaws.{toZ-ofZ}
+use Prim.Native.Nat.{_-_, _≤_}
+use lib.IntN.{pos}
+use mathlib.Core.Path.{_≡_}
+use lib.ListN.{length, getD}
+use Rattle.slip_text.proofs.Copying.{copied, copy-one-more, copied-whole}
+use native.Mathlib.Omega.{arith}
+use borrow.Author.Needs.{needs}
+use Rattle.quoting_unit.proofs.write_figures.Statement.{statement}
+use Rattle.quoting_unit.proofs.write_figures.Tie as tie
+
+abbrev Inv-loop : tie.InvT-loop
+Inv-loop figures₀ places i₀ figures i =
+    (figures ≡ copied figures₀ places i) × (length figures ≡ length figures₀) × (i ≤ 21)
+
+abbrev μ-loop : tie.MeasureT-loop
+μ-loop figures₀ places i₀ figures i = 21 - i
+
+figure-places-requires : tie.Need-figure-places-requires Inv-loop μ-loop
+figure-places-requires c κs = search needs
+
+loop-holds : tie.Need-loop-holds Inv-loop μ-loop
+loop-holds c = search needs
+
+mul-figures : tie.Need-mul-figures Inv-loop μ-loop
+mul-figures c = search needs
+
+array-copy-out-figures : tie.Need-array-copy-out-figures Inv-loop μ-loop
+array-copy-out-figures c = search needs
+
+mul-t11 : tie.Need-mul-t11 Inv-loop μ-loop
+mul-t11 c = search needs
+
+slice-set-from-figures : tie.Need-slice-set-from-figures Inv-loop μ-loop
+slice-set-from-figures c = search needs
+
+add-i : tie.Need-add-i Inv-loop μ-loop
+add-i c = search needs
+
+loop-less : tie.Need-loop-less Inv-loop μ-loop
+loop-less c = search needs
+
+loop-again : tie.Need-loop-again Inv-loop μ-loop
+loop-again c =
+    let head = c .before .before in
+    let i = head .loop .i in
+    let places = head .before .figure-places .result in
+    let before = head .before .before .args .figures .now in
+    let long : length places ≡ 21 = search needs in
+    let fits : SFits w64 (getD places i (pos 0)) = search needs in (
+      rw (toZ-ofZ w64 (getD places i (pos 0)) fits)
+          (copy-one-more before places i (pos 0) (head .loop .inv .0) (omega arith) (omega arith)),
+      search needs,
+      omega arith,
+    )
+
+same-length : tie.Need-same-length Inv-loop μ-loop
+same-length c = search needs
+
+returns : tie.Need-returns Inv-loop μ-loop
+returns c =
+    let end = c .before in
+    let places = end .before .figure-places .result in
+    let long : length places ≡ 21 = search needs in
+    let all : end .loop .i ≡ 21 = omega arith in
+    let before = end .before .before .args .figures .now in
+    rw (end .before .figure-places .ensures) at (copied-whole before places 21 (rw all at (end .loop .inv .0)) long)
+
+pub write-figures-spec : {M : Type 1} → statement M
+write-figures-spec =
+    tie.close
+    (tie.spec
+    Inv-loop
+    μ-loop
+    figure-places-requires
+    loop-holds
+    mul-figures
+    array-copy-out-figures
+    mul-t11
+    slice-set-from-figures
+    add-i
+    loop-less
+    loop-again
+    same-length
+    returns)

@@ -1,0 +1,6 @@
+pub mod Interface
+pub mod Unit
+pub mod UnitBuffers
+pub mod UnitFacts
+pub mod UnitRefusals
+pub mod UnitRows

@@ -1,0 +1,3 @@
+pub mod HandedAfter
+pub mod StoredDemand
+pub mod EveryListOfStoredCalls
