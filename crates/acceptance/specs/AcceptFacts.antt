@@ -1,7 +1,8 @@
--- Exactly when accept answers what, in document 01's order of refusals: 13, pricing's own, 10, 7, 6, 8, 9; and what it leaves as it was.
+-- Exactly when accept answers what, in document 01's order of refusals: 13, pricing's own, 10, 7, 6, 8, 9; what it leaves as it was,
+-- and the numbers that it refuses with.
 use Prim.Native.Nat.{ℕ, _+_, _-_, _<_, _≤_}
 use mathlib.Core.Path.{_≡_, refl, sym, ap, subst, _∙_}
-use mathlib.Core.List.{List}
+use mathlib.Core.List.{List, [], _∷_}
 use mathlib.Core.Bool.{Bool, true, false, cond}
 use mathlib.Core.Logic.{_⊎_, inl, inr, ⊎-elim}
 use mathlib.Mathlib.Data.Bool.Basic.{dichotomy}
@@ -25,6 +26,7 @@ use Rattle.acceptance.specs.Verdict.{Columns, columnsOf, termsOf, termsA
 use Rattle.acceptance.specs.VerdictLaws as laws
 use Rattle.acceptance.specs.VerdictLaws.{terms-at, verdict-refused-10, verdict-refused-7, verdict-refused-6, verdict-opening, verdict-joining, opening-plain, opening-refused-8, opening-opens, joining-ended, joining-small, joining-joins}
 use Rattle.ledger.specs.SoundFacts.{not-both, sound-means}
+use Rattle.ledger.specs.RefusalNumbers.{oneOf}
 use Rattle.acceptance.specs.Accept.{booked, opened, firstEntry, joined, joinerEntry, accepted, AfterAccept, notAccepted, acceptedBy, acceptPriced, acceptOf, joiningCredits, padded, plannedBy, refusedPlan, billPlan, pricedPlan, planOf, planTable}
 use Rattle.ledger.specs.declared.records.Scheme.{Scheme}
 use Rattle.ledger.specs.declared.records.Party.{Party}
@@ -35,6 +37,7 @@ use Rattle.acceptance.specs.declared.accept.Plan.{Plan}
 use Rattle.acceptance.specs.declared.accept.SchemeAnswer.{SchemeAnswer}
 use Rattle.acceptance.specs.declared.accept.SchemeAnswer.the-variants.{Plain, Opened, Joined, Small, Ended}
 use Rattle.acceptance.specs.declared.accept.Acceptance.{Acceptance}
+use Rattle.acceptance.specs.declared.accept.AcceptAnswer.{AcceptAnswer}
 use Rattle.acceptance.specs.declared.accept.AcceptAnswer.the-variants.{Accepted, NotAccepted}
 
 -- the scheme with number s, and the one that a request joins
@@ -165,6 +168,11 @@ pub data Answers (ledger : Ledger) (table : List Party) (pricing : Pricing) : Af
       Answers ledger table pricing (connectedAfter ledger table bill Small)
   joins : {bill : Bill} {G : ℕ} → MustJoin ledger table pricing bill → EntryLeft ledger table → G ≡ contributionOf ledger table bill →
       Answers ledger table pricing (joinedAfter ledger table bill G)
+
+-- a refusal is pricing's, or has one of these numbers
+abbrev pub AcceptRefuses : Pricing → AcceptAnswer → Type 0
+AcceptRefuses pricing (Accepted acceptance) = Unit {0}
+AcceptRefuses pricing (NotAccepted r) = (pricing ≡ NotPriced r) ⊎ (oneOf (6 ∷ 7 ∷ 8 ∷ 9 ∷ 10 ∷ 13 ∷ []) (r .number) ≡ true)
 
 -- ---- each case is accept's
 
@@ -351,6 +359,24 @@ module _ (ledger : Ledger) (table : List Party) where
         unchanged (ended _ _) e = absurd (not-refused e)
         unchanged (small _ _) e = absurd (not-refused e)
         unchanged (joins _ _ _) e = absurd (not-refused e)
+
+    pub accept-refusal-numbers : AcceptRefuses pricing (acceptOf ledger table pricing .answer)
+    accept-refusal-numbers = numbers accept-answers
+      where
+        numbers : {after : AfterAccept} → Answers ledger table pricing after → AcceptRefuses pricing (after .answer)
+        numbers (refused-13 _) = inr refl
+        numbers (refused-by-pricing _ refused) = inl refused
+        numbers (refused-10 _ _) = inr refl
+        numbers (refused-7 _ _ _) = inr refl
+        numbers (refused-6 _ _) = inr refl
+        numbers (refused-8 _ _) = inr refl
+        numbers (opening-refused-9 _ _ _) = inr refl
+        numbers (joining-refused-9 _ _) = inr refl
+        numbers (plain _ _ _) = tt
+        numbers (opens _ _ _) = tt
+        numbers (ended _ _) = tt
+        numbers (small _ _) = tt
+        numbers (joins _ _ _) = tt
 
 -- ---- the plan over a snapshot of the table comes to the same as accept
 

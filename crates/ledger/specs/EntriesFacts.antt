@@ -1,8 +1,8 @@
--- When pay-out and hand-over answer what, and what they leave as it was.
+-- When pay-out and hand-over answer what, what they leave as it was, and the numbers that they refuse with.
 use Prim.Native.Nat.{ℕ, _+_, _-_, _≤_, _<_}
 use mathlib.Core.Path.{_≡_, refl}
-use mathlib.Core.List.{List}
-use mathlib.Core.Bool.{true, false, cond}
+use mathlib.Core.List.{List, [], _∷_}
+use mathlib.Core.Bool.{Bool, true, false, cond}
 use native.Mathlib.Omega.{arith}
 use lib.ListN.{length, set}
 use lib.Seq.{getD-set-other}
@@ -13,7 +13,8 @@ use Rattle.tagged.specs.declared.file.Refusal.{Refusal}
 use Rattle.ledger.specs.Records.{noParty}
 use Rattle.ledger.specs.Sound.{sound}
 use Rattle.ledger.specs.SoundFacts.{both-true, not-both}
-use Rattle.ledger.specs.Entries.{entryExists, entryAt, paidMore, handedTo, changeOf, payOutChange, handOverChange, withEntry, payOutOf, handOverOf}
+use Rattle.ledger.specs.RefusalNumbers.{oneOf}
+use Rattle.ledger.specs.Entries.{entryExists, entryAt, paidMore, handedTo, payOutAnswer, handOverAnswer, changeOf, payOutChange, handOverChange, withEntry, payOutOf, handOverOf}
 use Rattle.ledger.specs.declared.records.Party.{Party}
 use Rattle.ledger.specs.declared.records.Ledger.{Ledger}
 use Rattle.ledger.specs.declared.entries.Answer.{Answer}
@@ -105,3 +106,41 @@ other-entries-kept parties entry other change e o differs = kept (change .answer
     kept : (answer : Answer) (party : Party) → entryAt (withEntry parties entry (record { answer = answer; party = party })) other ≡ entryAt parties other
     kept Done party = getD-set-other parties (entry - 1) (other - 1) party noParty (λ same. differs (omega arith))
     kept (Refused r) party = refl
+
+-- ---- the numbers that they refuse with
+
+abbrev pub EntryCallRefuses : List ℕ → Answer → Type 0
+EntryCallRefuses numbers Done = Unit {0}
+EntryCallRefuses numbers (Refused r) = oneOf numbers (r .number) ≡ true
+
+change-refuses : (numbers : List ℕ) (answer : Answer) (party : Party) → EntryCallRefuses numbers answer →
+    EntryCallRefuses numbers (changeOf answer party .answer)
+change-refuses numbers Done party h = tt
+change-refuses numbers (Refused r) party h = h
+
+module _ (ledger : Ledger) (table : List Party) (entry : ℕ) where
+  pub pay-out-refusal-numbers : (amount : ℕ) → EntryCallRefuses (11 ∷ 12 ∷ 13 ∷ []) (payOutOf ledger table entry amount .answer)
+  unfolding payOutChange
+  pay-out-refusal-numbers amount =
+      change-refuses _ (payOutAnswer ledger table (length table) entry amount) _
+      (by (sound ledger table (length table)) (entryExists ledger entry)
+      (leb (entryAt table entry .«paid_out» + amount) (entryAt table entry .credited)))
+    where
+      by : (holds exists within : Bool) →
+          EntryCallRefuses (11 ∷ 12 ∷ 13 ∷ [])
+          (cond holds (cond exists (cond within Done (Refused (refusal 12 0 0))) (Refused (refusal 11 0 0))) (Refused (refusal 13 0 0)))
+      by true true true = tt
+      by true true false = refl
+      by true false within = refl
+      by false exists within = refl
+
+  pub hand-over-refusal-numbers : (person : ℕ) → EntryCallRefuses (11 ∷ 13 ∷ []) (handOverOf ledger table entry person .answer)
+  unfolding handOverChange
+  hand-over-refusal-numbers person =
+      change-refuses _ (handOverAnswer ledger table (length table) entry) _ (by (sound ledger table (length table)) (entryExists ledger entry))
+    where
+      by : (holds exists : Bool) →
+          EntryCallRefuses (11 ∷ 13 ∷ []) (cond holds (cond exists Done (Refused (refusal 11 0 0))) (Refused (refusal 13 0 0)))
+      by true true = tt
+      by true false = refl
+      by false exists = refl

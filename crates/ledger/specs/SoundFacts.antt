@@ -1,5 +1,5 @@
--- What a sound ledger has, condition by condition, and back.
-use Prim.Native.Nat.{ℕ, zero, suc, _+_, _*_, _-_, _<_, _≤_, min}
+-- What a sound ledger has, condition by condition, and back; a new ledger is sound.
+use Prim.Native.Nat.{ℕ, zero, suc, _+_, _*_, _-_, _<_, _≤_, min, zero-le}
 use mathlib.Core.Path.{_≡_, refl, sym, subst, _∙_}
 use mathlib.Core.List.{List, [], _∷_, map}
 use mathlib.Core.Bool.{Bool, true, false, cond}
@@ -9,7 +9,7 @@ use lib.ListN.{length, take, drop, getD, length-take, length-map}
 use lib.Dec.{leb, eqb}
 use lib.Seq.{getD-take, getD-drop}
 use borrow.Author.Tests.{leb-true, eqb-true, le-leb, eq-eqb}
-use Rattle.ledger.specs.Records.{noScheme, noParty}
+use Rattle.ledger.specs.Records.{noScheme, noParty, newLedger}
 use Rattle.ledger.specs.Columns.{schemeColumn, capacityColumn, putInColumn, creditedColumn, onesColumn, sumOver, entriesOf, firstPutIn, capacityOf}
 use Rattle.ledger.specs.ColumnsLaws.{column-at, sum-le, sum-at-most, first-at-most}
 use Rattle.ledger.specs.Sound.{allHold, countsSound, sumsSound, partySound, partiesSound, schemeSound, schemesSound, isZero, allZero, sound}
@@ -350,3 +350,7 @@ module _ (ledger : Ledger) (parties : List Party) (room : ℕ) where
         let fee : getD (ledger .schemes) (s - 1) noScheme .fee ≤ 1000000000 = omega (arith, scheme .fee, scheme .minimum) in
         let joinings : entriesOf s (take (ledger .entries) parties) - 1 ≤ 511 = omega arith in
         omega (arith, scheme .fees, mul-le-mul fee joinings)
+
+pub new-ledger-sound : (parties : List Party) (room : ℕ) → sound newLedger parties room ≡ true
+unfolding sound partiesSound schemesSound allZero
+new-ledger-sound parties room = rw (le-leb 0 room zero-le)

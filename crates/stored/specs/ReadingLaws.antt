@@ -1,20 +1,24 @@
--- The cases of reading, in document 01's order, and what a refused one changes.
+-- The cases of reading, in document 01's order; what a refused one changes, and its numbers.
 use Prim.Native.Nat.{ℕ, _<_, _≤_}
 use mathlib.Core.Path.{_≡_, refl, ap}
-use mathlib.Core.List.{List}
-use mathlib.Core.Bool.{true, false}
+use mathlib.Core.List.{List, [], _∷_}
+use mathlib.Core.Bool.{Bool, true, false, cond}
 use native.Mathlib.Nat.{le-refl}
 use native.Mathlib.Omega.{arith}
 use lib.ListN.{length}
 use lib.Seq.{take-all}
+use lib.Dec.{leb}
 use borrow.Author.Tests.{le-leb, lt-leb}
 use Rattle.tagged.specs.File.{standing, fieldsPart, refusal}
+use Rattle.tagged.specs.FileLaws.{RefusesTo, standing-refusal-numbers}
 use Rattle.tagged.specs.declared.file.Refusal.{Refusal}
 use Rattle.tagged.specs.declared.file.Standing.{Standing}
 use Rattle.tagged.specs.declared.file.Standing.the-variants.{Stands, Refused}
 use Rattle.field_values.specs.Judged.{judgeLetters}
+use Rattle.field_values.specs.declared.judged.Judged.{Judged}
 use Rattle.field_values.specs.declared.judged.Judged.the-variants.{Passes, Fails}
 use Rattle.ledger.specs.Sound.{sound}
+use Rattle.ledger.specs.RefusalNumbers.{oneOf, oneTo, one-of-more, within-one-to}
 use Rattle.ledger.specs.declared.records.Party.{Party}
 use Rattle.ledger.specs.declared.records.Ledger.{Ledger}
 use Rattle.stored.specs.Rows.{storedRows}
@@ -67,3 +71,41 @@ refused-read-changes-nothing ledger table file r e = by-answer (readAnswer (leng
         (tableBy answer ledger table (fieldsPart file) .ledger ≡ ledger) × (tableBy answer ledger table (fieldsPart file) .table ≡ table)
     by-answer Stands e = let z : _≡_ {A = ℕ} 0 1 = cc in absurd (omega arith)
     by-answer (Refused other) e = (refl, refl)
+
+-- ---- the numbers that reading refuses with
+
+abbrev pub readingNumbers : List ℕ
+readingNumbers = 1 ∷ 2 ∷ 3 ∷ 9 ∷ 13 ∷ []
+
+abbrev pub ReadRefuses : Standing → Type 0
+ReadRefuses Stands = Unit {0}
+ReadRefuses (Refused r) = oneOf readingNumbers (r .number) ≡ true
+
+in-turn-refuses : (first second : Standing) → ReadRefuses first → ReadRefuses second → ReadRefuses (inTurn first second)
+in-turn-refuses Stands second h later = later
+in-turn-refuses (Refused r) second h later = h
+
+file-refuses : (answer : Standing) → RefusesTo 2 1 answer → ReadRefuses answer
+file-refuses Stands h = tt
+file-refuses (Refused r) h = one-of-more (oneTo 2) readingNumbers (r .number) refl (within-one-to 2 (r .number) (h .0) (h .1))
+
+letters-refuse : (judged : Judged) → ReadRefuses (lettersAnswer judged)
+letters-refuse Passes = tt
+letters-refuse (Fails at) = refl
+
+table-refuses : (room : ℕ) (s : List ℕ) → ReadRefuses (tableAnswer room s)
+unfolding tableAnswer
+table-refuses room s = by (leb (length (entriesIn s)) room) (sound (storedLedger s) (entriesIn s) room)
+  where
+    by : (fits holds : Bool) → ReadRefuses (cond fits (cond holds Stands (Refused (refusal 13 0 0))) (Refused (refusal 9 0 0)))
+    by true true = tt
+    by true false = refl
+    by false holds = refl
+
+pub read-refusal-numbers : (room : ℕ) (file : List ℕ) → ReadRefuses (readAnswer room file)
+unfolding readAnswer
+read-refusal-numbers room file =
+    let s = fieldsPart file in
+    let judged = judgeLetters letters s in
+    in-turn-refuses (standing storedRows 1 file) (fieldsAnswer room s) (file-refuses (standing storedRows 1 file) (standing-refusal-numbers storedRows 1 file))
+    (in-turn-refuses (lettersAnswer judged) (tableAnswer room s) (letters-refuse judged) (table-refuses room s))

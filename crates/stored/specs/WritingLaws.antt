@@ -1,7 +1,7 @@
--- The cases of writing, in document 01's order; what is written fits; what a refused one changes.
+-- The cases of writing, in document 01's order; what is written fits; what a refused one changes, and its numbers.
 use Prim.Native.Nat.{ℕ, _<_, _≤_}
 use mathlib.Core.Path.{_≡_, refl, ap}
-use mathlib.Core.List.{List}
+use mathlib.Core.List.{List, [], _∷_}
 use mathlib.Core.Bool.{Bool, true, false, cond}
 use native.Mathlib.Omega.{arith}
 use lib.Dec.{leb}
@@ -10,11 +10,13 @@ use borrow.Author.Tests.{leb-true, le-leb, lt-leb}
 use Rattle.tagged.specs.File.{refusal}
 use Rattle.tagged.specs.declared.file.Refusal.{Refusal}
 use Rattle.ledger.specs.Sound.{sound}
+use Rattle.ledger.specs.RefusalNumbers.{oneOf}
 use Rattle.ledger.specs.declared.records.Party.{Party}
 use Rattle.ledger.specs.declared.records.Ledger.{Ledger}
 use Rattle.stored.specs.Layout.{placed}
 use Rattle.stored.specs.Form.{storedForm}
 use Rattle.stored.specs.Writing.{writtenAnswer, outputBy, writtenOutput, writeOf}
+use Rattle.stored.specs.declared.writing.Written.{Written}
 use Rattle.stored.specs.declared.writing.Written.the-variants.{Length, Refused}
 
 module _ (ledger : Ledger) (parties : List Party) (room : ℕ) (out : List ℕ) where
@@ -57,3 +59,22 @@ module _ (ledger : Ledger) (parties : List Party) (room : ℕ) (out : List ℕ) 
 pub refused-write-changes-nothing : (ledger : Ledger) (table : List Party) (out : List ℕ) (r : Refusal) →
     writeOf ledger table out .answer ≡ Refused r → writeOf ledger table out .output ≡ out
 refused-write-changes-nothing ledger table out r e = output-refused ledger table (length table) out e
+
+-- ---- the numbers that writing refuses with
+
+abbrev pub writingNumbers : List ℕ
+writingNumbers = 13 ∷ 14 ∷ []
+
+abbrev pub WriteRefuses : Written → Type 0
+WriteRefuses (Length size) = Unit {0}
+WriteRefuses (Refused r) = oneOf writingNumbers (r .number) ≡ true
+
+pub write-refusal-numbers : (ledger : Ledger) (parties : List Party) (room : ℕ) (out : List ℕ) → WriteRefuses (writtenAnswer ledger parties room out)
+unfolding writtenAnswer
+write-refusal-numbers ledger parties room out = by (sound ledger parties room) (leb (length (storedForm ledger parties)) (length out))
+  where
+    by : (holds fits : Bool) →
+        WriteRefuses (cond holds (cond fits (Length (length (storedForm ledger parties))) (Refused (refusal 14 0 0))) (Refused (refusal 13 0 0)))
+    by true true = tt
+    by true false = refl
+    by false fits = refl

@@ -56,7 +56,7 @@ use Rattle.stored_calls.specs.declared.StoredAnswer.the-variants as Stor
 use Rattle.stored_calls.specs.declared.StoredCheck.the-variants as StoredCheck
 
 -- a sound ledger's
-write-refusal : (ledger : Ledger) (table : List Party) (out : List ℕ) (r : Refusal) → sound ledger table (length table) ≡ true →
+pub write-refusal : (ledger : Ledger) (table : List Party) (out : List ℕ) (r : Refusal) → sound ledger table (length table) ≡ true →
     writeOf ledger table out .answer ≡ Written.Refused r → r ≡ refusal 14 0 0
 write-refusal ledger table out r holds refused =
     ⊎-elim
@@ -186,7 +186,7 @@ module _ (file : List ℕ) (room entry : ℕ) where
 -- ---- 9, by the table's length
 
 module _ (file : List ℕ) (room : ℕ) where
-  answer-of-read : storedRead file room .answer ≡ readAnswer (length (take room noParties)) file
+  pub answer-of-read : storedRead file room .answer ≡ readAnswer (length (take room noParties)) file
   unfolding storedRead
   answer-of-read = answer-of-table (readAnswer (length (take room noParties)) file) newLedger (take room noParties) (fieldsPart file)
 

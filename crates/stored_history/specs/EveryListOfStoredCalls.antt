@@ -6,13 +6,12 @@ use mathlib.Core.Bool.{true}
 use native.Mathlib.Omega.{arith}
 use lib.ListN.{length, getD, take, drop, replicate, length-drop, take-append-drop}
 use lib.Seq.{length-take-le, getD-drop, ext-getD}
-use borrow.Author.Tests.{le-leb}
 use Rattle.tagged.specs.declared.file.Refusal.{Refusal}
 use Rattle.tagged.specs.declared.file.Standing.the-variants as Standing
 use Rattle.charge.specs.Price.{priceOf}
 use Rattle.ledger.specs.Records.{noParty, newLedger}
-use Rattle.ledger.specs.Sound.{partiesSound, schemesSound, allZero, sound}
-use Rattle.ledger.specs.SoundFacts.{sound-means}
+use Rattle.ledger.specs.Sound.{sound}
+use Rattle.ledger.specs.SoundFacts.{sound-means, new-ledger-sound}
 use Rattle.ledger.specs.Entries.{AfterEntryCall, payOutOf, handOverOf}
 use Rattle.ledger.specs.EntriesFacts.{pay-out-refused-changes-nothing, hand-over-refused-changes-nothing}
 use Rattle.ledger.specs.EntriesKeepSound.{pay-out-keeps-sound, hand-over-keeps-sound}
@@ -229,15 +228,11 @@ same-in-memory room state before (call ∷ calls) (answer ∷ answers) after h e
       kept = later .kept;
     }
 
-new-sound : (table : List Party) → sound newLedger table (length table) ≡ true
-unfolding sound partiesSound schemesSound allZero
-new-sound table = rw (le-leb 0 (length table) zero-le)
-
 new-in-memory : (room : ℕ) → InMemory room (record { ledger = newLedger; table = take room noParties })
 new-in-memory room =
     record {
       handed = new-handed (take room noParties) (no-party-in room);
-      stands = new-sound (take room noParties);
+      stands = new-ledger-sound (take room noParties) (length (take room noParties));
       as-long = refl;
       no-party-past = λ i past. no-party-in room i;
     }
@@ -298,7 +293,7 @@ pub new-stored-kept : (output : List ℕ) → formLength 0 0 ≤ length output �
 new-stored-kept output long =
     let form = storedForm newLedger noParties in
     let size : length form ≡ formLength 0 0 = length-form newLedger noParties zero-le zero-le in
-    let written = written-form newLedger noParties output (new-sound noParties) (omega arith) in (
+    let written = written-form newLedger noParties output (new-ledger-sound noParties (length noParties)) (omega arith) in (
       ap (λ end. writtenCall (end .answer)) written ∙ ap StoredAnswer.Done size,
       ap₂ take (sym size) (ap (λ end. end .output) written) ∙ take-placed form output ∙ sym (new-form noParties),
     )

@@ -1,0 +1,29 @@
+#!/usr/bin/env bash
+# check.sh DIR: builds the C programs into DIR, runs them on the sample book and request and compares what they write with the
+# .txt files. A warning or a difference ends it with 1. The library stands in the folder FIKREM_LIB, or in target/staticlib.
+set -euo pipefail
+
+build=${1:?usage: check.sh DIR}
+mkdir -p "$build/no_files"
+build=$(cd "$build" && pwd)
+here=$(cd "$(dirname "${BASH_SOURCE[0]}")" && pwd)
+library=${FIKREM_LIB:-$here/../target/staticlib}/libquoting_unit.a
+data=$here/../crates/slip/data
+
+flags=(-Wall -Wextra -Werror -pedantic -I "$here/../include")
+for program in quote every_call; do
+  gcc -std=c11 -O2 "${flags[@]}" -o "$build/$program" "$here/$program.c" "$library"
+done
+if command -v g++ >/dev/null 2>&1; then
+  g++ -fsyntax-only -x c++ "${flags[@]}" "$here/../include/fikrem.h"
+fi
+
+# Where there are no files, the slip is a refusal.
+(cd "$data" && "$build/quote") >"$build/quote.txt"
+(cd "$build/no_files" && "$build/quote") >>"$build/quote.txt"
+# On the stack that the header names, nothing of it taken by the environment.
+(ulimit -s 256 && env -i "$build/every_call" "$data/rates.bin" "$data/job.bin") >"$build/every_call.txt"
+for program in quote every_call; do
+  diff "$here/$program.txt" "$build/$program.txt"
+done
+echo "C programs: as expected"

@@ -1,0 +1,270 @@
+/* Makes every call of fikrem.h: done, refused, and with each buffer too short in turn. Prints how it ends, and after a refusal
+ * whether the lent buffers are unchanged. Arguments: the rate book's file, the request's file. */
+#include "fikrem.h"
+
+#include <inttypes.h>
+#include <stdio.h>
+#include <stdlib.h>
+#include <string.h>
+
+enum { FILE_SIZE = 4096, MARK = 0xA5 };
+
+/* Everything that a call is lent. The answer stands last, since a refusal may change it alone. */
+struct buffers {
+    uint8_t book[FILE_SIZE], request[FILE_SIZE], stored[FIKREM_LEDGER_SIZE];
+    uint8_t text[FIKREM_TEXT_SIZE], out[FIKREM_LEDGER_SIZE];
+    int64_t figures[FIKREM_FIGURES];
+    uint64_t answer[FIKREM_ANSWER];
+};
+
+static struct buffers lent, before;
+static size_t book_size, request_size, stored_size, table_size = FIKREM_TABLE_SIZE;
+
+/* The files. */
+
+static size_t read_file(const char *name, uint8_t *bytes)
+{
+    FILE *file = fopen(name, "rb");
+    if (file == NULL) {
+        perror(name);
+        exit(2);
+    }
+    size_t size = fread(bytes, 1, FILE_SIZE, file);
+    fclose(file);
+    return size;
+}
+
+static uint8_t *value_of(uint8_t *file, uint8_t tag)
+{
+    while (file[0] != tag) {
+        file += 3 + 256 * file[1] + file[2];
+    }
+    return file + 3;
+}
+
+/* The check that goes with the file's other bytes. */
+static void set_check(uint8_t *file, size_t size)
+{
+    uint32_t h = 0;
+    for (size_t place = 0; place < size - 2; place++) {
+        h = (h * 257 + file[place] + 1) % 65521;
+    }
+    file[size - 2] = (uint8_t)(h / 256);
+    file[size - 1] = (uint8_t)(h % 256);
+}
+
+static void join_scheme(uint8_t scheme)
+{
+    value_of(lent.request, 0x0C)[7] = scheme;
+    set_check(lent.request, request_size);
+}
+
+/* The calls. Before each, what it may write holds marks, and everything lent is kept for the comparison. */
+
+static void mark(void)
+{
+    memset(lent.text, MARK, sizeof lent.text);
+    memset(lent.out, MARK, sizeof lent.out);
+    memset(lent.figures, MARK, sizeof lent.figures);
+    memset(lent.answer, MARK, sizeof lent.answer);
+    memcpy(&before, &lent, sizeof lent);
+}
+
+static uint32_t price(size_t figures_places, size_t answer_places)
+{
+    mark();
+    return fikrem_price(lent.book, book_size, lent.request, request_size, lent.figures, figures_places,
+                        lent.answer, answer_places);
+}
+
+static uint32_t slip_text(size_t text_size, size_t answer_places)
+{
+    mark();
+    return fikrem_slip_text(lent.book, book_size, lent.request, request_size, lent.text, text_size, lent.answer, answer_places);
+}
+
+static uint32_t new_ledger(size_t out_size, size_t answer_places)
+{
+    mark();
+    return fikrem_new_ledger(lent.out, out_size, lent.answer, answer_places);
+}
+
+static uint32_t accept(size_t out_size, size_t figures_places, size_t answer_places)
+{
+    mark();
+    return fikrem_accept(lent.stored, stored_size, table_size, lent.book, book_size, lent.request, request_size,
+                         lent.out, out_size, lent.figures, figures_places, lent.answer, answer_places);
+}
+
+static uint32_t pay_out(uint32_t entry, uint64_t amount, size_t out_size, size_t answer_places)
+{
+    mark();
+    return fikrem_pay_out(lent.stored, stored_size, table_size, entry, amount, lent.out, out_size, lent.answer, answer_places);
+}
+
+static uint32_t hand_over(uint32_t entry, uint32_t person, size_t out_size, size_t answer_places)
+{
+    mark();
+    return fikrem_hand_over(lent.stored, stored_size, table_size, entry, person, lent.out, out_size, lent.answer, answer_places);
+}
+
+static uint32_t check_ledger(size_t answer_places)
+{
+    mark();
+    return fikrem_check_ledger(lent.stored, stored_size, table_size, lent.answer, answer_places);
+}
+
+/* How they end. */
+
+static const char *unchanged(size_t size)
+{
+    return memcmp(&lent, &before, size) == 0 ? "unchanged" : "CHANGED";
+}
+
+static void tell(const char *call, uint32_t result)
+{
+    printf("%s: result %" PRIu32 ", answer", call, result);
+    for (int place = 0; place < FIKREM_ANSWER; place++) {
+        printf(" %" PRIu64, lent.answer[place]);
+    }
+    if (result != FIKREM_DONE) {
+        printf("; all but the answer %s", unchanged(offsetof(struct buffers, answer)));
+    }
+    printf("\n");
+}
+
+/* Of a call whose answer or figures are too short: it may not change the answer either. */
+static void tell_short(const char *call, uint32_t result)
+{
+    printf("%s: result %" PRIu32 "; all %s\n", call, result, unchanged(sizeof lent));
+}
+
+static void tell_figures(void)
+{
+    printf("figures");
+    for (int place = 0; place < FIKREM_FIGURES; place++) {
+        printf(" %" PRId64, lent.figures[place]);
+    }
+    printf("\n");
+}
+
+/* The written ledger is the one that the next call gets. */
+static void keep(void)
+{
+    stored_size = lent.answer[FIKREM_WRITTEN];
+    memcpy(lent.stored, lent.out, stored_size);
+}
+
+/* Each call in turn. */
+
+static void try_price(void)
+{
+    tell("price", price(FIKREM_FIGURES, FIKREM_ANSWER));
+    tell_figures();
+    lent.request[0] ^= 1;
+    tell("price, a byte of the request altered", price(FIKREM_FIGURES, FIKREM_ANSWER));
+    lent.request[0] ^= 1;
+    tell_short("price, 20 figures", price(FIKREM_FIGURES - 1, FIKREM_ANSWER));
+    tell_short("price, 7 places of the answer", price(FIKREM_FIGURES, FIKREM_ANSWER - 1));
+}
+
+static void try_slip_text(void)
+{
+    tell("slip text", slip_text(sizeof lent.text, FIKREM_ANSWER));
+    size_t size = lent.answer[FIKREM_WRITTEN];
+    fwrite(lent.text, 1, size, stdout);
+    tell("slip text, a byte short", slip_text(size - 1, FIKREM_ANSWER));
+    tell_short("slip text, 7 places of the answer", slip_text(size, FIKREM_ANSWER - 1));
+}
+
+static void try_new_ledger(void)
+{
+    tell("new ledger", new_ledger(sizeof lent.out, FIKREM_ANSWER));
+    keep();
+    tell("new ledger, a byte short", new_ledger(stored_size - 1, FIKREM_ANSWER));
+    tell_short("new ledger, 7 places of the answer", new_ledger(stored_size, FIKREM_ANSWER - 1));
+}
+
+/* A request that opens nothing, then under a threshold of 0 one that opens a scheme and one that joins it. */
+static void try_accept(void)
+{
+    tell("accept", accept(sizeof lent.out, FIKREM_FIGURES, FIKREM_ANSWER));
+    tell_figures();
+    join_scheme(1);
+    tell("accept, no such scheme", accept(sizeof lent.out, FIKREM_FIGURES, FIKREM_ANSWER));
+    join_scheme(0);
+    memset(value_of(lent.book, 0x06), 0, 4);
+    set_check(lent.book, book_size);
+    table_size = 0;
+    tell("accept, opening on a table of no records", accept(sizeof lent.out, FIKREM_FIGURES, FIKREM_ANSWER));
+    table_size = FIKREM_TABLE_SIZE;
+    tell("accept, opening", accept(sizeof lent.out, FIKREM_FIGURES, FIKREM_ANSWER));
+    keep();
+    join_scheme(1);
+    tell("accept, joining", accept(sizeof lent.out, FIKREM_FIGURES, FIKREM_ANSWER));
+    size_t size = lent.answer[FIKREM_WRITTEN];
+    tell("accept, a byte short", accept(size - 1, FIKREM_FIGURES, FIKREM_ANSWER));
+    tell_short("accept, 20 figures", accept(size, FIKREM_FIGURES - 1, FIKREM_ANSWER));
+    tell_short("accept, 7 places of the answer", accept(size, FIKREM_FIGURES, FIKREM_ANSWER - 1));
+    accept(size, FIKREM_FIGURES, FIKREM_ANSWER);
+    keep();
+}
+
+static void try_pay_out(void)
+{
+    tell("pay-out", pay_out(1, 400000, stored_size, FIKREM_ANSWER));
+    keep();
+    tell("pay-out, above the credit", pay_out(1, 400000, stored_size, FIKREM_ANSWER));
+    tell("pay-out, no such entry", pay_out(3, 0, stored_size, FIKREM_ANSWER));
+    tell("pay-out, a byte short", pay_out(1, 0, stored_size - 1, FIKREM_ANSWER));
+    tell_short("pay-out, 7 places of the answer", pay_out(1, 0, stored_size, FIKREM_ANSWER - 1));
+}
+
+static void try_hand_over(void)
+{
+    tell("hand-over", hand_over(2, 4712, stored_size, FIKREM_ANSWER));
+    keep();
+    tell("hand-over, no such entry", hand_over(3, 4712, stored_size, FIKREM_ANSWER));
+    tell("hand-over, a byte short", hand_over(2, 4712, stored_size - 1, FIKREM_ANSWER));
+    tell_short("hand-over, 7 places of the answer", hand_over(2, 4712, stored_size, FIKREM_ANSWER - 1));
+}
+
+static void try_check_ledger(void)
+{
+    tell("check", check_ledger(FIKREM_ANSWER));
+    tell_short("check, 7 places of the answer", check_ledger(FIKREM_ANSWER - 1));
+}
+
+/* Each call on a stored ledger that is refused itself. */
+static void try_unread_ledger(void)
+{
+    tell("  accept", accept(sizeof lent.out, FIKREM_FIGURES, FIKREM_ANSWER));
+    tell("  pay-out", pay_out(1, 0, stored_size, FIKREM_ANSWER));
+    tell("  hand-over", hand_over(2, 4712, stored_size, FIKREM_ANSWER));
+    tell("  check", check_ledger(FIKREM_ANSWER));
+}
+
+int main(int count, char **names)
+{
+    if (count != 3) {
+        fprintf(stderr, "usage: %s BOOK REQUEST\n", names[0]);
+        return 2;
+    }
+    book_size = read_file(names[1], lent.book);
+    request_size = read_file(names[2], lent.request);
+    try_price();
+    try_slip_text();
+    try_new_ledger();
+    try_accept();
+    try_pay_out();
+    try_hand_over();
+    try_check_ledger();
+
+    puts("a table of one record, two entries stored");
+    table_size = 1;
+    try_unread_ledger();
+    puts("a byte of the stored ledger altered");
+    lent.stored[0] ^= 1;
+    try_unread_ledger();
+    return 0;
+}

@@ -1,0 +1,125 @@
+//! What a call of the library must come to, by the reference implementation.
+
+use crate::call::{Buffers, LibraryCall};
+use fikrem::raw::{ANSWER, FIGURES};
+use generate::{Call, Outcome};
+use reference::ledger::MOST_ENTRIES;
+use reference::{price, read_ledger, slip, write_ledger, Answer, Bill, Ledger, Party, Refusal};
+
+const OUTPUT: Refusal = Refusal { number: 14, file: 0, place: 0 };
+
+/// A refusal, and whether it is of the stored ledger itself.
+struct Refused {
+    refusal: Refusal,
+    stored: bool,
+}
+
+impl From<Refusal> for Refused {
+    fn from(refusal: Refusal) -> Refused {
+        Refused { refusal, stored: false }
+    }
+}
+
+/// The last four places of an answer.
+type Places = [u64; 4];
+
+/// Makes the call by the reference implementation; the result and what stands in the buffers after it.
+pub fn run(call: &LibraryCall, buffers: &mut Buffers) -> u32 {
+    let figures_written = matches!(call, LibraryCall::Price { .. } | LibraryCall::Accept { .. });
+    if buffers.answer.len() < ANSWER || (figures_written && buffers.figures.len() < FIGURES) {
+        return u32::from(OUTPUT.number);
+    }
+    let mut places = [0; ANSWER];
+    match places_of(call, &mut buffers.out, &mut buffers.figures) {
+        Ok(last) => places[4..].copy_from_slice(&last),
+        Err(Refused { refusal, stored }) => {
+            places[..3].copy_from_slice(&[refusal.number.into(), refusal.file.into(), refusal.place as u64]);
+            places[3] = stored.into();
+        }
+    }
+    buffers.answer[..ANSWER].copy_from_slice(&places);
+    places[0] as u32
+}
+
+fn places_of(call: &LibraryCall, out: &mut [u8], figures: &mut [i64]) -> Result<Places, Refused> {
+    match *call {
+        LibraryCall::Price { book, request } => {
+            figures[..FIGURES].copy_from_slice(&figures_of(&price(book, request)?));
+            Ok([0; 4])
+        }
+        LibraryCall::SlipText { book, request } => {
+            let text = slip(book, request);
+            out.get_mut(..text.len()).ok_or(OUTPUT)?.copy_from_slice(&text);
+            Ok([0, 0, 0, text.len() as u64])
+        }
+        LibraryCall::NewLedger => Ok([0, 0, 0, write_ledger(&Ledger::new(), &[], out)? as u64]),
+        LibraryCall::Accept { stored, table_size, book, request } => {
+            let accepted = Call::Accept { book: book.to_vec(), request: request.to_vec() };
+            let places = on_stored(stored, table_size, &accepted, out)?;
+            figures[..FIGURES].copy_from_slice(&figures_of(&price(book, request)?));
+            Ok(places)
+        }
+        LibraryCall::PayOut { stored, table_size, entry, amount } => {
+            on_stored(stored, table_size, &Call::PayOut { entry, amount }, out)
+        }
+        LibraryCall::HandOver { stored, table_size, entry, person } => {
+            on_stored(stored, table_size, &Call::HandOver { entry, person }, out)
+        }
+        LibraryCall::CheckLedger { stored, table_size } => {
+            let (ledger, _) = read(stored, table_size)?;
+            Ok([ledger.opened.into(), ledger.entries.into(), ledger.connections.into(), ledger.month.into()])
+        }
+    }
+}
+
+/// A table of this length. One of more than 512 records shows that no more are used; the longest can't be made, so that
+/// 1,024 are enough.
+pub fn table(table_size: usize) -> Vec<Party> {
+    vec![Party::default(); table_size.min(2 * MOST_ENTRIES)]
+}
+
+fn read(stored: &[u8], table_size: usize) -> Result<(Ledger, Vec<Party>), Refused> {
+    let (mut ledger, mut parties) = (Ledger::new(), table(table_size));
+    match read_ledger(&mut ledger, &mut parties, stored) {
+        Ok(()) => Ok((ledger, parties)),
+        Err(refusal) => Err(Refused { refusal, stored: true }),
+    }
+}
+
+/// Reads the stored ledger onto a table of this length, makes the call and writes the ledger.
+fn on_stored(stored: &[u8], table_size: usize, call: &Call, out: &mut [u8]) -> Result<Places, Refused> {
+    let (mut ledger, mut parties) = read(stored, table_size)?;
+    let [kind, number, collected] = match call.run(&mut ledger, &mut parties)? {
+        Outcome::Done => [0; 3],
+        Outcome::Accepted(_, answer) => places_of_answer(answer),
+    };
+    Ok([kind, number, collected, write_ledger(&ledger, &parties, out)? as u64])
+}
+
+/// Places 4 to 6 for accept's answer.
+pub fn places_of_answer(answer: Answer) -> [u64; 3] {
+    match answer {
+        Answer::Plain => [1, 0, 0],
+        Answer::Opened(scheme) => [2, scheme.into(), 0],
+        Answer::Joined { entry, collected } => [3, entry.into(), collected.into()],
+        Answer::Small => [4, 0, 0],
+        Answer::Ended => [5, 0, 0],
+    }
+}
+
+/// ME MC CE CC2 TW HR OL IC IR CC NIC NC X entered borne, then reliance, upfront and ncratio.
+pub fn figures_of(bill: &Bill) -> [i64; FIGURES] {
+    let sums = &bill.reconciliation;
+    let amounts = [sums.me, sums.mc, sums.ce, sums.cc2, sums.tw, sums.hr, sums.ol, sums.ic, sums.ir, sums.cc];
+    let mut figures = [0; FIGURES];
+    for (figure, amount) in figures.iter_mut().zip(amounts) {
+        *figure = amount as i64;
+    }
+    let rest = [sums.nic, sums.nc, bill.x.into(), bill.entered as i64, bill.borne as i64];
+    figures[10..15].copy_from_slice(&rest);
+    for (index, percentage) in [bill.reliance, bill.upfront, bill.nc_ratio].into_iter().enumerate() {
+        figures[15 + 2 * index] = percentage.is_some().into();
+        figures[16 + 2 * index] = percentage.unwrap_or(0);
+    }
+    figures
+}

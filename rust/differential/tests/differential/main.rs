@@ -1,0 +1,40 @@
+//! Seeded cases on both sides. FIKREM_CASES multiplies their number.
+
+mod alterations;
+mod buffers;
+mod damage;
+mod faults;
+mod ledgers;
+mod lists;
+mod pricing;
+mod tables;
+mod wrapper;
+
+use differential::Tally;
+
+/// So many cases, times FIKREM_CASES.
+fn cases(count: u64) -> u64 {
+    let times = std::env::var("FIKREM_CASES").ok().map_or(1, |times| times.parse().expect("FIKREM_CASES is a number"));
+    count * times
+}
+
+fn main() {
+    let mut tally = Tally::default();
+    tally.section("books and requests as listed", pricing::random_pairs);
+    tally.section("values past their limits", pricing::past_limits);
+    tally.section("every byte altered", alterations::every_byte);
+    tally.section("damaged books and requests", damage::books_and_requests);
+    tally.section("truncated and extended files", damage::every_size);
+    tally.section("damaged stored ledgers", damage::stored_ledgers);
+    tally.section("stored ledgers altered in a figure", ledgers::altered_figures);
+    tally.section("stored ledgers at their limits", ledgers::limits);
+    tally.section("several faults at once", faults::faults_at_once);
+    tally.section("lists of calls", lists::random_lists);
+    tally.section("lists of calls on full ledgers", lists::full_ledgers);
+    tally.section("lists of calls on tables of every small length", lists::small_tables);
+    tally.section("lists of calls on tables about the longest", lists::long_tables);
+    tally.section("stored ledgers read with tables of every length", tables::every_length);
+    tally.section("buffers of every length", buffers::every_length);
+    tally.section("the safe wrapper", wrapper::wrapper);
+    tally.finish();
+}

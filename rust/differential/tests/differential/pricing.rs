@@ -1,0 +1,47 @@
+use super::cases;
+use differential::{LibraryCall, Tally};
+use generate::damage::{book_past_limits, request_past_limits};
+use generate::request::{pair, refused_bespoke_rate};
+use generate::{Book, Random, Request};
+
+/// Prices the pair and prints its slip.
+fn both(tally: &mut Tally, book: &[u8], request: &[u8]) -> u64 {
+    tally.compare(&LibraryCall::SlipText { book, request });
+    tally.compare(&LibraryCall::Price { book, request }).answer[0]
+}
+
+/// Over all limits and edges; some of a zone that isn't in the book, some of a bespoke rate that isn't allowed.
+pub fn random_pairs(tally: &mut Tally) {
+    let mut random = Random::new(100);
+    assert_eq!(both(tally, &Book::slip().encode(), &Request::slip().encode()), 0);
+    for _ in 0..cases(40_000) {
+        let (book, mut request) = pair(&mut random);
+        match random.within(0, 9) {
+            0 => request.zone = book.missing_zone(&mut random),
+            1 => {
+                let tier = random.index(5);
+                let posted = book.rates(request.zone).map_or(0, |rates| rates[tier]);
+                request.tiers[tier].mode = 2;
+                request.tiers[tier].bespoke_rate = refused_bespoke_rate(&mut random, posted);
+            }
+            2 => request = Request { zone: request.zone, ..Request::loose(&mut random) },
+            _ => {}
+        }
+        both(tally, &book.encode(), &request.encode());
+    }
+}
+
+/// Every value of a book and a request, one past its limit and the highest.
+pub fn past_limits(tally: &mut Tally) {
+    let mut random = Random::new(101);
+    for _ in 0..cases(60) {
+        let (book, request) = pair(&mut random);
+        let (book_file, request_file) = (book.encode(), request.encode());
+        for past in book_past_limits(&book) {
+            assert_eq!(both(tally, &past.file, &request_file), 3);
+        }
+        for past in request_past_limits(&request) {
+            assert_eq!(both(tally, &book_file, &past.file), 3);
+        }
+    }
+}

@@ -1,0 +1,18 @@
+//! Links libquoting_unit.a from the folder FIKREM_LIB, or from the repository's target/staticlib.
+
+use std::env;
+use std::path::PathBuf;
+
+fn main() {
+    println!("cargo:rerun-if-env-changed=FIKREM_LIB");
+    println!("cargo:rerun-if-changed=build.rs");
+    let folder = match env::var_os("FIKREM_LIB") {
+        Some(folder) => PathBuf::from(folder),
+        None => PathBuf::from(env::var_os("CARGO_MANIFEST_DIR").expect("cargo sets it")).join("../../target/staticlib"),
+    };
+    let library = folder.join("libquoting_unit.a");
+    println!("cargo:rerun-if-changed={}", library.display());
+    assert!(library.exists(), "there is no {}: build it by 'rt staticlib quoting_unit'", library.display());
+    println!("cargo:rustc-link-search=native={}", folder.display());
+    println!("cargo:rustc-link-lib=static:-bundle=quoting_unit");
+}

@@ -1,0 +1,103 @@
+//! Pricing and the slip.
+
+use crate::raw::{self, ANSWER, FIGURES};
+use crate::refusal::Refusal;
+
+/// The most bytes that a slip has.
+pub const LONGEST_SLIP: usize = raw::TEXT_SIZE;
+
+/// What pricing a request by a book comes to, in cents and whole percent.
+#[derive(Debug, Clone, Copy, PartialEq, Eq)]
+pub struct Bill {
+    /// minimum scheme extension ME
+    pub me: u64,
+    /// MC sums the tiers of field 06
+    pub mc: u64,
+    /// customer enhancement extension CE
+    pub ce: u64,
+    /// CC2 sums the demands of field 07 at the same rates and modes
+    pub cc2: u64,
+    /// transmission works TW
+    pub tw: u64,
+    /// historical cost recovery HR
+    pub hr: u64,
+    /// operating loading OL
+    pub ol: u64,
+    /// IC = ME + MC + CE + CC2 + TW + HR + OL
+    pub ic: u64,
+    /// IR sums all years, distribution and transmission
+    pub ir: u64,
+    /// the connection charge CC
+    pub cc: u64,
+    /// NIC = IC − IR
+    pub nic: i64,
+    /// NC = IR − used − (1 − a) × (MC + CC2)
+    pub nc: i64,
+    /// X = ME − (smaller of ME and credit) + CE
+    pub x: u64,
+    /// Cost entered = IC + DE
+    pub entered: u64,
+    /// borne by the company
+    pub borne: u64,
+    /// CC/IC
+    pub reliance: Option<i64>,
+    /// CC/(CC+IR)
+    pub upfront: Option<i64>,
+    /// NC/(CC+IR)
+    pub nc_ratio: Option<i64>,
+}
+
+impl Bill {
+    pub(crate) fn of(figures: &[i64; FIGURES]) -> Bill {
+        // only NIC, NC and percentages are ever below 0
+        let amount = |place: usize| figures[place] as u64;
+        let percentage = |told: usize, place: usize| (figures[told] == 1).then_some(figures[place]);
+        Bill {
+            me: amount(raw::ME),
+            mc: amount(raw::MC),
+            ce: amount(raw::CE),
+            cc2: amount(raw::CC2),
+            tw: amount(raw::TW),
+            hr: amount(raw::HR),
+            ol: amount(raw::OL),
+            ic: amount(raw::IC),
+            ir: amount(raw::IR),
+            cc: amount(raw::CC),
+            nic: figures[raw::NIC],
+            nc: figures[raw::NC],
+            x: amount(raw::X),
+            entered: amount(raw::ENTERED),
+            borne: amount(raw::BORNE),
+            reliance: percentage(raw::HAS_RELIANCE, raw::RELIANCE),
+            upfront: percentage(raw::HAS_UPFRONT, raw::UPFRONT),
+            nc_ratio: percentage(raw::HAS_NCRATIO, raw::NCRATIO),
+        }
+    }
+}
+
+/// Prices a request by a book.
+pub fn price(book: &[u8], request: &[u8]) -> Result<Bill, Refusal> {
+    let (mut figures, mut answer) = ([0; FIGURES], [0; ANSWER]);
+    match raw::price(book, request, &mut figures, &mut answer) {
+        raw::DONE => Ok(Bill::of(&figures)),
+        _ => Err(Refusal::of(&answer)),
+    }
+}
+
+/// The slip's lines; of a request that isn't priced, "the one line `REFUSED n file place`".
+pub fn slip_text(book: &[u8], request: &[u8]) -> String {
+    let (mut text, mut answer) = (vec![0; LONGEST_SLIP], [0; ANSWER]);
+    // always done: there is room for the longest slip
+    raw::slip_text(book, request, &mut text, &mut answer);
+    text.truncate(answer[raw::WRITTEN] as usize);
+    String::from_utf8_lossy(&text).into_owned()
+}
+
+/// Writes the slip's lines and says how many bytes they have; refused by 14 where there is no room for them.
+pub fn slip_text_into(book: &[u8], request: &[u8], text: &mut [u8]) -> Result<usize, Refusal> {
+    let mut answer = [0; ANSWER];
+    match raw::slip_text(book, request, text, &mut answer) {
+        raw::DONE => Ok(answer[raw::WRITTEN] as usize),
+        _ => Err(Refusal::of(&answer)),
+    }
+}

@@ -1,0 +1,247 @@
+//! `include/fikrem.h` in Rust: its numbers under its names, and its functions on slices. Every result is `DONE` or a
+//! refusal's number.
+
+#![allow(unsafe_code)]
+
+// Results.
+pub const DONE: u32 = 0;
+pub const NO_WALK: u32 = 1;
+pub const CHECK: u32 = 2;
+pub const VALUE: u32 = 3;
+pub const ZONE: u32 = 4;
+pub const BESPOKE: u32 = 5;
+pub const NO_SCHEME: u32 = 6;
+pub const MONTH: u32 = 7;
+pub const SCHEMES_FULL: u32 = 8;
+pub const ENTRIES_FULL: u32 = 9;
+pub const CONNECTIONS: u32 = 10;
+pub const NO_ENTRY: u32 = 11;
+pub const ABOVE_CREDIT: u32 = 12;
+pub const UNSOUND: u32 = 13;
+pub const SHORT_BUFFER: u32 = 14;
+
+// Places of an answer, and how many it has.
+pub const NUMBER: usize = 0;
+pub const FILE: usize = 1;
+pub const PLACE: usize = 2;
+pub const OF_LEDGER: usize = 3;
+pub const SCHEME_ANSWER: usize = 4;
+pub const WHICH: usize = 5;
+pub const COLLECTED: usize = 6;
+pub const WRITTEN: usize = 7;
+pub const ANSWER: usize = 8;
+
+// The last four where `check_ledger` is done.
+pub const SCHEMES: usize = 4;
+pub const ENTRIES: usize = 5;
+pub const CONNECTED: usize = 6;
+pub const LAST_MONTH: usize = 7;
+
+// What accept answers, in place `SCHEME_ANSWER`.
+pub const PLAIN: u64 = 1;
+pub const OPENED: u64 = 2;
+pub const JOINED: u64 = 3;
+pub const SMALL: u64 = 4;
+pub const ENDED: u64 = 5;
+
+// Places of the figures, and how many they are.
+pub const ME: usize = 0;
+pub const MC: usize = 1;
+pub const CE: usize = 2;
+pub const CC2: usize = 3;
+pub const TW: usize = 4;
+pub const HR: usize = 5;
+pub const OL: usize = 6;
+pub const IC: usize = 7;
+pub const IR: usize = 8;
+pub const CC: usize = 9;
+pub const NIC: usize = 10;
+pub const NC: usize = 11;
+pub const X: usize = 12;
+pub const ENTERED: usize = 13;
+pub const BORNE: usize = 14;
+pub const HAS_RELIANCE: usize = 15;
+pub const RELIANCE: usize = 16;
+pub const HAS_UPFRONT: usize = 17;
+pub const UPFRONT: usize = 18;
+pub const HAS_NCRATIO: usize = 19;
+pub const NCRATIO: usize = 20;
+pub const FIGURES: usize = 21;
+
+// The most bytes of a slip and of a stored ledger, and the records of the longest party table.
+pub const TEXT_SIZE: usize = 256;
+pub const LEDGER_SIZE: usize = 18_661;
+pub const TABLE_SIZE: usize = 512;
+
+mod declared {
+    extern "C" {
+        pub fn fikrem_price(
+            book: *const u8,
+            book_size: usize,
+            request: *const u8,
+            request_size: usize,
+            figures: *mut i64,
+            figures_places: usize,
+            answer: *mut u64,
+            answer_places: usize,
+        ) -> u32;
+        pub fn fikrem_slip_text(
+            book: *const u8,
+            book_size: usize,
+            request: *const u8,
+            request_size: usize,
+            text: *mut u8,
+            text_size: usize,
+            answer: *mut u64,
+            answer_places: usize,
+        ) -> u32;
+        pub fn fikrem_new_ledger(out: *mut u8, out_size: usize, answer: *mut u64, answer_places: usize) -> u32;
+        pub fn fikrem_accept(
+            stored: *const u8,
+            stored_size: usize,
+            table_size: usize,
+            book: *const u8,
+            book_size: usize,
+            request: *const u8,
+            request_size: usize,
+            out: *mut u8,
+            out_size: usize,
+            figures: *mut i64,
+            figures_places: usize,
+            answer: *mut u64,
+            answer_places: usize,
+        ) -> u32;
+        pub fn fikrem_pay_out(
+            stored: *const u8,
+            stored_size: usize,
+            table_size: usize,
+            entry: u32,
+            amount: u64,
+            out: *mut u8,
+            out_size: usize,
+            answer: *mut u64,
+            answer_places: usize,
+        ) -> u32;
+        pub fn fikrem_hand_over(
+            stored: *const u8,
+            stored_size: usize,
+            table_size: usize,
+            entry: u32,
+            person: u32,
+            out: *mut u8,
+            out_size: usize,
+            answer: *mut u64,
+            answer_places: usize,
+        ) -> u32;
+        pub fn fikrem_check_ledger(
+            stored: *const u8,
+            stored_size: usize,
+            table_size: usize,
+            answer: *mut u64,
+            answer_places: usize,
+        ) -> u32;
+    }
+}
+
+// Safety of every call below: the library reads and writes only within the slices that it is given, keeps none of
+// them, and Rust lends the written ones to nobody else meanwhile.
+
+pub fn price(book: &[u8], request: &[u8], figures: &mut [i64], answer: &mut [u64]) -> u32 {
+    unsafe {
+        declared::fikrem_price(
+            book.as_ptr(),
+            book.len(),
+            request.as_ptr(),
+            request.len(),
+            figures.as_mut_ptr(),
+            figures.len(),
+            answer.as_mut_ptr(),
+            answer.len(),
+        )
+    }
+}
+
+pub fn slip_text(book: &[u8], request: &[u8], text: &mut [u8], answer: &mut [u64]) -> u32 {
+    unsafe {
+        declared::fikrem_slip_text(
+            book.as_ptr(),
+            book.len(),
+            request.as_ptr(),
+            request.len(),
+            text.as_mut_ptr(),
+            text.len(),
+            answer.as_mut_ptr(),
+            answer.len(),
+        )
+    }
+}
+
+pub fn new_ledger(out: &mut [u8], answer: &mut [u64]) -> u32 {
+    unsafe { declared::fikrem_new_ledger(out.as_mut_ptr(), out.len(), answer.as_mut_ptr(), answer.len()) }
+}
+
+pub fn accept(
+    stored: &[u8],
+    table_size: usize,
+    book: &[u8],
+    request: &[u8],
+    out: &mut [u8],
+    figures: &mut [i64],
+    answer: &mut [u64],
+) -> u32 {
+    unsafe {
+        declared::fikrem_accept(
+            stored.as_ptr(),
+            stored.len(),
+            table_size,
+            book.as_ptr(),
+            book.len(),
+            request.as_ptr(),
+            request.len(),
+            out.as_mut_ptr(),
+            out.len(),
+            figures.as_mut_ptr(),
+            figures.len(),
+            answer.as_mut_ptr(),
+            answer.len(),
+        )
+    }
+}
+
+pub fn pay_out(stored: &[u8], table_size: usize, entry: u32, amount: u64, out: &mut [u8], answer: &mut [u64]) -> u32 {
+    unsafe {
+        declared::fikrem_pay_out(
+            stored.as_ptr(),
+            stored.len(),
+            table_size,
+            entry,
+            amount,
+            out.as_mut_ptr(),
+            out.len(),
+            answer.as_mut_ptr(),
+            answer.len(),
+        )
+    }
+}
+
+pub fn hand_over(stored: &[u8], table_size: usize, entry: u32, person: u32, out: &mut [u8], answer: &mut [u64]) -> u32 {
+    unsafe {
+        declared::fikrem_hand_over(
+            stored.as_ptr(),
+            stored.len(),
+            table_size,
+            entry,
+            person,
+            out.as_mut_ptr(),
+            out.len(),
+            answer.as_mut_ptr(),
+            answer.len(),
+        )
+    }
+}
+
+pub fn check_ledger(stored: &[u8], table_size: usize, answer: &mut [u64]) -> u32 {
+    unsafe {
+        declared::fikrem_check_ledger(stored.as_ptr(), stored.len(), table_size, answer.as_mut_ptr(), answer.len())
+    }
+}

@@ -1,0 +1,21 @@
+//! The connection charge and the pioneer ledger, written from document 01 alone.
+//!
+//! Money is in whole cents, capacity in hundredths of a kVA, factors in ten-thousandths, months are
+//! year × 12 + (month − 1). Files are big endian. A refused call changes nothing.
+
+#![forbid(unsafe_code)]
+
+pub mod file;
+pub mod ledger;
+pub mod pricing;
+pub mod rate_book;
+pub mod refusal;
+pub mod request;
+pub mod slip;
+pub mod stored;
+
+pub use ledger::{accept, hand_over, pay_out, Answer, Ledger, Party, Scheme};
+pub use pricing::{price, Bill, Reconciliation};
+pub use refusal::Refusal;
+pub use slip::slip;
+pub use stored::{read_ledger, write_ledger};

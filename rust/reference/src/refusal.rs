@@ -1,0 +1,87 @@
+//! "A refusal returns number, file and place, and changes nothing."
+
+use std::fmt;
+
+/// The file's number for a book, or a file read alone.
+pub const BOOK: u8 = 1;
+/// The file's number for a request, and for refusals 4 and 5.
+pub const REQUEST: u8 = 2;
+
+/// "file doesn't walk as above"
+pub const WALK: u8 = 1;
+/// "check differs"
+pub const CHECK: u8 = 2;
+/// "value or letters not as listed; in a stored ledger only the letters"
+pub const VALUE: u8 = 3;
+/// "zone not in the book"
+pub const ZONE: u8 = 4;
+/// "bespoke rate not allowed"
+pub const BESPOKE: u8 = 5;
+/// "scheme never opened"
+pub const NEVER_OPENED: u8 = 6;
+/// "month before the last accepted"
+pub const MONTH: u8 = 7;
+/// "64 schemes, one must open"
+pub const SCHEMES: u8 = 8;
+/// "no table entry left, one is needed"
+pub const TABLE: u8 = 9;
+/// "1,000,000 connections taken"
+pub const CONNECTIONS: u8 = 10;
+/// "no such entry"
+pub const NO_ENTRY: u8 = 11;
+/// "pay-out above standing credit"
+pub const STANDING_CREDIT: u8 = 12;
+/// "ledger unsound, or table shorter than its entries"
+pub const UNSOUND: u8 = 13;
+/// "output shorter than the stored form"
+pub const OUTPUT: u8 = 14;
+
+/// Document 01's words for the refusals, from number 1 on.
+const WORDS: [&str; 14] = [
+    "file doesn't walk as above",
+    "check differs",
+    "value or letters not as listed; in a stored ledger only the letters",
+    "zone not in the book",
+    "bespoke rate not allowed",
+    "scheme never opened",
+    "month before the last accepted",
+    "64 schemes, one must open",
+    "no table entry left, one is needed",
+    "1,000,000 connections taken",
+    "no such entry",
+    "pay-out above standing credit",
+    "ledger unsound, or table shorter than its entries",
+    "output shorter than the stored form",
+];
+
+/// A refusal: its number, 1 to 14, the file it is about and the place in it.
+#[derive(Debug, Clone, Copy, PartialEq, Eq)]
+pub struct Refusal {
+    pub number: u8,
+    /// "1 book or a file read alone; 2 request, and for 4 and 5; 0 from 6 on"
+    pub file: u8,
+    pub place: usize,
+}
+
+impl Refusal {
+    /// A refusal from 6 on: no file, no place.
+    pub const fn of_call(number: u8) -> Self {
+        Refusal { number, file: 0, place: 0 }
+    }
+
+    /// Document 01's words for the number.
+    pub fn words(&self) -> &'static str {
+        usize::from(self.number)
+            .checked_sub(1)
+            .and_then(|index| WORDS.get(index).copied())
+            .unwrap_or("no refusal of document 01")
+    }
+}
+
+impl fmt::Display for Refusal {
+    fn fmt(&self, f: &mut fmt::Formatter<'_>) -> fmt::Result {
+        write!(f, "refusal {} (file {}, place {}): {}", self.number, self.file, self.place, self.words())
+    }
+}
+
+impl std::error::Error for Refusal {}
