@@ -133,7 +133,7 @@ static void tell(const char *call, uint32_t result)
     printf("\n");
 }
 
-/* Of a call whose answer or figures are too short: it may not change the answer either. */
+/* Of a call that a buffer is too short for: it may not change the answer either. */
 static void tell_short(const char *call, uint32_t result)
 {
     printf("%s: result %" PRIu32 "; all %s\n", call, result, unchanged(sizeof lent));
@@ -173,7 +173,7 @@ static void try_slip_text(void)
     tell("slip text", slip_text(sizeof lent.text, FIKREM_ANSWER));
     size_t size = lent.answer[FIKREM_WRITTEN];
     fwrite(lent.text, 1, size, stdout);
-    tell("slip text, a byte short", slip_text(size - 1, FIKREM_ANSWER));
+    tell_short("slip text, a byte short", slip_text(size - 1, FIKREM_ANSWER));
     tell_short("slip text, 7 places of the answer", slip_text(size, FIKREM_ANSWER - 1));
 }
 
@@ -181,7 +181,7 @@ static void try_new_ledger(void)
 {
     tell("new ledger", new_ledger(sizeof lent.out, FIKREM_ANSWER));
     keep();
-    tell("new ledger, a byte short", new_ledger(stored_size - 1, FIKREM_ANSWER));
+    tell_short("new ledger, a byte short", new_ledger(stored_size - 1, FIKREM_ANSWER));
     tell_short("new ledger, 7 places of the answer", new_ledger(stored_size, FIKREM_ANSWER - 1));
 }
 
@@ -203,7 +203,7 @@ static void try_accept(void)
     join_scheme(1);
     tell("accept, joining", accept(sizeof lent.out, FIKREM_FIGURES, FIKREM_ANSWER));
     size_t size = lent.answer[FIKREM_WRITTEN];
-    tell("accept, a byte short", accept(size - 1, FIKREM_FIGURES, FIKREM_ANSWER));
+    tell_short("accept, a byte short", accept(size - 1, FIKREM_FIGURES, FIKREM_ANSWER));
     tell_short("accept, 20 figures", accept(size, FIKREM_FIGURES - 1, FIKREM_ANSWER));
     tell_short("accept, 7 places of the answer", accept(size, FIKREM_FIGURES, FIKREM_ANSWER - 1));
     accept(size, FIKREM_FIGURES, FIKREM_ANSWER);
@@ -216,7 +216,7 @@ static void try_pay_out(void)
     keep();
     tell("pay-out, above the credit", pay_out(1, 400000, stored_size, FIKREM_ANSWER));
     tell("pay-out, no such entry", pay_out(3, 0, stored_size, FIKREM_ANSWER));
-    tell("pay-out, a byte short", pay_out(1, 0, stored_size - 1, FIKREM_ANSWER));
+    tell_short("pay-out, a byte short", pay_out(1, 0, stored_size - 1, FIKREM_ANSWER));
     tell_short("pay-out, 7 places of the answer", pay_out(1, 0, stored_size, FIKREM_ANSWER - 1));
 }
 
@@ -225,7 +225,7 @@ static void try_hand_over(void)
     tell("hand-over", hand_over(2, 4712, stored_size, FIKREM_ANSWER));
     keep();
     tell("hand-over, no such entry", hand_over(3, 4712, stored_size, FIKREM_ANSWER));
-    tell("hand-over, a byte short", hand_over(2, 4712, stored_size - 1, FIKREM_ANSWER));
+    tell_short("hand-over, a byte short", hand_over(2, 4712, stored_size - 1, FIKREM_ANSWER));
     tell_short("hand-over, 7 places of the answer", hand_over(2, 4712, stored_size, FIKREM_ANSWER - 1));
 }
 

@@ -4,7 +4,8 @@
  * Each needs less than 256 KiB of stack. Every buffer is a pointer and its size in elements. No pointer is NULL, also where its
  * size is 0, and no two buffers of one call overlap where one of them is written.
  *
- * Each result is FIKREM_DONE, or the number of the refusal; a refused call changes no byte of any buffer but the answer.
+ * Each result is FIKREM_DONE, or the number of the refusal. A refused call changes no byte of any buffer but the answer, and
+ * FIKREM_SHORT_BUFFER not even that.
  */
 #ifndef FIKREM_H
 #define FIKREM_H
@@ -32,7 +33,7 @@ enum fikrem_result {
 };
 
 /* The answer: at least FIKREM_ANSWER places. Where it has fewer, or the figures fewer than FIKREM_FIGURES, the result is
- * FIKREM_SHORT_BUFFER before anything else, and no buffer is changed at all. Places past these are left as they were. */
+ * FIKREM_SHORT_BUFFER before anything else. Places past these are left as they were. */
 enum fikrem_answer {
     FIKREM_NUMBER = 0,         /* number, file and place of the refusal, as document 01 gives them; 0 where the call is done */
     FIKREM_FILE = 1,           /* 1 book or a file read alone, 2 request, 0 from number 6 on */

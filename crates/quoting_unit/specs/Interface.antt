@@ -2,7 +2,7 @@
 use Prim.Native.Nat.{ℕ}
 use mathlib.Core.Bool.{Bool, true, cond}
 use mathlib.Core.List.{List, [], _∷_, _++_}
-use lib.Dec.{ltb}
+use lib.Dec.{ltb, eqb}
 use lib.IntN.{ℤ, pos}
 use lib.ListN.{length, drop}
 use Rattle.tagged.specs.File.{refusal}
@@ -60,9 +60,9 @@ figurePlaces r =
 
 -- ---- the lent buffers
 
--- written at the front of a lent buffer; what lies past the places is left alone
+-- written at the front of a lent buffer; what lies past the places is left alone. 14 changes no buffer at all: it has no file and no place to tell
 abbrev pub answerAfter : Outcome → List ℕ → List ℕ
-answerAfter outcome answer = answerPlaces outcome ++ drop 8 answer
+answerAfter outcome answer = cond (eqb (outcome .refusal .number) 14) answer (answerPlaces outcome ++ drop 8 answer)
 
 abbrev pub figuresAfter : Reconciliation → List ℤ → List ℤ
 figuresAfter r figures = figurePlaces r ++ drop 21 figures

@@ -42,7 +42,8 @@ pub buffer-limits :
     × (anyShort (replicate 20 (pos 0)) (replicate 8 0) ≡ true)
     × (anyShort (replicate 21 (pos 0)) (replicate 7 0) ≡ true)
     × (answerAfter (refused (refusal 3 1 87) 0) (replicate 9 6) ≡ 3 ∷ 1 ∷ 87 ∷ 0 ∷ 0 ∷ 0 ∷ 0 ∷ 0 ∷ 6 ∷ [])
-buffer-limits = (refl, refl, refl, refl, refl, refl)
+    × (answerAfter (refused (refusal 14 0 0) 0) (replicate 9 6) ≡ replicate 9 6)
+buffer-limits = (refl, refl, refl, refl, refl, refl, refl)
 
 -- ---- whole calls, on buffers with a place more than they need, with as many and with one fewer
 
@@ -57,7 +58,7 @@ price-rows = (rw (scheme-bills .joining), rw (pricing-refusals .1), refl)
 
 pub new-ledger-rows :
     (newLedgerCall (replicate 37 7) (replicate 9 6) ≡ record { result = 0; output = newForm; answer = replicate 7 0 ++ (37 ∷ 6 ∷ []) })
-    × (newLedgerCall (replicate 36 7) (replicate 8 6) ≡ record { result = 14; output = replicate 36 7; answer = 14 ∷ replicate 7 0 })
+    × (newLedgerCall (replicate 36 7) (replicate 8 6) ≡ record { result = 14; output = replicate 36 7; answer = replicate 8 6 })
     × (newLedgerCall (replicate 37 7) (replicate 7 6) ≡ record { result = 14; output = replicate 37 7; answer = replicate 7 6 })
 new-ledger-rows = (
   ap (λ called. storedCall called (replicate 37 7) (replicate 9 6)) (new-rows-hold .0),

@@ -14,7 +14,8 @@ use stored_calls::StoredCheck;
 use tagged::file::Refusal;
 ghost use mathlib.Core.Path.{_≡_};
 ghost use Prim.Native.Nat.{_≤_};
-ghost use lib.ListN.{length};
+ghost use mathlib.Core.List.{_++_};
+ghost use lib.ListN.{length, drop};
 ghost use Rattle.reconciliation.specs.ReconciliationFacts.{Bounded};
 ghost use Rattle.quoting_unit.specs.Interface.{answerPlaces, figurePlaces, percentTold, percentFigure, done, refused, answerAfter, figuresAfter};
 ghost use Rattle.quoting_unit.specs.Unit.{priceCall, slipOutcome, slipTextCall, schemeTold, acceptCall, callOutcome, newLedgerCall, payOutCall, handOverCall, checkOutcome, checkLedgerCall};
@@ -74,11 +75,10 @@ fn answer_places(outcome: Outcome) -> [u64; ANSWER]
     ]
 }
 
-// The answer's places at the start of a lent buffer, and the result.
-fn write_answer(outcome: Outcome, answer: &mut [u64]) -> u32
+// The answer's places at the start of a lent buffer.
+fn write_places(outcome: Outcome, answer: &mut [u64])
     requires { ⌜ 8 ≤ length (now answer) ⌝ }
-    ensures { λ r. ⌜ r ≡ outcome .refusal .number ⌝ }
-    ensures { λ _. ⌜ now (answer .exit) ≡ answerAfter outcome (now (answer .entry)) ⌝ }
+    ensures { λ _. ⌜ now (answer .exit) ≡ answerPlaces outcome ++ drop 8 (now (answer .entry)) ⌝ }
 {
     let places = answer_places(outcome);
     let mut i: usize = 0;
@@ -86,7 +86,20 @@ fn write_answer(outcome: Outcome, answer: &mut [u64]) -> u32
         answer[i] = places[i];
         i += 1;
     }
-    outcome.refusal.number as u32
+}
+
+// The answer, and the result. 14 changes no buffer at all: it has no file and no place to tell.
+fn write_answer(outcome: Outcome, answer: &mut [u64]) -> u32
+    requires { ⌜ 8 ≤ length (now answer) ⌝ }
+    ensures { λ r. ⌜ r ≡ outcome .refusal .number ⌝ }
+    ensures { λ _. ⌜ now (answer .exit) ≡ answerAfter outcome (now (answer .entry)) ⌝ }
+{
+    let number = outcome.refusal.number as u32;
+    if number == 14 {
+        return number;
+    }
+    write_places(outcome, answer);
+    number
 }
 
 fn percent_told(percent: Percent) -> i64

@@ -37,7 +37,10 @@ pub fn run(call: &LibraryCall, buffers: &mut Buffers) -> u32 {
             places[3] = stored.into();
         }
     }
-    buffers.answer[..ANSWER].copy_from_slice(&places);
+    // 14 changes no buffer at all
+    if places[0] != u64::from(OUTPUT.number) {
+        buffers.answer[..ANSWER].copy_from_slice(&places);
+    }
     places[0] as u32
 }
 

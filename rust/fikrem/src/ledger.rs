@@ -62,7 +62,7 @@ pub struct Holdings {
 fn written(result: u32, answer: &[u64; ANSWER]) -> Result<usize, Refused> {
     match result {
         raw::DONE => Ok(answer[raw::WRITTEN] as usize),
-        _ => Err(Refused::of(answer)),
+        _ => Err(Refused::of(result, answer)),
     }
 }
 
@@ -80,7 +80,7 @@ pub fn new_ledger_into(out: &mut [u8]) -> Result<usize, Refusal> {
     let mut answer = [0; ANSWER];
     match raw::new_ledger(out, &mut answer) {
         raw::DONE => Ok(answer[raw::WRITTEN] as usize),
-        _ => Err(Refusal::of(&answer)),
+        result => Err(Refusal::of(result, &answer)),
     }
 }
 
@@ -158,6 +158,6 @@ pub fn check_ledger(stored: &[u8], table_size: usize) -> Result<Holdings, Refusa
             connections: answer[raw::CONNECTED] as u32,
             month: answer[raw::LAST_MONTH] as u16,
         }),
-        _ => Err(Refusal::of(&answer)),
+        result => Err(Refusal::of(result, &answer)),
     }
 }

@@ -80,7 +80,7 @@ pub fn price(book: &[u8], request: &[u8]) -> Result<Bill, Refusal> {
     let (mut figures, mut answer) = ([0; FIGURES], [0; ANSWER]);
     match raw::price(book, request, &mut figures, &mut answer) {
         raw::DONE => Ok(Bill::of(&figures)),
-        _ => Err(Refusal::of(&answer)),
+        result => Err(Refusal::of(result, &answer)),
     }
 }
 
@@ -98,6 +98,6 @@ pub fn slip_text_into(book: &[u8], request: &[u8], text: &mut [u8]) -> Result<us
     let mut answer = [0; ANSWER];
     match raw::slip_text(book, request, text, &mut answer) {
         raw::DONE => Ok(answer[raw::WRITTEN] as usize),
-        _ => Err(Refusal::of(&answer)),
+        result => Err(Refusal::of(result, &answer)),
     }
 }

@@ -31,8 +31,9 @@ pub struct Refusal {
 }
 
 impl Refusal {
-    pub(crate) fn of(answer: &[u64; ANSWER]) -> Refusal {
-        Refusal { number: answer[raw::NUMBER] as u8, file: answer[raw::FILE] as u8, place: answer[raw::PLACE] as usize }
+    /// The number is the result's: 14 leaves the answer, which holds zeros before the call.
+    pub(crate) fn of(result: u32, answer: &[u64; ANSWER]) -> Refusal {
+        Refusal { number: result as u8, file: answer[raw::FILE] as u8, place: answer[raw::PLACE] as usize }
     }
 
     /// Document 01's words for the number.
@@ -60,11 +61,11 @@ pub enum Refused {
 }
 
 impl Refused {
-    pub(crate) fn of(answer: &[u64; ANSWER]) -> Refused {
+    pub(crate) fn of(result: u32, answer: &[u64; ANSWER]) -> Refused {
         if answer[raw::OF_LEDGER] == 1 {
-            Refused::Stored(Refusal::of(answer))
+            Refused::Stored(Refusal::of(result, answer))
         } else {
-            Refused::Call(Refusal::of(answer))
+            Refused::Call(Refusal::of(result, answer))
         }
     }
 

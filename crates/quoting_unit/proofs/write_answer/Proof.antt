@@ -1,87 +1,25 @@
-use Prim.Native.Nat.{_-_, _≤_}
-use mathlib.Core.Path.{_≡_}
-use lib.ListN.{length}
-use Rattle.slip_text.proofs.Copying.{copied, copy-one-more, copied-whole}
-use native.Mathlib.Omega.{arith}
+use mathlib.Core.Path.{refl}
 use borrow.Author.Needs.{needs}
+use borrow.Author.Tests.{eq-eqb, ne-eqb}
 use Rattle.quoting_unit.proofs.write_answer.Statement.{statement}
 use Rattle.quoting_unit.proofs.write_answer.Tie as tie
 
-abbrev Inv-loop : tie.InvT-loop
-Inv-loop outcome answer₀ places i₀ answer i =
-    (answer ≡ copied answer₀ places i) × (length answer ≡ length answer₀) × (i ≤ 8)
+cast-number : tie.Need-cast-number
+cast-number c = search needs
 
-abbrev μ-loop : tie.MeasureT-loop
-μ-loop outcome answer₀ places i₀ answer i = 8 - i
+returns : tie.Need-returns
+returns c = (refl, rw (eq-eqb _ _ (c .if1 .taken)))
 
-answer-places-requires : tie.Need-answer-places-requires Inv-loop μ-loop
-answer-places-requires c κs = search needs
+write-places-requires : tie.Need-write-places-requires
+write-places-requires c κs = search needs
 
-loop-holds : tie.Need-loop-holds Inv-loop μ-loop
-loop-holds c = search needs
-
-mul-answer : tie.Need-mul-answer Inv-loop μ-loop
-mul-answer c = search needs
-
-array-read-answer : tie.Need-array-read-answer Inv-loop μ-loop
-array-read-answer c = search needs
-
-mul-answer-2 : tie.Need-mul-answer-2 Inv-loop μ-loop
-mul-answer-2 c = search needs
-
-slice-write-answer : tie.Need-slice-write-answer Inv-loop μ-loop
-slice-write-answer c = search needs
-
-add-i : tie.Need-add-i Inv-loop μ-loop
-add-i c = search needs
-
-loop-less : tie.Need-loop-less Inv-loop μ-loop
-loop-less c = search needs
-
-loop-again : tie.Need-loop-again Inv-loop μ-loop
-loop-again c =
-    let head = c .before in
-    let i = head .loop .i in
-    let places = head .before .answer-places .result in
-    let before = head .before .before .before .args .answer .now in
-    let long : length places ≡ 8 = search needs in (
-      copy-one-more before places i 0 (head .loop .inv .0) (omega arith) (omega arith),
-      search needs,
-      omega arith,
-    )
-
-cast-result : tie.Need-cast-result Inv-loop μ-loop
-cast-result c = search needs
-
-same-length : tie.Need-same-length Inv-loop μ-loop
+same-length : tie.Need-same-length
 same-length c = search needs
 
-returns : tie.Need-returns Inv-loop μ-loop
-returns c =
-    let end = c .before .before in
-    let places = end .before .answer-places .result in
-    let long : length places ≡ 8 = search needs in
-    let all : end .loop .i ≡ 8 = omega arith in
-    let before = end .before .before .before .args .answer .now in (
-      search needs,
-      rw (end .before .answer-places .ensures) at (copied-whole before places 8 (rw all at (end .loop .inv .0)) long),
-    )
+returns-2 : tie.Need-returns-2
+returns-2 c =
+    let called = c .before .before in
+    (refl, rw (ne-eqb _ _ (called .before .before .if1 .left)) (called .write-places .ensures))
 
 pub write-answer-spec : {M : Type 1} → statement M
-write-answer-spec =
-    tie.close
-    (tie.spec
-    Inv-loop
-    μ-loop
-    answer-places-requires
-    loop-holds
-    mul-answer
-    array-read-answer
-    mul-answer-2
-    slice-write-answer
-    add-i
-    loop-less
-    loop-again
-    cast-result
-    same-length
-    returns)
+write-answer-spec = tie.close (tie.spec cast-number returns write-places-requires same-length returns-2)
