@@ -7,10 +7,10 @@ DEFINITIONS = """\
   count = min (min entries 512) (length table)
 
   abbrev zeros : List Party
-  zeros = replicate 512 noParty
+  zeros = noParties
 
   zeros-length : length zeros ≡ 512
-  zeros-length = length-replicate 512 noParty
+  zeros-length = length-no-parties
 
   -- the array where i records are copied
   abbrev parties : ℕ → List Party
@@ -19,6 +19,9 @@ DEFINITIONS = """\
   count-512 : count ≤ 512
   count-512 = le-trans (min-le-left (min entries 512) (length table)) (min-le-right entries 512)
 
+  count-zeros : count ≤ length zeros
+  count-zeros = subst (λ (k : ℕ). count ≤ k) (sym zeros-length) count-512
+
   count-table : count ≤ length table
   count-table = min-le-right (min entries 512) (length table)
 
@@ -26,7 +29,7 @@ DEFINITIONS = """\
   within l = lt-of-lt-of-le l count-table
 
   parties-length : {i : ℕ} → i ≤ count → length (parties i) ≡ 512
-  parties-length {i} l = copied-length i table zeros (le-trans l count-table) (le-trans l count-512) ∙ zeros-length
+  parties-length {i} l = copied-length i table zeros (le-trans l count-table) (le-trans l count-zeros) ∙ zeros-length
 
   inside : {i : ℕ} → i < count → i < length (parties i)
   inside {i} l = subst (λ (k : ℕ). i < k) (sym (parties-length (le-of-lt l))) (lt-of-lt-of-le l count-512)
@@ -35,16 +38,19 @@ DEFINITIONS = """\
 types = [PARTIES.type, slice_of("imm", "named 0"), U32.type, USIZE.type, PARTIES.type, USIZE.type, USIZE.type, PARTIES.type, BOOL]
 types += [USIZE.type, POINTER, PARTY.type, USIZE.type, POINTER, POINTER]
 walk = Walk(
-    "party_table", "snapshot", [("table", TABLE_SEEN), ("entries", U32)], types, ["kept", "no_parties"], DEFINITIONS,
+    "party_table", "snapshot", [("table", TABLE_SEEN), ("entries", U32)], types, ["kept", "ledger::records::no_parties"], DEFINITIONS,
     result=(PARTIES, "(parties count)"),
     says="copied-snapshot entries table",
-    imports=["use Rattle.party_table.proofs.Copying.{copied, copied-next, copied-length, copied-snapshot}"],
+    imports=[
+        "use Rattle.ledger.specs.TableLaws.{length-no-parties}",
+        "use Rattle.party_table.proofs.Copying.{copied, copied-next, copied-length, copied-snapshot}",
+    ],
 )
 walk.length("_6")
 arguments = [("entries", U32, "entries-fits"), ("(length table)", USIZE, "(table-fits .0)")]
 walk.call("kept", arguments, ["_2", "_6"], USIZE, "kept-count", "kept-count ≡ count")
 walk.got_number(USIZE, "kept-count", "_3", "count")
-walk.call("no_parties", [], [], PARTIES, "blank", "blank ≡ zeros")
+walk.call("ledger::records::no_parties", [], [], PARTIES, "blank", "blank ≡ zeros")
 walk.got(PARTIES, "blank", "_7", "zeros")
 walk.assign("_4", operand(walk.load("_7")), PARTIES.typed("zeros", "blank-known"))
 walk.assign("_5", operand("(lit ! tt)"), "tt, record { fits = lit< tt }")
@@ -62,8 +68,8 @@ def turn(walk):
     walk.assign_at("_14", "cell", operand(walk.load("_11")), PARTY.typed("(getD table i noParty)", "known"))
     walk.owns(PARTY, "(getD table i noParty)", "known", "new-own")
     walk.take_put("array", "(parties i)", "i", "(getD table i noParty)", "party-values (getD table i noParty)", "new-own", "inside l", local="_4")
-    zeros = "subst (λ (k : ℕ). i < k) (sym zeros-length) (lt-of-lt-of-le l count-512)"
-    walk.rewrite("array", "λ (xs : List Party). ‵ (row PartyRow fullShare xs l₄ 0)", f"copied-next i table zeros (within l) ({zeros})")
+    next_array = "copied-next i table zeros (within l) (lt-of-lt-of-le l count-zeros)"
+    walk.rewrite("array", "λ (xs : List Party). ‵ (row PartyRow fullShare xs l₄ 0)", next_array)
 
 
 def after(walk):

@@ -7,6 +7,7 @@ pub mod Sound
 pub mod Tallied
 pub mod SoundRows
 pub mod SoundFacts
+pub mod SameEntries
 pub mod RefusalNumbers
 pub mod Entries
 pub mod EntriesFacts

@@ -6,14 +6,20 @@ use mathlib.Core.Bool.{cond}
 use native.Mathlib.Nat.{not-suc-le-zero, le-of-suc-le-suc}
 use native.Mathlib.Numerals.{add-one}
 use native.Mathlib.Omega.{arith}
-use lib.ListN.{length, take, getD, set, length-append, length-map, List·getD-append}
+use lib.ListN.{length, take, getD, set, length-append, length-map, length-replicate, List·getD-append}
 use lib.Seq.{take-suc-set, getD-at}
 use lib.Dec.{eqb}
-use Rattle.ledger.specs.Records.{noParty}
+use Rattle.ledger.specs.Records.{noParty, noParties}
 use Rattle.ledger.specs.Columns.{schemeColumn, capacityColumn, putInColumn, creditedColumn, onesColumn, sumOver, entriesOf, firstPutIn}
 use Rattle.ledger.specs.ColumnsLaws.{ones-again, of-own, of-other, sum-more, first-kept, first-new, addEach, sum-add-each, length-add-each}
 use Rattle.ledger.specs.Table.{creditedMore, creditEach}
 use Rattle.ledger.specs.declared.records.Party.{Party}
+
+-- ---- noParties
+
+pub length-no-parties : length noParties ≡ 512
+unfolding noParties
+length-no-parties = length-replicate 512 noParty
 
 -- ---- creditEach
 

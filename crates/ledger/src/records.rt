@@ -1,7 +1,7 @@
 // What a ledger and its table hold, in the stored form's widths: every value of these types can be
 // handed over, sound or not.
 ghost use mathlib.Core.Path.{_≡_};
-ghost use Rattle.ledger.specs.Records.{noParty, newLedger};
+ghost use Rattle.ledger.specs.Records.{noParty, noParties, newLedger};
 
 pub struct Scheme {
     pub cost: u32,
@@ -47,6 +47,13 @@ pub fn no_party() -> Party
         credited: 0,
         paid_out: 0,
     }
+}
+
+pub fn no_parties() -> [Party; 512]
+    ensures { λ r. ⌜ r ≡ noParties ⌝ }
+{
+    let none = no_party();
+    [none; 512]
 }
 
 pub fn new_ledger() -> Ledger

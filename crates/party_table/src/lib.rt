@@ -4,7 +4,7 @@ use ledger::records::Party;
 ghost use mathlib.Core.Path.{_≡_};
 ghost use mathlib.Core.List.{_++_};
 ghost use Prim.Native.Nat.{_+_, _≤_, _<_, _^_, min};
-ghost use lib.ListN.{length, set, getD, replicate, take, drop};
+ghost use lib.ListN.{length, set, getD, take, drop};
 ghost use Rattle.ledger.specs.Records.{noParty};
 ghost use Rattle.ledger.specs.Entries.{paidMore, handedTo};
 ghost use Rattle.ledger.specs.Table.{creditedMore, creditEach};
@@ -22,25 +22,12 @@ fn kept(entries: u32, room: usize) -> usize
     }
 }
 
-fn no_parties() -> [Party; 512]
-    ensures { λ r. ⌜ r ≡ replicate 512 noParty ⌝ }
-{
-    [Party {
-        scheme: 0,
-        person: 0,
-        capacity: 0,
-        put_in: 0,
-        credited: 0,
-        paid_out: 0,
-    }; 512]
-}
-
 // The entries' records, and zeros up to 512.
 pub fn snapshot(table: &[Party], entries: u32) -> [Party; 512]
     ensures { λ r. ⌜ r ≡ snapshotOf entries (now (table .entry)) ⌝ }
 {
     let count = kept(entries, table.len());
-    let mut parties = no_parties();
+    let mut parties = ledger::records::no_parties();
     let mut i: usize = 0;
     while i < count {
         parties[i] = table[i];

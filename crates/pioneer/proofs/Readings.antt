@@ -1,54 +1,23 @@
 -- What a reading leaves of the table, by its answer.
 use Prim.Native.Nat.{ℕ, _≤_}
-use mathlib.Core.Path.{_≡_, refl, sym, _∙_, ap, subst}
+use mathlib.Core.Path.{_≡_, refl, ap, subst}
 use mathlib.Core.List.{List, _++_}
-use mathlib.Core.Bool.{true, not}
-use mathlib.Core.Logic.{⊎-elim}
-use mathlib.Mathlib.Data.Bool.Basic.{dichotomy}
-use native.Mathlib.Omega.{arith}
+use mathlib.Core.Bool.{not}
 use lib.ListN.{length, take, drop}
-use lib.Dec.{T, leb}
-use borrow.Author.Tests.{leb-true, leb-false}
-use Rattle.tagged.specs.File.{standing, fieldsPart}
-use Rattle.tagged.specs.declared.file.Refusal.{Refusal}
+use lib.Dec.{T}
+use Rattle.tagged.specs.File.{fieldsPart}
 use Rattle.tagged.specs.declared.file.Standing.{Standing}
 use Rattle.tagged.specs.declared.file.Standing.the-variants.{Stands, Refused}
-use Rattle.field_values.specs.Judged.{judgeLetters}
-use Rattle.ledger.specs.Sound.{sound}
+use Rattle.ledger.specs.Records.{noParties}
 use Rattle.ledger.specs.SoundFacts.{SoundLedger, sound-means}
 use Rattle.ledger.specs.declared.records.Party.{Party}
 use Rattle.ledger.specs.declared.records.Ledger.{Ledger}
-use Rattle.stored.specs.Rows.{storedRows}
 use Rattle.stored.specs.Layout.{placed}
 use Rattle.stored.specs.LayoutLaws.{length-placed, take-placed}
-use Rattle.stored.specs.Form.{letters, entriesIn, noParties, storedLedger}
-use Rattle.stored.specs.Reading.{inTurn, lettersAnswer, tableAnswer, fieldsAnswer, readAnswer, readBy, readBack, tableBy, readOf}
-use Rattle.stored.specs.ReadingLaws.{read-refused-9, read-refused-13}
+use Rattle.stored.specs.Form.{entriesIn, storedLedger}
+use Rattle.stored.specs.Reading.{readAnswer, readBy, readBack, tableBy, readOf}
+use Rattle.stored.specs.Accepted.{accepted-means}
 use Rattle.pioneer.specs.Calls.{readRefused, readResult}
-
-not-refused : {r : Refusal} → Refused r ≡ Stands → ⊥
-not-refused e = let z : _≡_ {A = ℕ} 0 1 = cc in omega arith
-
-later-stands : (first later : Standing) → inTurn first later ≡ Stands → later ≡ Stands
-later-stands Stands later e = e
-later-stands (Refused r) later e = absurd (not-refused e)
-
--- a file that stands holds a sound ledger, whose entries have room
-fields-sound : (room : ℕ) (s : List ℕ) → tableAnswer room s ≡ Stands → sound (storedLedger s) (entriesIn s) room ≡ true
-fields-sound room s e =
-    ⊎-elim (λ short. absurd (not-refused (sym (read-refused-9 room s (leb-false (length (entriesIn s)) room short)) ∙ e)))
-    (λ fits.
-    ⊎-elim (λ unsound. absurd (not-refused (sym (read-refused-13 room s (leb-true (length (entriesIn s)) room fits) unsound) ∙ e))) (λ stands. stands)
-    (dichotomy (sound (storedLedger s) (entriesIn s) room)))
-    (dichotomy (leb (length (entriesIn s)) room))
-
-pub file-sound : (room : ℕ) (file : List ℕ) → readAnswer room file ≡ Stands →
-    sound (storedLedger (fieldsPart file)) (entriesIn (fieldsPart file)) room ≡ true
-unfolding readAnswer
-file-sound room file e =
-    let s : List ℕ = fieldsPart file in
-    let fields : fieldsAnswer room s ≡ Stands = later-stands (standing storedRows 1 file) (fieldsAnswer room s) e in
-    fields-sound room s (later-stands (lettersAnswer (judgeLetters letters s)) (tableAnswer room s) fields)
 
 pub entries-count : (s : List ℕ) → storedLedger s .entries ≡ length (entriesIn s)
 unfolding storedLedger
@@ -76,7 +45,7 @@ module _ (ledger : Ledger) (table : List Party) (file : List ℕ) where
       by-answer (Refused r) refused = refl
 
   stands-means : readAnswer (length table) file ≡ Stands → SoundLedger (storedLedger s) (entriesIn s) (length table)
-  stands-means e = sound-means (storedLedger s) (entriesIn s) (length table) (file-sound (length table) file e)
+  stands-means e = sound-means (storedLedger s) (entriesIn s) (length table) (accepted-means (length table) file e .holds)
 
   pub read-length : length (readOf ledger table file .table) ≡ length table
   read-length = by-answer (readAnswer (length table) file) refl

@@ -1,16 +1,14 @@
 -- A call on a snapshot of the table comes to the same as on the table itself.
 use Prim.Native.Nat.{ℕ, _-_, _<_, _≤_}
-use mathlib.Core.Path.{_≡_, refl, sym, _∙_, ap, ap₂}
-use mathlib.Core.List.{List, [], _∷_}
+use mathlib.Core.Path.{_≡_, refl, sym, _∙_, ap}
+use mathlib.Core.List.{List}
 use mathlib.Core.Bool.{Bool, true, false, cond}
 use mathlib.Core.Logic.{⊎-elim}
 use mathlib.Mathlib.Data.Bool.Basic.{dichotomy}
 use native.Mathlib.Nat.{le-refl}
 use native.Mathlib.Omega.{arith}
-use lib.ListN.{length, take, drop, getD}
+use lib.ListN.{length, take, getD}
 use lib.Seq.{getD-take}
-use lib.Dec.{leb}
-use borrow.Author.Tests.{leb-true}
 use Rattle.tagged.specs.File.{refusal}
 use Rattle.charge.specs.declared.Bill.{Bill}
 use Rattle.charge.specs.declared.Pricing.{Pricing}
@@ -18,19 +16,16 @@ use Rattle.charge.specs.declared.Pricing.the-variants.{Priced, NotPriced}
 use Rattle.ledger.specs.Records.{noParty}
 use Rattle.acceptance.specs.Verdict.{columnsOf, verdict}
 use Rattle.acceptance.specs.Accept.{plannedBy, refusedPlan, billPlan, pricedPlan, planOf}
-use Rattle.ledger.specs.Sound.{allHold, countsSound, sumsSound, partiesSound, schemesSound, allZero, sound}
+use Rattle.ledger.specs.Sound.{sound}
 use Rattle.ledger.specs.Entries.{entryExists, entryAt, payOutChange, handOverChange}
-use Rattle.ledger.specs.SoundFacts.{SoundLedger, both-true, sound-means}
+use Rattle.ledger.specs.SameEntries.{SameEntries, same-sound, sound-entries}
 use Rattle.ledger.specs.EntriesFacts.{Exists, true-exists}
 use Rattle.ledger.specs.declared.records.Party.{Party}
 use Rattle.ledger.specs.declared.records.Ledger.{Ledger}
 use Rattle.acceptance.specs.declared.verdict.Verdict.{Verdict}
 use Rattle.acceptance.specs.declared.verdict.Verdict.the-variants.{StaysPlain, Opens, Joins, IsSmall, HasEnded, Refuses}
-use Rattle.stored.specs.Form.{partyParts, storedForm}
-use Rattle.stored.specs.Writing.{writtenAnswer, outputBy, writtenOutput}
-use Rattle.stored.specs.WritingLaws.{write-refused-13, output-refused}
-use Rattle.stored.specs.declared.writing.Written.{Written}
-use Rattle.stored.specs.declared.writing.Written.the-variants.{Refused}
+use Rattle.stored.specs.Writing.{writtenAnswer, writtenOutput}
+use Rattle.stored.specs.SameForm.{same-writing}
 use Rattle.party_table.specs.PartyTable.{snapshotOf}
 use Rattle.party_table.specs.PartyTableLaws.{snapshot-take}
 
@@ -38,36 +33,14 @@ module _ (ledger : Ledger) (table : List Party) where
   abbrev snapshot : List Party
   snapshot = snapshotOf (ledger .entries) table
 
-  pub snapshot-entries : ledger .entries ≤ 512 → ledger .entries ≤ length table → take (ledger .entries) snapshot ≡ take (ledger .entries) table
-  snapshot-entries = snapshot-take (ledger .entries) (ledger .entries) table (le-refl (ledger .entries))
+  same-entries : SameEntries ledger snapshot table (length table) (length table)
+  same-entries = record { fit = refl; entries = snapshot-take (ledger .entries) (ledger .entries) table (le-refl (ledger .entries)) }
 
-  counted-entries : countsSound ledger (length table) ≡ true → take (ledger .entries) snapshot ≡ take (ledger .entries) table
-  counted-entries counts =
-      let entries = both-true (leb (ledger .entries) 512) _ (both-true (leb (ledger .count) 64) _ counts .1) in
-      snapshot-entries (leb-true _ _ (entries .0)) (leb-true _ _ (both-true (leb (ledger .entries) (length table)) true (entries .1) .0))
-
-  pub snapshot-sound : sound ledger snapshot (length table) ≡ sound ledger table (length table)
-  unfolding sound
-  snapshot-sound = by-counts (countsSound ledger (length table)) refl
-    where
-      more : List Party → Bool
-      more entries =
-          allHold
-          (sumsSound ledger ∷
-          partiesSound (ledger .count) entries ∷
-          schemesSound (ledger .month) entries 1 (take (ledger .count) (ledger .schemes)) ∷
-          allZero (drop (ledger .count) (ledger .schemes)) ∷
-          [])
-
-      by-counts : (t : Bool) → countsSound ledger (length table) ≡ t →
-          cond t (more (take (ledger .entries) snapshot)) false ≡ cond t (more (take (ledger .entries) table)) false
-      by-counts true counts = ap more (counted-entries counts)
-      by-counts false counts = refl
+  snapshot-sound : sound ledger snapshot (length table) ≡ sound ledger table (length table)
+  snapshot-sound = same-sound same-entries
 
   standing-entries : sound ledger table (length table) ≡ true → take (ledger .entries) snapshot ≡ take (ledger .entries) table
-  standing-entries stands =
-      let means : SoundLedger ledger table (length table) = sound-means ledger table (length table) stands in
-      snapshot-entries (means .entries) (means .in-table)
+  standing-entries = sound-entries same-entries
 
   -- how an entry is looked up: 13, 11, or it is there
   pub data Looks (entry : ℕ) : Type 0 where
@@ -142,29 +115,9 @@ module _ (ledger : Ledger) (table : List Party) where
       by-sound true stands = priced pricing stands
       by-sound false u = refl
 
-  snapshot-form : sound ledger table (length table) ≡ true → storedForm ledger snapshot ≡ storedForm ledger table
-  unfolding storedForm partyParts
-  snapshot-form stands = rw (standing-entries stands)
-
   module _ (out : List ℕ) where
-    refused-written : sound ledger table (length table) ≡ false → writtenAnswer ledger snapshot (length table) out ≡ Refused (refusal 13 0 0)
-    refused-written u = write-refused-13 ledger snapshot (length table) out (snapshot-sound ∙ u)
-
-    standing-written : sound ledger table (length table) ≡ true →
-        writtenAnswer ledger snapshot (length table) out ≡ writtenAnswer ledger table (length table) out
-    unfolding writtenAnswer
-    standing-written stands = rw (snapshot-sound, snapshot-form stands)
-
     pub snapshot-written : writtenAnswer ledger snapshot (length table) out ≡ writtenAnswer ledger table (length table) out
-    snapshot-written =
-        ⊎-elim (λ u. refused-written u ∙ sym (write-refused-13 ledger table (length table) out u)) standing-written
-        (dichotomy (sound ledger table (length table)))
+    snapshot-written = ap (λ end. end .answer) (same-writing same-entries out)
 
     pub snapshot-output : writtenOutput ledger snapshot (length table) out ≡ writtenOutput ledger table (length table) out
-    snapshot-output =
-        ⊎-elim
-        (λ u.
-        output-refused ledger snapshot (length table) out (refused-written u)
-        ∙ sym (output-refused ledger table (length table) out (write-refused-13 ledger table (length table) out u)))
-        (λ stands. ap₂ (λ (answer : Written) (form : List ℕ). outputBy answer form out) (standing-written stands) (snapshot-form stands))
-        (dichotomy (sound ledger table (length table)))
+    snapshot-output = ap (λ end. end .output) (same-writing same-entries out)

@@ -6,9 +6,10 @@ use mathlib.Core.Bool.{Bool, true, false, false≢true, cond}
 use native.Mathlib.Omega.{arith}
 use lib.ListN.{length, getD, take, drop, length-map}
 use lib.Dec.{eqb}
-use borrow.Author.Tests.{eqb-true, eq-eqb}
+use borrow.Author.Tests.{eqb-true, eqb-false, eq-eqb}
 use Rattle.tagged.specs.Walk.{tagOf, leastOf, mostOf, FieldAt, FieldsWalk}
 use Rattle.tagged.specs.Find.{fieldsWith, firstWith, fieldStart, startOf}
+use Rattle.tagged.specs.FieldsWith.{with-past, with-all}
 use Rattle.tagged.specs.WalkFacts.{Stand, Fields, none, first, by-test, Stand-once, Stand-last, walk-stands, walk-fields, permitted-length}
 use Rattle.tagged.specs.WalkFinds.{walk-fieldsOf, walk-firstPlace, walk-next}
 use Rattle.rate_book.specs.Rows.{bookRows}
@@ -59,14 +60,9 @@ once-before tag row rows =
     never : {A : Type 0} → A → P false
     never a e = absurd (false≢true e)
 
-module _ (tag : ℕ) (f : FieldAt) (fs : List FieldAt) (other : eqb (f .tag) tag ≡ false) where
-  all-past : fieldsWith tag (f ∷ fs) ≡ fieldsWith tag fs
-  unfolding fieldsWith
-  all-past = rw other
-
-  first-past : firstWith tag (f ∷ fs) ≡ firstWith tag fs
-  unfolding firstWith
-  first-past = rw other
+first-past : (tag : ℕ) (f : FieldAt) (fs : List FieldAt) → eqb (f .tag) tag ≡ false → firstWith tag (f ∷ fs) ≡ firstWith tag fs
+unfolding firstWith
+first-past tag f fs other = rw other
 
 behind : (tag : ℕ) (front rows : List (List ℕ)) (s : List ℕ) (at : ℕ) (fs : List FieldAt) → onceBefore tag front ≡ true → at ≤ length s →
     Stand (front ++ rows) 0 fs → Fields s at fs → Behind tag rows s fs
@@ -83,7 +79,7 @@ behind tag (row ∷ front) rows s at fs t h x y =
       inside = b .inside;
       stand = b .stand;
       are = b .are;
-      all-with = ap (fieldsWith tag) (w .are) ∙ all-past tag (w .f) (w .others) other ∙ b .all-with;
+      all-with = ap (fieldsWith tag) (w .are) ∙ with-past tag (w .f) (w .others) (eqb-false _ _ other) ∙ b .all-with;
       first-with = ap (firstWith tag) (w .are) ∙ first-past tag (w .f) (w .others) other ∙ b .first-with;
     }
 
@@ -91,11 +87,6 @@ behind tag (row ∷ front) rows s at fs t h x y =
 module _ (tag : ℕ) (s : List ℕ) where
   abbrev Each21 : List FieldAt → Type 0
   Each21 fs = (f : FieldAt) → List·Memᴰ f fs → (f .tag ≡ tag) × (f .len ≡ 21)
-
-  all-with-tag : (fs : List FieldAt) → Each21 fs → fieldsWith tag fs ≡ fs
-  unfolding fieldsWith
-  all-with-tag [] of = refl
-  all-with-tag (f ∷ fs) of = rw (eq-eqb _ _ (of f (List·Memᴰ·head refl) .0), all-with-tag fs (λ g i. of g (List·Memᴰ·tail i)))
 
   starts-apart : {at : ℕ} {fs : List FieldAt} → Fields s at fs → Each21 fs → map (λ f. f .start) fs ≡ every24 (at + 3) (length fs)
   unfolding every24
@@ -121,7 +112,7 @@ zones-stand s (fs, walks) =
     let zones = b .others in
     let of : Each21 8 s zones = λ f i. (l .2 f i .tag, omega (arith, permitted-length (getD bookRows 7 []) (f .len) (l .2 f i .permitted))) in
     let starts : zoneStarts s ≡ map (λ f. f .start) zones =
-    ap (λ x. map (λ f. f .start) (fieldsWith 8 x)) (walk-fieldsOf bookRows s fs walks) ∙ ap (map (λ f. f .start)) (b .all-with ∙ all-with-tag 8 s zones of) in
+    ap (λ x. map (λ f. f .start) (fieldsWith 8 x)) (walk-fieldsOf bookRows s fs walks) ∙ ap (map (λ f. f .start)) (b .all-with ∙ with-all 8 zones (λ f i. of f i .0)) in
     let count : length (zoneStarts s) ≡ length zones = ap length starts ∙ length-map zones _ in
     let start : fieldStart 8 s ≡ b .at + 3 =
     ap startOf (walk-firstPlace bookRows s fs walks 8 ∙ b .first-with) ∙ first-starts 8 s (b .are) of (l .0) in

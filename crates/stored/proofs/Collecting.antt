@@ -6,12 +6,12 @@ use native.Mathlib.Omega.{arith}
 use lib.ListN.{length, getD, set, drop, length-append, length-take, length-drop}
 use Rattle.tagged.specs.Walk.{FieldAt, FieldsWalk, valueOf}
 use Rattle.tagged.specs.Find.{fieldsOf, fieldsWith, valuePlace, restPlace, partOf}
+use Rattle.tagged.specs.FieldsWith.{with-this, with-past}
 use Rattle.tagged.specs.WalkFacts.{Fields, walk-fields}
 use Rattle.tagged.specs.WalkFinds.{Next, walk-next, walk-more, walk-end, walk-fieldsOf}
 use Rattle.stored.specs.Layout.{placed}
 use Rattle.stored.specs.LayoutLaws.{placed-one-more}
 use Rattle.stored.specs.Form.{eachWith}
-use Rattle.stored.specs.FieldsWith.{with-this, with-past}
 
 -- of these fields, those with this tag have values of that length
 abbrev pub SizedWith : ℕ → ℕ → List FieldAt → Type 0

@@ -5,7 +5,7 @@ use lib.ListN.{length, take, replicate}
 use Rattle.tagged.specs.Walk.{FieldAt, valueOf}
 use Rattle.tagged.specs.Find.{fieldsOf, fieldsWith, fieldValue}
 use Rattle.tagged.specs.WalkFinds.{closed}
-use Rattle.ledger.specs.Records.{noScheme, noParty}
+use Rattle.ledger.specs.Records.{noScheme}
 use Rattle.ledger.specs.declared.records.Scheme.{Scheme}
 use Rattle.ledger.specs.declared.records.Party.{Party}
 use Rattle.ledger.specs.declared.records.Ledger.{Ledger}
@@ -64,12 +64,9 @@ schemesIn s = eachWith schemeOf 3 s (fieldsOf s)
 unfoldable pub entriesIn : List ℕ → List Party
 entriesIn s = eachWith partyOf 4 s (fieldsOf s)
 
--- "places past the last scheme hold zeros", and so do the records past the last entry where there is no table
+-- "places past the last scheme hold zeros"
 unfoldable pub noSchemes : List Scheme
 noSchemes = replicate 64 noScheme
-
-unfoldable pub noParties : List Party
-noParties = replicate 512 noParty
 
 unfoldable pub storedLedger : List ℕ → Ledger
 storedLedger s =

@@ -6,9 +6,9 @@ use native.Mathlib.Omega.{arith}
 use lib.ListN.{length, getD, drop}
 use Rattle.tagged.specs.Walk.{FieldAt, valueOf}
 use Rattle.tagged.specs.Find.{fieldsWith}
+use Rattle.tagged.specs.FieldsWith.{with-this, with-past}
 use Rattle.tagged.specs.WalkFinds.{partsOf}
 use Rattle.stored.specs.Form.{eachWith}
-use Rattle.stored.specs.FieldsWith.{with-this, with-past}
 
 module _ {A : Type 0} (read : List ℕ → A) (tag : ℕ) (s : List ℕ) where
   -- so much is read of fields that are these parts

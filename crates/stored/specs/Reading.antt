@@ -11,12 +11,13 @@ use Rattle.tagged.specs.declared.file.Standing.the-variants.{Stands, Refused}
 use Rattle.field_values.specs.Judged.{judgeLetters}
 use Rattle.field_values.specs.declared.judged.Judged.{Judged}
 use Rattle.field_values.specs.declared.judged.Judged.the-variants.{Passes, Fails}
+use Rattle.ledger.specs.Records.{noParties}
 use Rattle.ledger.specs.Sound.{sound}
 use Rattle.ledger.specs.declared.records.Party.{Party}
 use Rattle.ledger.specs.declared.records.Ledger.{Ledger}
 use Rattle.stored.specs.Rows.{storedRows}
 use Rattle.stored.specs.Layout.{placed}
-use Rattle.stored.specs.Form.{letters, entriesIn, noParties, storedLedger}
+use Rattle.stored.specs.Form.{letters, entriesIn, storedLedger}
 use Rattle.stored.specs.declared.reading.ReadBack.{ReadBack}
 
 -- of two answers in turn, the first refusal

@@ -1,7 +1,7 @@
 -- "A written ledger reads back as itself, and an accepted stored ledger writes back as the same bytes."
 use Prim.Native.Nat.{ℕ, _+_, _-_, _≤_}
 use mathlib.Core.Path.{_≡_, refl, sym, ap, ap₂, _∙_}
-use mathlib.Core.List.{List, _∷_, _++_, map}
+use mathlib.Core.List.{List, _++_}
 use mathlib.Core.Bool.{true}
 use mathlib.Core.Logic.{⊎-elim}
 use mathlib.Mathlib.Data.Bool.Basic.{dichotomy}
@@ -9,11 +9,11 @@ use native.Mathlib.Omega.{arith}
 use lib.ListN.{length, getD, take, drop, replicate, length-drop, length-replicate, getD-replicate, take-append-drop}
 use lib.Seq.{length-take-le, take-take, getD-drop, ext-getD}
 use lib.Dec.{leb}
-use borrow.Author.Tests.{le-leb, leb-true, leb-false}
+use borrow.Author.Tests.{leb-true, leb-false}
 use Rattle.tagged.specs.BigEndian.{Bytes}
 use Rattle.tagged.specs.Find.{fieldStart, fieldValue}
 use Rattle.tagged.specs.File.{fieldsPart}
-use Rattle.tagged.specs.WalkFinds.{joined, closed}
+use Rattle.tagged.specs.WalkFinds.{joined}
 use Rattle.tagged.specs.declared.file.Refusal.{Refusal}
 use Rattle.tagged.specs.declared.file.Standing.{Standing}
 use Rattle.tagged.specs.declared.file.Standing.the-variants.{Stands, Refused}
@@ -21,17 +21,19 @@ use Rattle.field_values.specs.Judged.{judge, judgeLetters, sameBytes}
 use Rattle.field_values.specs.JudgedLaws.{same-bytes-refl}
 use Rattle.field_values.specs.declared.judged.Judged.the-variants.{Passes}
 use Rattle.ledger.specs.Records.{noScheme}
-use Rattle.ledger.specs.Sound.{countsSound, sound}
-use Rattle.ledger.specs.SoundFacts.{both-true, SoundLedger, sound-means}
+use Rattle.ledger.specs.Sound.{sound}
+use Rattle.ledger.specs.SoundFacts.{SoundLedger, sound-means}
+use Rattle.ledger.specs.SameEntries.{sound-in}
 use Rattle.ledger.specs.declared.records.Scheme.{Scheme}
 use Rattle.ledger.specs.declared.records.Party.{Party}
 use Rattle.ledger.specs.declared.records.Ledger.{Ledger}
 use Rattle.stored.specs.Layout.{recordValues, placed, headWidths, headValues, ledgerFrom}
 use Rattle.stored.specs.LayoutLaws.{values-of-record, length-placed, take-placed}
-use Rattle.stored.specs.Form.{letters, lettersPart, headPart, partyPart, schemeParts, partyParts, storedParts, storedForm, entriesIn, noSchemes, storedLedger}
+use Rattle.stored.specs.Form.{letters, storedParts, storedForm, entriesIn, noSchemes, storedLedger}
 use Rattle.stored.specs.FormStands.{Handed, fields-of-form, letters-of-form, head-of-form, form-stands, schemes-of-form, entries-of-form}
 use Rattle.stored.specs.Writing.{writtenAnswer, writeOf}
 use Rattle.stored.specs.WritingLaws.{write-refused-13, write-refused-14, write-done, output-done}
+use Rattle.stored.specs.SameForm.{same-form}
 use Rattle.stored.specs.Reading.{fieldsAnswer, readAnswer, tableBy, readOf}
 use Rattle.stored.specs.ReadingLaws.{sound-placed, read-done, read-lettered, read-standing}
 use Rattle.stored.specs.Accepted.{Accepted, accepted-means, form-of-accepted}
@@ -79,14 +81,6 @@ zeros-placed count schemes places few zeros =
     ap (λ n. take count schemes ++ drop n (replicate 64 noScheme)) size
     ∙ ap (λ l. take count schemes ++ l) (zeros-after 64 count schemes places zeros)
     ∙ take-append-drop count schemes
-
--- a ledger that is sound with a table is sound with any other that has its entries
-pub sound-in : (ledger : Ledger) (parties others : List Party) (room other : ℕ) → take (ledger .entries) others ≡ take (ledger .entries) parties →
-    ledger .entries ≤ other → sound ledger parties room ≡ true → sound ledger others other ≡ true
-unfolding sound
-sound-in ledger parties others room other same fits holds =
-    let facts = sound-means ledger parties room holds in
-    rw (same, le-leb _ _ (facts .schemes), le-leb _ _ (facts .entries), le-leb _ _ fits) (both-true (countsSound ledger room) _ holds .1)
 
 module _ (ledger : Ledger) (parties : List Party) (handed : Handed ledger parties) (holds : sound ledger parties (length parties) ≡ true) where
   facts : SoundLedger ledger parties (length parties)
@@ -188,13 +182,6 @@ write-of-read before table file out bytes stands fits =
     let done = write-done (end .ledger) (end .table) (length (end .table)) out (sound-read before table file bytes stands) room in
     let output = output-done (end .ledger) (end .table) (length (end .table)) out done ∙ ap (λ bytes. placed bytes out) form in
     λ i. record { answer = (done ∙ ap (λ bytes. Length (length bytes)) form) i; output = output i }
-
--- the form is of the ledger and its entries alone
-pub same-form : {ledger ledger′ : Ledger} (parties parties′ : List Party) → ledger ≡ ledger′ →
-    take (ledger .entries) parties ≡ take (ledger′ .entries) parties′ → storedForm ledger parties ≡ storedForm ledger′ parties′
-unfolding storedForm partyParts
-same-form parties parties′ ledgers entries =
-    ap₂ (λ ledger kept. closed (lettersPart ∷ headPart (headValues ledger) ∷ schemeParts ledger ++ map partyPart kept)) ledgers entries
 
 -- So no two files are the same ledger: accepted files that read as one ledger with the same entries, whatever ledgers and tables there were before,
 -- are the same bytes.

@@ -6,11 +6,11 @@ use native.Mathlib.Omega.{arith}
 use lib.ListN.{length, getD, length-map}
 use Rattle.tagged.specs.Walk.{FieldAt, FieldsWalk, lowestOf, highestOf}
 use Rattle.tagged.specs.Find.{fieldsOf, fieldsWith, fieldValue}
+use Rattle.tagged.specs.FieldsWith.{with-past, with-append, with-all, with-none, with-among}
 use Rattle.tagged.specs.WalkFacts.{OfRow, Stand-once, Stand-repeated, Stand-last, walk-stands, permitted-length}
 use Rattle.tagged.specs.WalkFinds.{walk-fieldsOf, walk-sized}
 use Rattle.stored.specs.Rows.{storedRows, stored-rows-rise}
 use Rattle.stored.specs.Form.{schemesIn, entriesIn}
-use Rattle.stored.specs.FieldsWith.{with-past, with-append, with-all, with-none, with-among}
 
 -- row k of the table
 abbrev pub rowAt : ℕ → List ℕ

@@ -12,9 +12,10 @@ ghost use mathlib.Core.Path.{_≡_};
 ghost use Prim.Native.Nat.{_≤_};
 ghost use lib.ListN.{length};
 ghost use Rattle.tagged.specs.Walk.{FieldsWalk};
+ghost use Rattle.ledger.specs.Records.{noParties};
 ghost use Rattle.stored.specs.Rows.{storedRows};
 ghost use Rattle.stored.specs.Layout.{placed};
-ghost use Rattle.stored.specs.Form.{schemeOf, partyOf, schemesIn, entriesIn, noSchemes, noParties, storedLedger};
+ghost use Rattle.stored.specs.Form.{schemeOf, partyOf, schemesIn, entriesIn, noSchemes, storedLedger};
 ghost use Rattle.stored.specs.Reading.{tableAnswer, fieldsAnswer, refusedRead, readBy, readBack};
 
 // A refused reading hands back the ledger that it was given, and no entries.
@@ -34,20 +35,6 @@ struct SchemesRead {
 struct EntriesRead {
     parties: [Party; 512],
     count: usize,
-}
-
-fn no_parties() -> [Party; 512]
-    ensures { λ r. ⌜ r ≡ noParties ⌝ }
-{
-    let none = Party {
-        scheme: 0,
-        person: 0,
-        capacity: 0,
-        put_in: 0,
-        credited: 0,
-        paid_out: 0,
-    };
-    [none; 512]
 }
 
 fn no_schemes() -> [Scheme; 64]
@@ -111,7 +98,7 @@ fn read_entries(fields: &[u8]) -> EntriesRead
     requires { ⌜ FieldsWalk storedRows (now fields) ⌝ }
     ensures { λ r. ⌜ (r .parties ≡ placed (entriesIn (now (fields .entry))) noParties) × (r .count ≡ length (entriesIn (now (fields .entry)))) × (r .count ≤ 512) ⌝ }
 {
-    let mut parties = no_parties();
+    let mut parties = ledger::records::no_parties();
     let mut count: usize = 0;
     let mut rest = fields;
     while 0 < rest.len() {
@@ -153,7 +140,7 @@ fn refused(ledger: Ledger, refusal: Refusal) -> ReadBack
     ReadBack {
         answer: Standing::Refused(refusal),
         ledger: ledger,
-        parties: no_parties(),
+        parties: ledger::records::no_parties(),
     }
 }
 

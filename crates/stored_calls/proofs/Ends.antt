@@ -2,19 +2,16 @@
 use Prim.Native.Nat.{ℕ, zero, suc, _≤_, min}
 use mathlib.Core.Path.{_≡_, refl, sym, ap, _∙_}
 use mathlib.Core.List.{List, [], _∷_}
-use mathlib.Core.Bool.{Bool, true, false, true≢false}
-use mathlib.Core.Logic.{⊎-elim}
-use mathlib.Mathlib.Data.Bool.Basic.{dichotomy}
 use native.Mathlib.Omega.{arith}
-use lib.ListN.{length, take, replicate, length-take, length-replicate}
+use lib.ListN.{length, take, length-take}
 use lib.Seq.{take-all, take-take}
 use Rattle.tagged.specs.File.{fieldsPart}
 use Rattle.tagged.specs.declared.file.Refusal.{Refusal}
 use Rattle.tagged.specs.declared.file.Standing.{Standing}
 use Rattle.tagged.specs.declared.file.Standing.the-variants.{Stands, Refused}
-use Rattle.ledger.specs.Records.{noParty, newLedger}
-use Rattle.ledger.specs.Sound.{sound}
-use Rattle.ledger.specs.SoundFacts.{sound-means}
+use Rattle.ledger.specs.Records.{noParties, newLedger}
+use Rattle.ledger.specs.TableLaws.{length-no-parties}
+use Rattle.ledger.specs.SameEntries.{SameEntries}
 use Rattle.acceptance.specs.Accept.{AfterAccept}
 use Rattle.ledger.specs.Entries.{AfterEntryCall}
 use Rattle.ledger.specs.declared.records.Party.{Party}
@@ -24,20 +21,16 @@ use Rattle.acceptance.specs.declared.accept.AcceptAnswer.the-variants.{Accepted
 use Rattle.ledger.specs.declared.entries.Answer.{Answer}
 use Rattle.ledger.specs.declared.entries.Answer.the-variants as Answer
 use Rattle.stored.specs.Layout.{placed}
-use Rattle.stored.specs.Form.{storedForm, entriesIn, noParties, storedLedger}
+use Rattle.stored.specs.Form.{entriesIn, storedLedger}
 use Rattle.stored.specs.Accepted.{accepted-means}
 use Rattle.stored.specs.Reading.{ReadEnd, readAnswer, readBy, readBack, tableBy}
-use Rattle.stored.specs.Writing.{WriteEnd, writtenAnswer, writtenOutput, writeOf}
-use Rattle.stored.specs.RoundTrips.{sound-in, same-form}
+use Rattle.stored.specs.Writing.{writeOf}
+use Rattle.stored.specs.SameForm.{writeAt, same-writing}
 use Rattle.stored.specs.declared.reading.ReadBack.{ReadBack}
 use Rattle.stored_calls.specs.StoredCalls.{CallEnd, storedRead, readEnd, acceptBy, acceptEnd, writtenEnd, entryCallBy, entryCallEnd}
 use Rattle.stored_calls.specs.StoredCallsFacts.{length-room}
 use Rattle.stored_calls.specs.declared.StoredAccept.the-variants as StoredAccept
 use Rattle.stored_calls.specs.declared.StoredAnswer.the-variants as StoredAnswer
-
--- what was written, by the table's length
-abbrev pub writeAt : Ledger → List Party → ℕ → List ℕ → WriteEnd
-writeAt ledger parties room out = record { answer = writtenAnswer ledger parties room out; output = writtenOutput ledger parties room out }
 
 -- what is placed within the first records of a list
 placed-within : {A : Type 0} (elements others : List A) (room : ℕ) → length elements ≤ room → length elements ≤ length others →
@@ -51,7 +44,7 @@ placed-within (x ∷ elements) (y ∷ others) (suc room) fits few =
 
 -- reading by value
 pub read-by-value : (file : List ℕ) (room : ℕ) → readEnd room (readBack newLedger (min room 512) file) ≡ storedRead file room
-unfolding storedRead noParties
+unfolding storedRead
 read-by-value file room =
     by-answer (readAnswer (min room 512) file) refl
     ∙ ap (λ records. tableBy (readAnswer records file) newLedger (take room noParties) (fieldsPart file)) (sym (length-room room))
@@ -62,50 +55,31 @@ read-by-value file room =
         let s = fieldsPart file in
         let fits = accepted-means (min room 512) file stands .fits in
         ap (λ table. record { answer = Stands; ledger = storedLedger s; table = table })
-        (placed-within (entriesIn s) noParties room (omega (arith, fits)) (omega (arith, fits, length-replicate 512 noParty)))
+        (placed-within (entriesIn s) noParties room (omega (arith, fits)) (omega (arith, fits, length-no-parties)))
     by-answer (Refused r) refused = refl
 
--- writing by value: the ledger and its entries are the same
+-- writing by value
 module _ (ledger : Ledger) (parties : List Party) (room : ℕ) where
   abbrev table : List Party
   table = take room parties
 
-  entries-kept : ledger .entries ≤ length table → take (ledger .entries) table ≡ take (ledger .entries) parties
-  entries-kept fits = take-take (ledger .entries) room parties (omega (arith, fits, length-take room parties))
-
-  sound-kept : (holds : Bool) → sound ledger table (length table) ≡ holds → sound ledger parties (length table) ≡ holds
-  sound-kept true holds =
-      let fits = sound-means ledger table (length table) holds .in-table in
-      sound-in ledger table parties (length table) (length table) (sym (entries-kept fits)) fits holds
-  sound-kept false unsound =
-      ⊎-elim (λ same. same)
-      (λ holds.
-      let fits = sound-means ledger parties (length table) holds .in-table in
-      absurd (true≢false (sym (sound-in ledger parties table (length table) (length table) (entries-kept fits) fits holds) ∙ unsound)))
-      (dichotomy (sound ledger parties (length table)))
-
-  written-kept : (out : List ℕ) → writeAt ledger parties (length table) out ≡ writeOf ledger table out
-  unfolding writtenAnswer
-  written-kept out = by-sound (sound ledger table (length table)) refl
-    where
-      by-sound : (holds : Bool) → sound ledger table (length table) ≡ holds → writeAt ledger parties (length table) out ≡ writeOf ledger table out
-      by-sound true holds =
-          let fits = sound-means ledger table (length table) holds .in-table in
-          let form : storedForm ledger parties ≡ storedForm ledger table = same-form parties table refl (sym (entries-kept fits)) in
-          rw (sound-kept true holds, holds, form)
-      by-sound false unsound = rw (sound-kept false unsound, unsound)
+  same-entries : SameEntries ledger parties table (length table) (length table)
+  same-entries =
+      record {
+        fit = refl;
+        entries = λ limit fits. sym (take-take (ledger .entries) room parties (omega (arith, fits, length-take room parties)));
+      }
 
   pub write-by-value : (out : List ℕ) → length parties ≡ 512 → writeAt ledger parties (min room 512) out ≡ writeOf ledger table out
   write-by-value out places =
-      ap (λ records. writeAt ledger parties records out) (ap (min room) (sym places) ∙ sym (length-take room parties)) ∙ written-kept out
+      ap (λ records. writeAt ledger parties records out) (ap (min room) (sym places) ∙ sym (length-take room parties)) ∙ same-writing same-entries out
 
 -- a new ledger and no entries
-pub new-written : {ledger : Ledger} {none : Party} (out : List ℕ) → ledger ≡ newLedger → none ≡ noParty →
-    writeOf ledger (take 512 (replicate 512 none)) out ≡ writeOf newLedger noParties out
-unfolding noParties
+pub new-written : {ledger : Ledger} {parties : List Party} (out : List ℕ) → ledger ≡ newLedger → parties ≡ noParties →
+    writeOf ledger (take 512 parties) out ≡ writeOf newLedger noParties out
 new-written out fresh nothing =
-    (λ i. writeOf (fresh i) (take 512 (replicate 512 (nothing i))) out)
-    ∙ ap (λ table. writeOf newLedger table out) (take-all 512 noParties (omega (arith, length-replicate 512 noParty)))
+    (λ i. writeOf (fresh i) (take 512 (nothing i)) out)
+    ∙ ap (λ table. writeOf newLedger table out) (take-all 512 noParties (omega (arith, length-no-parties)))
 
 -- ---- the ends, by the answers on the way
 

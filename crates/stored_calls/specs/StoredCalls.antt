@@ -7,7 +7,7 @@ use Rattle.tagged.specs.declared.file.Refusal.{Refusal}
 use Rattle.tagged.specs.declared.file.Standing.{Standing}
 use Rattle.tagged.specs.declared.file.Standing.the-variants as Standing
 use Rattle.charge.specs.Price.{priceOf}
-use Rattle.ledger.specs.Records.{newLedger}
+use Rattle.ledger.specs.Records.{noParties, newLedger}
 use Rattle.acceptance.specs.Accept.{AfterAccept, acceptOf}
 use Rattle.ledger.specs.Entries.{AfterEntryCall, payOutOf, handOverOf}
 use Rattle.ledger.specs.declared.records.Party.{Party}
@@ -17,7 +17,6 @@ use Rattle.acceptance.specs.declared.accept.AcceptAnswer.{AcceptAnswer}
 use Rattle.acceptance.specs.declared.accept.AcceptAnswer.the-variants as AcceptAnswer
 use Rattle.ledger.specs.declared.entries.Answer.{Answer}
 use Rattle.ledger.specs.declared.entries.Answer.the-variants as Answer
-use Rattle.stored.specs.Form.{noParties}
 use Rattle.stored.specs.Reading.{ReadEnd, readOf}
 use Rattle.stored.specs.Writing.{WriteEnd, writeOf}
 use Rattle.stored.specs.declared.reading.ReadBack.{ReadBack}

@@ -3,11 +3,12 @@ use Prim.Native.Nat.{ℕ, min}
 use mathlib.Core.Path.{_≡_, refl, ap, _∙_}
 use mathlib.Core.List.{List}
 use mathlib.Core.Bool.{Bool, true, false, true≢false}
-use lib.ListN.{length, take, length-take, length-replicate}
+use lib.ListN.{length, take, length-take}
 use Rattle.tagged.specs.declared.file.Standing.{Standing}
 use Rattle.tagged.specs.declared.file.Standing.the-variants as Standing
 use Rattle.charge.specs.Price.{priceOf}
-use Rattle.ledger.specs.Records.{noParty, newLedger}
+use Rattle.ledger.specs.Records.{noParties, newLedger}
+use Rattle.ledger.specs.TableLaws.{length-no-parties}
 use Rattle.acceptance.specs.Accept.{AfterAccept, acceptOf}
 use Rattle.ledger.specs.Entries.{AfterEntryCall, payOutOf, handOverOf}
 use Rattle.ledger.specs.declared.records.Party.{Party}
@@ -17,7 +18,7 @@ use Rattle.acceptance.specs.declared.accept.AcceptAnswer.{AcceptAnswer}
 use Rattle.acceptance.specs.declared.accept.AcceptAnswer.the-variants as AcceptAnswer
 use Rattle.ledger.specs.declared.entries.Answer.{Answer}
 use Rattle.ledger.specs.declared.entries.Answer.the-variants as Answer
-use Rattle.stored.specs.Form.{storedForm, noParties}
+use Rattle.stored.specs.Form.{storedForm}
 use Rattle.stored.specs.Writing.{writtenAnswer, outputBy, writeOf}
 use Rattle.stored.specs.declared.writing.Written.{Written}
 use Rattle.stored.specs.declared.writing.Written.the-variants as Written
@@ -41,8 +42,7 @@ isDone (StoredAnswer.Done size) = true
 -- ---- the table has as many records as there is room for, and 512 at most
 
 pub length-room : (room : ℕ) → length (take room noParties) ≡ min room 512
-unfolding noParties
-length-room room = length-take room noParties ∙ ap (min room) (length-replicate 512 noParty)
+length-room room = length-take room noParties ∙ ap (min room) length-no-parties
 
 pub table-length : (file : List ℕ) (room : ℕ) → length (storedRead file room .table) ≡ min room 512
 unfolding storedRead

@@ -11,7 +11,7 @@ use Rattle.tagged.specs.declared.file.Standing.{Standing}
 use Rattle.tagged.specs.declared.file.Standing.the-variants as Standing
 use Rattle.charge.specs.Price.{priceOf}
 use Rattle.charge.specs.PriceRefusals.{pricing-refusal-numbers}
-use Rattle.ledger.specs.Records.{newLedger}
+use Rattle.ledger.specs.Records.{noParties, newLedger}
 use Rattle.ledger.specs.SoundFacts.{new-ledger-sound}
 use Rattle.ledger.specs.RefusalNumbers.{oneOf, Among, oneTo, one-of-more, within-one-to}
 use Rattle.ledger.specs.Entries.{AfterEntryCall, payOutOf, handOverOf}
@@ -26,7 +26,6 @@ use Rattle.acceptance.specs.AcceptFacts.{AcceptRefuses}
 use Rattle.acceptance.specs.declared.accept.Acceptance.{Acceptance}
 use Rattle.acceptance.specs.declared.accept.AcceptAnswer.{AcceptAnswer}
 use Rattle.acceptance.specs.declared.accept.AcceptAnswer.the-variants as AcceptAnswer
-use Rattle.stored.specs.Form.{noParties}
 use Rattle.stored.specs.ReadingLaws.{readingNumbers, ReadRefuses, read-refusal-numbers}
 use Rattle.stored.specs.Writing.{writeOf}
 use Rattle.stored.specs.WritingLaws.{writingNumbers, WriteRefuses, write-refusal-numbers}

@@ -8,7 +8,7 @@ use lib.ListN.{length, take}
 use Rattle.tagged.specs.declared.file.Standing.{Standing}
 use Rattle.tagged.specs.declared.file.Standing.the-variants as Standing
 use Rattle.charge.specs.Price.{priceOf}
-use Rattle.ledger.specs.Records.{newLedger}
+use Rattle.ledger.specs.Records.{noParties, newLedger}
 use Rattle.ledger.specs.SoundFacts.{sound-means}
 use Rattle.acceptance.specs.Accept.{AfterAccept, acceptOf}
 use Rattle.acceptance.specs.AcceptKeepsSound.{accept-keeps-lengths}
@@ -21,7 +21,6 @@ use Rattle.acceptance.specs.declared.accept.AcceptAnswer.the-variants as Accept
 use Rattle.ledger.specs.declared.entries.Answer.{Answer}
 use Rattle.ledger.specs.declared.entries.Answer.the-variants as Answer
 use Rattle.stored.specs.Layout.{placed}
-use Rattle.stored.specs.Form.{noParties}
 use Rattle.stored.specs.FormStands.{Handed}
 use Rattle.stored.specs.Reading.{ReadEnd}
 use Rattle.stored.specs.Writing.{writeOf}

@@ -18,9 +18,10 @@ use Rattle.tagged.specs.declared.file.Standing.the-variants as Standing
 use Rattle.field_values.specs.Judged.{judgeLetters}
 use Rattle.charge.specs.Price.{priceOf}
 use Rattle.charge.specs.declared.Bill.{Bill}
-use Rattle.ledger.specs.Records.{noScheme, newLedger}
+use Rattle.ledger.specs.Records.{noScheme, noParties, newLedger}
 use Rattle.ledger.specs.Sound.{sound}
 use Rattle.ledger.specs.SoundFacts.{sound-means}
+use Rattle.ledger.specs.SameEntries.{sound-in}
 use Rattle.acceptance.specs.Accept.{AfterAccept, acceptOf}
 use Rattle.acceptance.specs.AcceptFacts.{NoEntryLeft, MustOpen, MustJoin, Answers, opening-refused-9, joining-refused-9, refusedBy, answers-only}
 use Rattle.acceptance.specs.AcceptKeepsSound.{pricing-within, accept-keeps-sound, accept-keeps-lengths}
@@ -36,14 +37,14 @@ use Rattle.ledger.specs.declared.entries.Answer.the-variants as Answer
 use Rattle.ledger.specs.declared.entries.EntryChange.{EntryChange}
 use Rattle.stored.specs.LayoutLaws.{length-placed}
 use Rattle.stored.specs.Rows.{storedRows}
-use Rattle.stored.specs.Form.{letters, storedForm, schemesIn, entriesIn, noSchemes, noParties, storedLedger}
+use Rattle.stored.specs.Form.{letters, storedForm, schemesIn, entriesIn, noSchemes, storedLedger}
 use Rattle.stored.specs.StoredFields.{few-schemes}
 use Rattle.stored.specs.Accepted.{in-turn-stands, accepted-means}
 use Rattle.stored.specs.Reading.{inTurn, lettersAnswer, tableAnswer, readAnswer, tableBy}
 use Rattle.stored.specs.ReadingLaws.{read-refused-9, read-done}
 use Rattle.stored.specs.Writing.{writeOf}
 use Rattle.stored.specs.WritingLaws.{write-refused-14, write-done}
-use Rattle.stored.specs.RoundTrips.{sound-in, answer-of-table}
+use Rattle.stored.specs.RoundTrips.{answer-of-table}
 use Rattle.stored.specs.declared.writing.Written.{Written}
 use Rattle.stored.specs.declared.writing.Written.the-variants as Written
 use Rattle.pioneer.proofs.Readings.{entries-count}

@@ -13,7 +13,7 @@ use Rattle.reconciliation.specs.Reconciliation.{reconciliationOf}
 use Rattle.charge.specs.Price.{priceOf}
 use Rattle.charge.specs.declared.Bill.{Bill}
 use Rattle.charge.specs.declared.Pricing.the-variants.{Priced}
-use Rattle.ledger.specs.Records.{newLedger}
+use Rattle.ledger.specs.Records.{noParties, newLedger}
 use Rattle.ledger.specs.Columns.{sumOver, firstPutIn}
 use Rattle.ledger.specs.Sound.{partiesSound, schemesSound, allZero, sound}
 use Rattle.ledger.specs.Table.{creditEach}
@@ -24,7 +24,7 @@ use Rattle.acceptance.specs.Accept.{acceptOf}
 use Rattle.acceptance.specs.declared.accept.SchemeAnswer.{SchemeAnswer}
 use Rattle.acceptance.specs.declared.accept.SchemeAnswer.the-variants.{Opened, Joined}
 use Rattle.stored.specs.Layout.{recordBytes, valuesAt, placed}
-use Rattle.stored.specs.Form.{schemeParts, partyParts, storedForm, schemesIn, entriesIn, noSchemes, noParties, storedLedger}
+use Rattle.stored.specs.Form.{schemeParts, partyParts, storedForm, schemesIn, entriesIn, noSchemes, storedLedger}
 use Rattle.stored.specs.Writing.{writtenAnswer}
 use Rattle.stored.specs.Reading.{tableAnswer, readAnswer}
 use Rattle.stored.specs.StoredRows.{newForm, oneForm, joinedForm, joinedScheme}

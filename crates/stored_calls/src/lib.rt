@@ -225,8 +225,7 @@ pub fn new_stored(out: &mut [u8]) -> StoredAnswer
     ensures { λ r. ⌜ r ≡ newStoredOf (now (out .entry)) .answer ⌝ }
     ensures { λ _. ⌜ now (out .exit) ≡ newStoredOf (now (out .entry)) .output ⌝ }
 {
-    let none = ledger::records::no_party();
-    let parties = [none; 512];
+    let parties = ledger::records::no_parties();
     let written = write_stored(ledger::records::new_ledger(), parties, 512, out);
     written_call(written)
 }

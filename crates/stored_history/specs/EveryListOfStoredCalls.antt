@@ -9,7 +9,7 @@ use lib.Seq.{length-take-le, getD-drop, ext-getD}
 use Rattle.tagged.specs.declared.file.Refusal.{Refusal}
 use Rattle.tagged.specs.declared.file.Standing.the-variants as Standing
 use Rattle.charge.specs.Price.{priceOf}
-use Rattle.ledger.specs.Records.{noParty, newLedger}
+use Rattle.ledger.specs.Records.{noParty, noParties, newLedger}
 use Rattle.ledger.specs.Sound.{sound}
 use Rattle.ledger.specs.SoundFacts.{sound-means, new-ledger-sound}
 use Rattle.ledger.specs.Entries.{AfterEntryCall, payOutOf, handOverOf}
@@ -26,12 +26,13 @@ use Rattle.acceptance.specs.declared.accept.AcceptAnswer.{AcceptAnswer}
 use Rattle.acceptance.specs.declared.accept.AcceptAnswer.the-variants as AcceptAnswer
 use Rattle.stored.specs.Layout.{placed}
 use Rattle.stored.specs.LayoutLaws.{take-placed}
-use Rattle.stored.specs.Form.{storedForm, formLength, noParties}
+use Rattle.stored.specs.Form.{storedForm, formLength}
 use Rattle.stored.specs.FormLaws.{length-form}
 use Rattle.stored.specs.FormStands.{Handed}
 use Rattle.stored.specs.Writing.{writeOf}
 use Rattle.stored.specs.WritingLaws.{write-done, output-done}
-use Rattle.stored.specs.RoundTrips.{read-of-form, same-form}
+use Rattle.stored.specs.SameForm.{same-form}
+use Rattle.stored.specs.RoundTrips.{read-of-form}
 use Rattle.stored.specs.declared.writing.Written.the-variants as Written
 use Rattle.stored_calls.specs.StoredCalls.{storedRead, acceptBy, acceptOnRead, entryCallBy, writtenCall, entryCallOnRead, newStoredOf}
 use Rattle.stored_calls.specs.declared.StoredAnswer.the-variants as StoredAnswer

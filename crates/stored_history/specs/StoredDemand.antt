@@ -3,10 +3,10 @@ use Prim.Native.Nat.{ℕ, _≤_}
 use mathlib.Core.Path.{_≡_}
 use mathlib.Core.List.{List, [], _∷_}
 use lib.ListN.{length, take}
-use Rattle.ledger.specs.Records.{newLedger}
+use Rattle.ledger.specs.Records.{noParties, newLedger}
 use Rattle.acceptance.specs.declared.accept.AcceptAnswer.the-variants as AcceptAnswer
 use Rattle.ledger.specs.declared.entries.Answer.the-variants as Answer
-use Rattle.stored.specs.Form.{storedForm, formLength, noParties}
+use Rattle.stored.specs.Form.{storedForm, formLength}
 use Rattle.stored_calls.specs.StoredCalls.{CallEnd, acceptStoredOf, payOutStoredOf, handOverStoredOf}
 use Rattle.stored_calls.specs.declared.StoredAccept.{StoredAccept}
 use Rattle.stored_calls.specs.declared.StoredAccept.the-variants as StoredAccept

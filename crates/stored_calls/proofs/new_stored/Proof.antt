@@ -5,8 +5,8 @@ use Rattle.stored_calls.proofs.Ends.{new-written}
 use Rattle.stored_calls.proofs.new_stored.Statement.{statement}
 use Rattle.stored_calls.proofs.new_stored.Tie as tie
 
-no-party-requires : tie.Need-no-party-requires
-no-party-requires c κs = search needs
+no-parties-requires : tie.Need-no-parties-requires
+no-parties-requires c κs = search needs
 
 new-ledger-requires : tie.Need-new-ledger-requires
 new-ledger-requires c κs = search needs
@@ -25,7 +25,7 @@ returns c =
     let written = c .before .before .before in
     let fresh = written .before .before in
     let out = fresh .before .before .before .args .out .now in
-    let same = new-written out (fresh .new-ledger .ensures) (fresh .before .no-party .ensures) in (
+    let same = new-written out (fresh .new-ledger .ensures) (fresh .before .no-parties .ensures) in (
       c .written-call .ensures ∙ ap writtenCall (written .write-stored .ensures .0 ∙ ap (λ e. e .answer) same),
       written .write-stored .ensures .1 ∙ ap (λ e. e .output) same,
     )
@@ -34,7 +34,7 @@ pub new-stored-spec : {M : Type 1} → statement M
 new-stored-spec =
     tie.close
     (tie.spec
-    no-party-requires
+    no-parties-requires
     new-ledger-requires
     write-stored-requires
     written-call-requires

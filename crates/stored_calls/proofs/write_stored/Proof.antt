@@ -1,6 +1,7 @@
 use mathlib.Core.Path.{ap, _∙_}
 use borrow.Author.Needs.{needs}
-use Rattle.stored_calls.proofs.Ends.{writeAt, write-by-value}
+use Rattle.stored.specs.SameForm.{writeAt}
+use Rattle.stored_calls.proofs.Ends.{write-by-value}
 use Rattle.stored_calls.proofs.write_stored.Statement.{statement}
 use Rattle.stored_calls.proofs.write_stored.Tie as tie
 

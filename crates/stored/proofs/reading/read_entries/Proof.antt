@@ -3,13 +3,14 @@ use mathlib.Core.Path.{_≡_, ap}
 use mathlib.Core.Logic.{⊎-elim}
 use mathlib.Core.List.{List}
 use native.Mathlib.Omega.{arith}
-use lib.ListN.{length, length-replicate}
+use lib.ListN.{length}
 use borrow.Author.Needs.{needs}
 use Rattle.tagged.specs.Walk.{FieldsWalk}
 use Rattle.tagged.specs.Find.{fieldsOf, valuePlace, partOf}
-use Rattle.ledger.specs.Records.{noParty}
+use Rattle.ledger.specs.Records.{noParties}
+use Rattle.ledger.specs.TableLaws.{length-no-parties}
 use Rattle.stored.specs.Rows.{storedRows}
-use Rattle.stored.specs.Form.{partyOf, eachWith, entriesIn, noParties}
+use Rattle.stored.specs.Form.{partyOf, eachWith, entriesIn}
 use Rattle.stored.specs.StoredFields.{party-sized, few-entries}
 use Rattle.stored.proofs.Collecting.{Collected, collect-starts, collect-ends, collect-shorter, collect-passes, collect-sized, collect-room, collect-one-more}
 use Rattle.stored.proofs.reading.read_entries.Statement.{statement}
@@ -23,8 +24,8 @@ abbrev μ-loop : tie.MeasureT-loop
 
 -- there are places for all of them
 places : (s : List ℕ) → FieldsWalk storedRows s → length (eachWith partyOf 4 s (fieldsOf s)) ≤ length noParties
-unfolding entriesIn noParties
-places s walks = omega (arith, few-entries s walks, length-replicate 512 noParty)
+unfolding entriesIn
+places s walks = omega (arith, few-entries s walks, length-no-parties)
 
 -- the rest starts with one of them: its value's length, and its place
 sized : (c : tie.Then1 Inv-loop μ-loop) → let rest = c .before .before .before .loop .rest .now in length (partOf (valuePlace rest) rest) ≡ 30

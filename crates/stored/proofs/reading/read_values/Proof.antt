@@ -5,8 +5,9 @@ use lib.ListN.{length}
 use borrow.Author.Tests.{not-true, not-false}
 use borrow.Author.Needs.{needs}
 use Rattle.tagged.specs.declared.file.Standing.the-variants.{Stands}
+use Rattle.ledger.specs.Records.{noParties}
 use Rattle.ledger.specs.Sound.{sound}
-use Rattle.stored.specs.Form.{entriesIn, noParties, storedLedger}
+use Rattle.stored.specs.Form.{entriesIn, storedLedger}
 use Rattle.stored.specs.Reading.{readBy}
 use Rattle.stored.specs.ReadingLaws.{sound-placed, read-refused-9, read-refused-13, read-done}
 use Rattle.stored.proofs.reading.read_values.Statement.{statement}
