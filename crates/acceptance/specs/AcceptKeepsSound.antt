@@ -9,7 +9,7 @@ use lib.ListN.{length, take, getD, set, length-take, length-set, length-map}
 use lib.Seq.{getD-set-same, getD-set-other}
 use lib.Dec.{eqb}
 use borrow.Author.Tests.{eqb-true, eqb-false}
-use Rattle.tagged.specs.BigEndian.{Bytes}
+use Rattle.numbers.specs.BigEndian.{Bytes}
 use Rattle.tagged.specs.File.{refusal}
 use Rattle.charge.specs.Price.{priceOf}
 use Rattle.charge.specs.PriceFacts.{BillWithin, priced-within}

@@ -5,7 +5,7 @@ use mathlib.Core.List.{List}
 use mathlib.Core.Bool.{Bool, true, false}
 use mathlib.Core.Logic.{⊎-elim}
 use lib.ListN.{length, getD, set}
-use Rattle.tagged.specs.BigEndian.{Bytes}
+use Rattle.numbers.specs.BigEndian.{Bytes}
 use Rattle.tagged.specs.File.{refusal}
 use Rattle.tagged.specs.declared.file.Refusal.{Refusal}
 use Rattle.charge.specs.Price.{priceOf}

@@ -5,8 +5,8 @@ use mathlib.Core.Bool.{true, false}
 use mathlib.Core.List.{List, [], _∷_, _++_, flatMap}
 use lib.ListN.{replicate}
 use lib.IntN.{ℤ, pos, negsuc}
-use Rattle.tagged.specs.BigEndian.{number, bytesOf}
-use Rattle.tagged.specs.Check.{check, checkFrom}
+use Rattle.numbers.specs.BigEndian.{number, bytesOf}
+use Rattle.numbers.specs.Check.{check, checkFrom}
 use Rattle.tagged.specs.Walk.{dueFrom, allHad, frontOf, walkFrom}
 use Rattle.tagged.specs.Find.{fieldsFrom, firstWith, fieldsWith}
 use Rattle.tagged.specs.File.{refusal}

@@ -11,7 +11,7 @@ use lib.ListN.{length, getD, drop, length-take, length-drop, drop-of-length-le}
 use lib.Seq.{drop-cons, drop-drop}
 use lib.Dec.{ltb, eqb}
 use borrow.Author.Tests.{eqb-true}
-use Rattle.tagged.specs.BigEndian.{numberAt}
+use Rattle.numbers.specs.BigEndian.{numberAt}
 use Rattle.tagged.specs.Find.{partOf, startOf, PlaceWithin}
 use Rattle.tagged.specs.declared.find.Place.{Place}
 use Rattle.tagged.specs.declared.find.Place.the-variants.{At, Nowhere}

@@ -4,7 +4,7 @@ use mathlib.Core.List.{List, [], _∷_}
 use mathlib.Core.Bool.{cond}
 use lib.ListN.{length, replicate}
 use lib.Dec.{leb}
-use Rattle.tagged.specs.BigEndian.{numberAt}
+use Rattle.numbers.specs.BigEndian.{numberAt}
 use Rattle.tagged.specs.Find.{fieldValue}
 use Rattle.field_values.specs.Judged.{judgeField}
 use Rattle.field_values.specs.declared.factors.Factors.{Factors}

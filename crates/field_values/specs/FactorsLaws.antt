@@ -6,7 +6,7 @@ use native.Mathlib.Omega.{arith}
 use lib.ListN.{length, getD}
 use lib.Dec.{leb}
 use borrow.Author.Tests.{leb-true}
-use Rattle.tagged.specs.BigEndian.{numberAt}
+use Rattle.numbers.specs.BigEndian.{numberAt}
 use Rattle.tagged.specs.Find.{fieldStart, fieldValue}
 use Rattle.tagged.specs.WalkFacts.{by-test}
 use Rattle.field_values.specs.Judged.{judgeNumbers}

@@ -9,7 +9,7 @@ use lib.ListN.{length, getD, drop, replicate, length-drop, getD-replicate}
 use lib.Seq.{drop-drop}
 use lib.Dec.{ltb, eqb}
 use borrow.Author.Tests.{ltb-false, leb-true, le-ltb, eqb-true, eq-eqb}
-use Rattle.tagged.specs.BigEndian.{number, numberAt}
+use Rattle.numbers.specs.BigEndian.{number, numberAt}
 use Rattle.tagged.specs.File.{refusal, standing}
 use Rattle.tagged.specs.FileLaws.{RefusesTo, standing-refusal-numbers}
 use Rattle.tagged.specs.WalkFacts.{by-test}

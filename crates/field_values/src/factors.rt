@@ -34,7 +34,7 @@ fn factor_at(value: &[u8], at: usize) -> u16
         return 0;
     }
     if at <= value.len() - 2 {
-        return tagged::big_endian::read_u16(value, at);
+        return numbers::big_endian::read_u16(value, at);
     }
     0
 }

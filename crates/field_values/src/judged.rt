@@ -4,7 +4,7 @@ ghost use mathlib.Core.Bool.{true};
 ghost use mathlib.Core.Logic.{_⊎_};
 ghost use Prim.Native.Nat.{_+_, _<_, _≤_, _^_};
 ghost use lib.ListN.{length};
-ghost use Rattle.tagged.specs.BigEndian.{numberAt};
+ghost use Rattle.numbers.specs.BigEndian.{numberAt};
 ghost use Rattle.field_values.specs.Judged.{judge, inOrder, judgeNumbers, judgeField, judgeLetters, sameBytes, narrow};
 
 pub enum Judged {
@@ -40,12 +40,12 @@ fn read_number(s: &[u8], at: usize, width: usize) -> u32
     ensures { λ r. ⌜ r ≡ numberAt (now (s .entry)) at width ⌝ }
 {
     if width == 1 {
-        return tagged::big_endian::read_u8(s, at) as u32;
+        return numbers::big_endian::read_u8(s, at) as u32;
     }
     if width == 2 {
-        return tagged::big_endian::read_u16(s, at) as u32;
+        return numbers::big_endian::read_u16(s, at) as u32;
     }
-    tagged::big_endian::read_u32(s, at)
+    numbers::big_endian::read_u32(s, at)
 }
 
 fn wide(x: u32) -> usize

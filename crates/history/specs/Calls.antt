@@ -2,7 +2,7 @@
 use Prim.Native.Nat.{ℕ, _^_, _<_}
 use mathlib.Core.Path.{_≡_}
 use mathlib.Core.List.{List, [], _∷_}
-use Rattle.tagged.specs.BigEndian.{Bytes}
+use Rattle.numbers.specs.BigEndian.{Bytes}
 use Rattle.acceptance.specs.Promises.{Accepts, PaysOut, HandsOver}
 use Rattle.ledger.specs.declared.records.Party.{Party}
 use Rattle.ledger.specs.declared.records.Ledger.{Ledger}

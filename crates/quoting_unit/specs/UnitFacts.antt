@@ -5,7 +5,7 @@ use mathlib.Core.List.{List}
 use Prim.Native.Nat.{ℕ}
 use native.Mathlib.Omega.{arith}
 use lib.ListN.{length}
-use Rattle.tagged.specs.BigEndian.{Bytes}
+use Rattle.numbers.specs.BigEndian.{Bytes}
 use Rattle.tagged.specs.File.{refusal}
 use Rattle.tagged.specs.declared.file.Standing.{Standing}
 use Rattle.tagged.specs.declared.file.Standing.the-variants as Standing

@@ -3,7 +3,7 @@ use Prim.Native.Nat.{ℕ, _+_}
 use mathlib.Core.List.{List, [], _∷_}
 use lib.ListN.{length, replicate}
 use lib.Dec.{ltb, leb}
-use Rattle.tagged.specs.BigEndian.{numberAt}
+use Rattle.numbers.specs.BigEndian.{numberAt}
 use Rattle.tagged.specs.Find.{fieldStart, fieldValue}
 use Rattle.tagged.specs.File.{standing, fieldsPart, refusal}
 use Rattle.tagged.specs.declared.file.Refusal.{Refusal}

@@ -5,7 +5,7 @@ use mathlib.Core.Logic.{_⊎_, inl, inr, ⊎-elim}
 use mathlib.Core.List.{List}
 use native.Mathlib.Omega.{arith}
 use lib.ListN.{length, getD, set}
-use Rattle.tagged.specs.BigEndian.{Bytes}
+use Rattle.numbers.specs.BigEndian.{Bytes}
 use Rattle.tagged.specs.Walk.{FieldsWalk}
 use Rattle.tagged.specs.File.{standing, fieldsPart, refusal}
 use Rattle.tagged.specs.FileLaws.{stands-means, RefusesTo}

@@ -5,8 +5,8 @@ use mathlib.Core.List.{List, map}
 use native.Mathlib.Omega.{arith}
 use lib.ListN.{length, getD}
 use borrow.Author.Tests.{ltb-true, leb-true}
-use Rattle.tagged.specs.BigEndian.{Bytes, numberAt}
-use Rattle.tagged.specs.BigEndianLaws.{Bytes-take, numberAt-below}
+use Rattle.numbers.specs.BigEndian.{Bytes, numberAt}
+use Rattle.numbers.specs.BigEndianLaws.{Bytes-take, numberAt-below}
 use Rattle.tagged.specs.Walk.{FieldsWalk}
 use Rattle.tagged.specs.Find.{firstPlace, fieldValue, fieldStart}
 use Rattle.tagged.specs.WalkFinds.{Bytes-part}

@@ -5,7 +5,7 @@ use mathlib.Core.List.{List, [], _∷_, _++_, map}
 use mathlib.Core.Bool.{cond}
 use lib.ListN.{getD, take, replicate}
 use lib.Dec.{ltb, leb}
-use Rattle.tagged.specs.BigEndian.{numberAt}
+use Rattle.numbers.specs.BigEndian.{numberAt}
 use Rattle.tagged.specs.Find.{fieldsOf, fieldsWith}
 use Rattle.field_values.specs.Judged.{judge, inOrder, firstFailure}
 use Rattle.field_values.specs.declared.judged.Judged.{Judged}

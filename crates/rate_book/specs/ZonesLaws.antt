@@ -8,7 +8,7 @@ use lib.ListN.{length, getD, take, replicate, length-append, length-take, length
 use lib.Seq.{take-append-seam, take-take, getD-take, getD-append-add}
 use lib.Dec.{leb}
 use borrow.Author.Tests.{lt-ltb, le-ltb}
-use Rattle.tagged.specs.BigEndian.{numberAt}
+use Rattle.numbers.specs.BigEndian.{numberAt}
 use Rattle.tagged.specs.Find.{fieldStart}
 use Rattle.field_values.specs.Judged.{judge, inOrder}
 use Rattle.field_values.specs.JudgedLaws.{in-order-end}

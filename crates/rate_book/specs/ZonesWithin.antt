@@ -9,7 +9,7 @@ use native.Mathlib.Omega.{arith}
 use lib.ListN.{length, getD, replicate}
 use lib.Dec.{ltb, leb}
 use borrow.Author.Tests.{ltb-true, ltb-false, leb-true}
-use Rattle.tagged.specs.BigEndian.{numberAt}
+use Rattle.numbers.specs.BigEndian.{numberAt}
 use Rattle.field_values.specs.Judged.{judge}
 use Rattle.field_values.specs.JudgedLaws.{judge-passes, first-failure-passes}
 use Rattle.field_values.specs.declared.judged.Judged.the-variants.{Passes}

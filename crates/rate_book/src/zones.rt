@@ -31,11 +31,11 @@ fn rate_row(fields: &[u8], start: usize) -> [u32; 5]
     ensures { λ r. ⌜ r ≡ rateRow (now (fields .entry)) start ⌝ }
 {
     [
-        tagged::big_endian::read_u32(fields, start + 1),
-        tagged::big_endian::read_u32(fields, start + 5),
-        tagged::big_endian::read_u32(fields, start + 9),
-        tagged::big_endian::read_u32(fields, start + 13),
-        tagged::big_endian::read_u32(fields, start + 17),
+        numbers::big_endian::read_u32(fields, start + 1),
+        numbers::big_endian::read_u32(fields, start + 5),
+        numbers::big_endian::read_u32(fields, start + 9),
+        numbers::big_endian::read_u32(fields, start + 13),
+        numbers::big_endian::read_u32(fields, start + 17),
     ]
 }
 
@@ -65,7 +65,7 @@ pub fn zone_numbers(fields: &[u8]) -> [u16; 8]
     let mut numbers = [0u16; 8];
     let mut zone: usize = 0;
     while zone < count {
-        numbers[zone] = tagged::big_endian::read_u8(fields, first + 24 * zone) as u16;
+        numbers[zone] = numbers::big_endian::read_u8(fields, first + 24 * zone) as u16;
         zone += 1;
     }
     numbers

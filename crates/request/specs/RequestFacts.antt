@@ -5,7 +5,7 @@ use mathlib.Core.List.{List}
 use mathlib.Core.Logic.{_⊎_, inl, inr, ⊎-elim}
 use native.Mathlib.Omega.{arith}
 use lib.ListN.{length, getD, set}
-use Rattle.tagged.specs.BigEndian.{Bytes}
+use Rattle.numbers.specs.BigEndian.{Bytes}
 use Rattle.tagged.specs.File.{refusal, standing, fieldsPart}
 use Rattle.tagged.specs.FileLaws.{RefusesTo}
 use Rattle.tagged.specs.AlteredByte.{altered-file-refused}

@@ -5,8 +5,8 @@ use mathlib.Core.List.{List, [], _∷_}
 use native.Mathlib.Omega.{arith}
 use lib.ListN.{length, getD}
 use lib.Dec.{T, leb, lit≤}
-use Rattle.tagged.specs.BigEndian.{Bytes}
-use Rattle.tagged.specs.BigEndianLaws.{Bytes-take, numberAt-below}
+use Rattle.numbers.specs.BigEndian.{Bytes}
+use Rattle.numbers.specs.BigEndianLaws.{Bytes-take, numberAt-below}
 use Rattle.tagged.specs.Find.{fieldStart, fieldValue, firstPlace}
 use Rattle.tagged.specs.WalkFinds.{Bytes-part}
 use Rattle.tagged.specs.File.{fieldsPart}

@@ -8,9 +8,9 @@ use native.Mathlib.Omega.{arith}
 use lib.ListN.{length, getD, take}
 use lib.Seq.{take-suc, length-take-le}
 use Rattle.ledger.specs.Columns.{sumOf}
-use Rattle.tagged.specs.BigEndian.{bytesOf, written}
-use Rattle.tagged.specs.BigEndianLaws.{length-bytesOf, length-written, take-written, written-written}
-use Rattle.tagged.specs.Check.{check}
+use Rattle.numbers.specs.BigEndian.{bytesOf, written}
+use Rattle.numbers.specs.BigEndianLaws.{length-bytesOf, length-written, take-written, written-written}
+use Rattle.numbers.specs.Check.{check}
 use Rattle.tagged.specs.WalkFinds.{joined, closed, joined-append}
 use Rattle.ledger.specs.declared.records.Party.{Party}
 use Rattle.ledger.specs.declared.records.Ledger.{Ledger}

@@ -9,8 +9,8 @@ use native.Mathlib.Omega.{arith}
 use lib.ListN.{length, drop, length-take, length-drop}
 use lib.Dec.{leb, eqb}
 use borrow.Author.Tests.{leb-true, leb-false, eq-eqb, ne-eqb}
-use Rattle.tagged.specs.BigEndian.{Bytes}
-use Rattle.tagged.specs.BigEndianLaws.{Bytes-take, Bytes-drop}
+use Rattle.numbers.specs.BigEndian.{Bytes}
+use Rattle.numbers.specs.BigEndianLaws.{Bytes-take, Bytes-drop}
 use Rattle.tagged.specs.Walk.{FieldAt, valueOf, FieldsWalk}
 use Rattle.tagged.specs.Find.{fieldsOf, firstWith, firstPlace, partOf, fieldStart, fieldValue}
 use Rattle.tagged.specs.File.{fieldsPart}

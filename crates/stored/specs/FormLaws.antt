@@ -5,7 +5,7 @@ use mathlib.Core.List.{List, [], _∷_, _++_, flatMap, map}
 use native.Mathlib.Omega.{arith}
 use lib.ListN.{length, take, length-append}
 use lib.Seq.{length-take-le}
-use Rattle.tagged.specs.BigEndianLaws.{length-bytesOf}
+use Rattle.numbers.specs.BigEndianLaws.{length-bytesOf}
 use Rattle.tagged.specs.WalkFinds.{joined, joined-append}
 use Rattle.ledger.specs.declared.records.Scheme.{Scheme}
 use Rattle.ledger.specs.declared.records.Party.{Party}

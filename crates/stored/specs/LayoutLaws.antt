@@ -8,8 +8,8 @@ use native.Mathlib.Omega.{arith}
 use lib.ListN.{length, take, drop, set, length-append, length-take, length-drop, take-append-drop}
 use lib.Seq.{take-all, take-at, take-add, take-append-seam, drop-append-seam, drop-cons, drop-drop, set-append-seam}
 use Rattle.ledger.specs.Columns.{sumOf}
-use Rattle.tagged.specs.BigEndian.{Bytes, number, bytesOf, written}
-use Rattle.tagged.specs.BigEndianLaws.{Bytes-append, Bytes-take, Bytes-drop, length-bytesOf, bytesOf-bytes, bytesOf-number, number-of-bytesOf, numberAt-below, length-written, written-written}
+use Rattle.numbers.specs.BigEndian.{Bytes, number, bytesOf, written}
+use Rattle.numbers.specs.BigEndianLaws.{Bytes-append, Bytes-take, Bytes-drop, length-bytesOf, bytesOf-bytes, bytesOf-number, number-of-bytesOf, numberAt-below, length-written, written-written}
 use Rattle.stored.specs.Layout.{recordBytes, valuesAt, recordValues, placed}
 
 -- as many values as widths, each within its width

@@ -10,7 +10,7 @@ use lib.ListN.{length, getD, take, drop, replicate, length-drop, length-replicat
 use lib.Seq.{length-take-le, take-take, getD-drop, ext-getD}
 use lib.Dec.{leb}
 use borrow.Author.Tests.{leb-true, leb-false}
-use Rattle.tagged.specs.BigEndian.{Bytes}
+use Rattle.numbers.specs.BigEndian.{Bytes}
 use Rattle.tagged.specs.Find.{fieldStart, fieldValue}
 use Rattle.tagged.specs.File.{fieldsPart}
 use Rattle.tagged.specs.WalkFinds.{joined}

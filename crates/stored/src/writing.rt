@@ -2,17 +2,17 @@
 use ledger::records::Ledger;
 use ledger::records::Party;
 use ledger::records::Scheme;
-use tagged::big_endian::write_u8;
-use tagged::big_endian::write_u16;
-use tagged::big_endian::write_u32;
-use tagged::big_endian::write_u64;
+use numbers::big_endian::write_u8;
+use numbers::big_endian::write_u16;
+use numbers::big_endian::write_u32;
+use numbers::big_endian::write_u64;
 use tagged::file::Refusal;
 ghost use mathlib.Core.Path.{_≡_};
 ghost use mathlib.Core.List.{[], _∷_, _++_, map};
 ghost use Prim.Native.Nat.{_+_, _*_, _≤_};
 ghost use lib.ListN.{length, take};
-ghost use Rattle.tagged.specs.BigEndian.{bytesOf, written};
-ghost use Rattle.tagged.specs.Check.{check};
+ghost use Rattle.numbers.specs.BigEndian.{bytesOf, written};
+ghost use Rattle.numbers.specs.Check.{check};
 ghost use Rattle.tagged.specs.File.{refusal};
 ghost use Rattle.tagged.specs.WalkFinds.{joined};
 ghost use Rattle.stored.specs.Form.{lettersPart, headPart, schemePart, partyPart, storedParts, formLength};
@@ -147,7 +147,7 @@ fn write_check(out: &mut [u8], at: usize)
 {
     write_start(out, at, 255, 2);
     let end = at + 3;
-    let check = tagged::check::check(&out[..end]);
+    let check = numbers::check::check(&out[..end]);
     write_u16(out, end, check as u16);
 }
 

@@ -10,7 +10,7 @@ use native.Mathlib.Omega.{arith}
 use lib.ListN.{length, take, length-replicate}
 use lib.Dec.{leb}
 use borrow.Author.Tests.{leb-true, leb-false}
-use Rattle.tagged.specs.BigEndian.{Bytes}
+use Rattle.numbers.specs.BigEndian.{Bytes}
 use Rattle.tagged.specs.File.{standing, fieldsPart, refusal}
 use Rattle.tagged.specs.declared.file.Refusal.{Refusal}
 use Rattle.tagged.specs.declared.file.Standing.{Standing}

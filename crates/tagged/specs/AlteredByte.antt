@@ -10,10 +10,10 @@ use lib.ListN.{length, getD, set, take, drop, length-take, length-set}
 use lib.Seq.{getD-take, getD-drop, getD-set-same, take-set-le, take-set-lt, drop-set-lt}
 use lib.Dec.{ltb}
 use borrow.Author.Tests.{ltb-true, ltb-false, eqb-true, ne-eqb}
-use Rattle.tagged.specs.BigEndian.{Bytes, number, numberAt}
-use Rattle.tagged.specs.BigEndianLaws.{Bytes-set, numberAt-injective}
-use Rattle.tagged.specs.Check.{check}
-use Rattle.tagged.specs.CheckLaws.{check-set-byte}
+use Rattle.numbers.specs.BigEndian.{Bytes, number, numberAt}
+use Rattle.numbers.specs.BigEndianLaws.{Bytes-set, numberAt-injective}
+use Rattle.numbers.specs.Check.{check}
+use Rattle.numbers.specs.CheckLaws.{check-set-byte}
 use Rattle.tagged.specs.File.{tailStands, checkStands, refusal, standing}
 use Rattle.tagged.specs.FileLaws.{bad-tail, bad-check, stands-means}
 use Rattle.tagged.specs.declared.file.Standing.the-variants.{Stands, Refused}

@@ -8,10 +8,10 @@ use lib.ListN.{length, getD, take, drop, length-append, length-drop, take-append
 use lib.Seq.{take-all, take-at, drop-at, take-add, drop-cons, getD-append-add}
 use lib.Dec.{eqb}
 use borrow.Author.Tests.{eqb-true, eq-eqb, le-ltb}
-use Rattle.tagged.specs.BigEndian.{Bytes, number, bytesOf}
-use Rattle.tagged.specs.BigEndianLaws.{Bytes-take, Bytes-drop, length-bytesOf, number-of-bytesOf, bytesOf-number}
-use Rattle.tagged.specs.Check.{check}
-use Rattle.tagged.specs.CheckLaws.{check-below}
+use Rattle.numbers.specs.BigEndian.{Bytes, number, bytesOf}
+use Rattle.numbers.specs.BigEndianLaws.{Bytes-take, Bytes-drop, length-bytesOf, number-of-bytesOf, bytesOf-number}
+use Rattle.numbers.specs.Check.{check}
+use Rattle.numbers.specs.CheckLaws.{check-below}
 use Rattle.tagged.specs.Walk.{FieldAt, fields, walk}
 use Rattle.tagged.specs.WalkFinds.{joined, closed, partsOf, walk-tiles}
 use Rattle.tagged.specs.WalkFacts.{by-test}

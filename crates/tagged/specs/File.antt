@@ -4,8 +4,8 @@ use mathlib.Core.List.{List}
 use mathlib.Core.Bool.{Bool, false, cond}
 use lib.ListN.{length, getD, take}
 use lib.Dec.{ltb, eqb}
-use Rattle.tagged.specs.BigEndian.{numberAt}
-use Rattle.tagged.specs.Check.{check}
+use Rattle.numbers.specs.BigEndian.{numberAt}
+use Rattle.numbers.specs.Check.{check}
 use Rattle.tagged.specs.Walk.{Walk, walk, fields, stops}
 use Rattle.tagged.specs.declared.file.Refusal.{Refusal}
 use Rattle.tagged.specs.declared.file.Standing.{Standing}

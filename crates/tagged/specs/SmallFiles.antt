@@ -2,8 +2,8 @@
 use Prim.Native.Nat.{ℕ}
 use mathlib.Core.Path.{_≡_, refl}
 use mathlib.Core.List.{List, [], _∷_, map}
-use Rattle.tagged.specs.BigEndian.{number}
-use Rattle.tagged.specs.Check.{checkFrom}
+use Rattle.numbers.specs.BigEndian.{number}
+use Rattle.numbers.specs.Check.{checkFrom}
 use Rattle.tagged.specs.Walk.{dueFrom, allHad, frontOf, walkFrom}
 use Rattle.tagged.specs.File.{refusal, standing}
 use Rattle.tagged.specs.declared.file.Standing.{Standing}

@@ -7,7 +7,7 @@ use mathlib.Core.List.{List, [], _∷_}
 use mathlib.Core.Bool.{Bool, true, false, cond}
 use lib.ListN.{length, getD, take, drop}
 use lib.Dec.{ltb, leb, eqb}
-use Rattle.tagged.specs.BigEndian.{numberAt}
+use Rattle.numbers.specs.BigEndian.{numberAt}
 use Rattle.tagged.specs.declared.walk.Due.{Due}
 use Rattle.tagged.specs.declared.walk.Due.the-variants.{Row, NotDue}
 use Rattle.tagged.specs.declared.walk.Front.{Front}

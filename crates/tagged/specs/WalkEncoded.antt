@@ -10,8 +10,8 @@ use lib.ListN.{length, getD, take, drop, length-drop, length-append}
 use lib.Seq.{getD-drop, drop-drop, take-at, drop-at}
 use lib.Dec.{ltb, eqb}
 use borrow.Author.Tests.{le-ltb, le-leb, lt-ltb, eq-eqb, ne-eqb}
-use Rattle.tagged.specs.BigEndian.{number, bytesOf}
-use Rattle.tagged.specs.BigEndianLaws.{length-bytesOf, number-of-bytesOf}
+use Rattle.numbers.specs.BigEndian.{number, bytesOf}
+use Rattle.numbers.specs.BigEndianLaws.{length-bytesOf, number-of-bytesOf}
 use Rattle.tagged.specs.Walk.{tagOf, leastOf, mostOf, highestOf, dueFrom, allHad, permittedBy, frontOf, FieldAt, fields, walkFrom, walk}
 use Rattle.tagged.specs.WalkFacts.{Stand, end, next-row, field, StandsAt, Fields, none, first, permitted-length, both-hold, rest-tag}
 use Rattle.tagged.specs.WalkFinds.{joined, partsOf, walk-seen, tagsAbove, risingTags, rising-rest}

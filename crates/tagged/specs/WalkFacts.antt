@@ -11,7 +11,7 @@ use lib.ListN.{length, getD, take, drop, length-drop}
 use lib.Seq.{getD-drop, drop-drop}
 use lib.Dec.{ltb, leb, eqb}
 use borrow.Author.Tests.{ltb-true, ltb-false, leb-true, eqb-true}
-use Rattle.tagged.specs.BigEndian.{number, numberAt}
+use Rattle.numbers.specs.BigEndian.{number, numberAt}
 use Rattle.tagged.specs.Walk.{tagOf, lowestOf, highestOf, stepOf, leastOf, mostOf, dueFrom, allHad, permittedBy, lengthAt, fieldOf, frontOf, FieldAt, Walk, fields, stops, andThen, onFront, walkFrom, walk}
 use Rattle.tagged.specs.declared.walk.Due.{Due}
 use Rattle.tagged.specs.declared.walk.Due.the-variants.{Row, NotDue}

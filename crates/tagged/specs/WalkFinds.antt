@@ -10,12 +10,12 @@ use lib.ListN.{length, getD, take, drop, length-drop, length-take, take-append-d
 use lib.Seq.{drop-drop, drop-cons, take-all}
 use lib.Dec.{ltb, eqb}
 use borrow.Author.Tests.{le-ltb, le-leb, lt-ltb, eq-eqb, ne-eqb}
-use Rattle.tagged.specs.BigEndian.{Bytes, number, bytesOf}
-use Rattle.tagged.specs.BigEndianLaws.{Bytes-take, Bytes-drop, bytesOf-number}
+use Rattle.numbers.specs.BigEndian.{Bytes, number, bytesOf}
+use Rattle.numbers.specs.BigEndianLaws.{Bytes-take, Bytes-drop, bytesOf-number}
 use Rattle.tagged.specs.Walk.{tagOf, lowestOf, highestOf, stepOf, leastOf, permittedBy, lengthAt, FieldAt, valueOf, fields, walk, FieldsWalk}
 use Rattle.tagged.specs.Find.{wholeField, fieldsFrom, fieldsOf, firstWith, firstPlace, valuePlace, restPlace, partOf, startOf, fieldValue, fieldStart}
 use Rattle.tagged.specs.WalkFacts.{Stand, end, next-row, field, StandsAt, Fields, none, first, walk-stands, walk-fields, both-hold, rest-tag, rest-length, permitted-length}
-use Rattle.tagged.specs.Check.{check}
+use Rattle.numbers.specs.Check.{check}
 use Rattle.tagged.specs.declared.find.Place.{Place}
 use Rattle.tagged.specs.declared.find.Place.the-variants.{At, Nowhere}
 

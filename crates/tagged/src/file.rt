@@ -51,8 +51,8 @@ fn check_stands(file: &[u8]) -> bool
     ensures { λ r. ⌜ r ≡ checkStands (now (file .entry)) ⌝ }
 {
     let checked = file.len() - 2;
-    let stored = crate::big_endian::read_u16(file, checked);
-    stored as u32 == crate::check::check(&file[..checked])
+    let stored = numbers::big_endian::read_u16(file, checked);
+    stored as u32 == numbers::check::check(&file[..checked])
 }
 
 // The fields of a file: all but its last five bytes.

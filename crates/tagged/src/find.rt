@@ -16,7 +16,7 @@ fn whole_field(rest: &[u8]) -> bool
     if rest.len() < 3 {
         return false;
     }
-    let len = crate::big_endian::read_u16(rest, 1) as usize;
+    let len = numbers::big_endian::read_u16(rest, 1) as usize;
     len + 3 <= rest.len()
 }
 
@@ -28,7 +28,7 @@ pub fn place_of(fields: &[u8], tag: u8) -> Place
     let mut rest = fields;
     let mut at: usize = 0;
     while whole_field(rest) {
-        let len = crate::big_endian::read_u16(rest, 1) as usize;
+        let len = numbers::big_endian::read_u16(rest, 1) as usize;
         if rest[0] == tag {
             return Place::At { start: at + 3, len };
         }
@@ -76,7 +76,7 @@ fn value_place(rest: &[u8]) -> Place
     ensures { λ r. ⌜ PlaceWithin (length (now (rest .entry))) r ⌝ }
 {
     if whole_field(rest) {
-        let len = crate::big_endian::read_u16(rest, 1) as usize;
+        let len = numbers::big_endian::read_u16(rest, 1) as usize;
         return Place::At { start: 3, len };
     }
     Place::Nowhere
@@ -87,7 +87,7 @@ fn rest_place(rest: &[u8]) -> Place
     ensures { λ r. ⌜ PlaceWithin (length (now (rest .entry))) r ⌝ }
 {
     if whole_field(rest) {
-        let end = crate::big_endian::read_u16(rest, 1) as usize + 3;
+        let end = numbers::big_endian::read_u16(rest, 1) as usize + 3;
         return Place::At {
             start: end,
             len: rest.len() - end,

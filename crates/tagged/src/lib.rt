@@ -2,8 +2,6 @@
 //
 // Document 01, 'Tagged fields' and 'How calls end'. A kind of file (rate book, request, stored
 // ledger) hands its rows to the one walker; nothing here knows which kinds there are.
-pub mod big_endian;
-pub mod check;
 pub mod file;
 pub mod find;
 pub mod walk;

@@ -115,7 +115,7 @@ fn front_of(rows: &[Row], from: usize, had: usize, rest: &[u8]) -> Front
     let due = row_due(rows, from, had, rest[0]);
     match due {
         Due::Row { row, count } => {
-            let len = crate::big_endian::read_u16(rest, 1) as usize;
+            let len = numbers::big_endian::read_u16(rest, 1) as usize;
             if permitted(rows, row, len) {
                 if len + 3 <= rest.len() {
                     return Front::Field { row, count, len };

@@ -1,6 +1,6 @@
 use mathlib.Core.Path.{_≡_, sym, ap, ap₂, subst, subst₂, _∙_}
 use denote.Ref.{now}
-use Rattle.tagged.specs.BigEndian.{Bytes}
+use Rattle.numbers.specs.BigEndian.{Bytes}
 use Rattle.tagged.specs.Walk.{FieldsWalk}
 use Rattle.tagged.specs.File.{standing, fieldsPart}
 use Rattle.tagged.specs.declared.file.Standing.the-variants.{Stands}

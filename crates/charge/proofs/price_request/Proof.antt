@@ -1,6 +1,6 @@
 use mathlib.Core.Path.{_≡_, sym, ap, subst, _∙_}
 use denote.Ref.{now}
-use Rattle.tagged.specs.BigEndian.{Bytes}
+use Rattle.numbers.specs.BigEndian.{Bytes}
 use Rattle.tagged.specs.declared.file.Standing.the-variants.{Stands}
 use Rattle.request.specs.Request.{requestOf}
 use Rattle.request.specs.RequestWithin.{RequestWithin, request-within-limits}

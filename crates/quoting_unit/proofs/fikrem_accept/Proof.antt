@@ -2,7 +2,7 @@ use mathlib.Core.Path.{refl, sym}
 use mathlib.Core.Logic.{inl, inr}
 use native.Mathlib.Omega.{arith}
 use borrow.Author.Needs.{needs}
-use Rattle.tagged.specs.BigEndian.{Bytes}
+use Rattle.numbers.specs.BigEndian.{Bytes}
 use Rattle.quoting_unit.specs.UnitFacts.{accepted-bounded}
 use Rattle.quoting_unit.specs.UnitBuffers.{accept-too-short, accept-called}
 use Rattle.quoting_unit.proofs.fikrem_accept.Statement.{statement}

@@ -2,7 +2,7 @@ use mathlib.Core.Path.{refl, sym, _∙_}
 use mathlib.Core.Logic.{inl, inr}
 use native.Mathlib.Omega.{arith}
 use borrow.Author.Needs.{needs}
-use Rattle.tagged.specs.BigEndian.{Bytes}
+use Rattle.numbers.specs.BigEndian.{Bytes}
 use Rattle.charge.specs.PriceFacts.{priced-within}
 use Rattle.quoting_unit.specs.UnitBuffers.{price-too-short, price-called}
 use Rattle.quoting_unit.proofs.fikrem_price.Statement.{statement}

@@ -1,7 +1,7 @@
 use mathlib.Core.Path.{sym, _∙_}
 use denote.Ref.{now}
 use borrow.Author.Needs.{needs}
-use Rattle.tagged.specs.BigEndian.{Bytes}
+use Rattle.numbers.specs.BigEndian.{Bytes}
 use Rattle.charge.specs.PriceFacts.{priced-within}
 use Rattle.acceptance.specs.AcceptNeeds.{plan-refused-13, plan-priced}
 use Rattle.ledger.proofs.Tests.{passes, fails}

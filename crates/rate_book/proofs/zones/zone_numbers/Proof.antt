@@ -2,7 +2,7 @@ use Prim.Native.Nat.{_-_, _≤_}
 use mathlib.Core.Path.{_≡_, refl, _∙_}
 use native.Mathlib.Omega.{arith}
 use borrow.Author.Needs.{needs}
-use Rattle.tagged.specs.BigEndian.{numberAt}
+use Rattle.numbers.specs.BigEndian.{numberAt}
 use Rattle.rate_book.specs.ZonesStand.{zones-stand}
 use Rattle.rate_book.proofs.Filling.{filledTo, filled-more, filled-all}
 use Rattle.rate_book.proofs.zones.zone_numbers.Statement.{statement}

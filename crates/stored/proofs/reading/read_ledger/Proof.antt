@@ -2,7 +2,7 @@ use mathlib.Core.Path.{_≡_, ap, _∙_}
 use native.Mathlib.Omega.{arith}
 use lib.ListN.{length}
 use borrow.Author.Needs.{needs}
-use Rattle.tagged.specs.BigEndian.{numberAt}
+use Rattle.numbers.specs.BigEndian.{numberAt}
 use Rattle.stored.specs.Layout.{valuesAt}
 use Rattle.stored.specs.Form.{storedLedger}
 use Rattle.stored.specs.StoredFields.{head-sized}

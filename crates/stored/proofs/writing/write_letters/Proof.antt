@@ -1,6 +1,6 @@
 use mathlib.Core.Path.{refl}
 use mathlib.Core.List.{[], _∷_}
-use Rattle.tagged.specs.BigEndian.{bytesOf}
+use Rattle.numbers.specs.BigEndian.{bytesOf}
 use Rattle.stored.specs.Layout.{recordBytes}
 use Rattle.stored.specs.LayoutLaws.{writtenEach}
 use Rattle.stored.specs.Form.{letters}

@@ -1,0 +1,44 @@
+use Rattle.numbers.specs.BigEndianLaws.{numberAt-add}
+use native.Mathlib.Omega.{arith}
+use borrow.Author.Needs.{needs}
+use Rattle.numbers.proofs.big_endian.read_u64.Statement.{statement}
+use Rattle.numbers.proofs.big_endian.read_u64.Tie as tie
+
+read-u32-requires : tie.Need-read-u32-requires
+read-u32-requires c κs = search needs
+
+cast-result : tie.Need-cast-result
+cast-result c = search needs
+
+mul-result : tie.Need-mul-result
+mul-result c = search needs
+
+add-read-u32 : tie.Need-add-read-u32
+add-read-u32 c = search needs
+
+read-u32-requires-2 : tie.Need-read-u32-requires-2
+read-u32-requires-2 c κs = search needs
+
+cast-result-2 : tie.Need-cast-result-2
+cast-result-2 c = search needs
+
+add-result : tie.Need-add-result
+add-result c = search needs
+
+returns : tie.Need-returns
+returns c =
+    let start = c .before .before .before in
+    cc (numberAt-add (start .args .s .now) (start .args .at) 4 4 (omega arith))
+
+pub read-u64-spec : {M : Type 1} → statement M
+read-u64-spec =
+    tie.close
+    (tie.spec
+    read-u32-requires
+    cast-result
+    mul-result
+    add-read-u32
+    read-u32-requires-2
+    cast-result-2
+    add-result
+    returns)

@@ -1,0 +1,4 @@
+pub mod BigEndian
+pub mod BigEndianLaws
+pub mod Check
+pub mod CheckLaws
