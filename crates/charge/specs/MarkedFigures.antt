@@ -12,7 +12,7 @@ use Rattle.tagged.specs.Find.{fieldsFrom, firstWith, fieldsWith}
 use Rattle.tagged.specs.File.{refusal}
 use Rattle.tagged.specs.WalkFinds.{closed}
 use Rattle.field_values.specs.Judged.{judgeNumbers, sameBytes}
-use Rattle.rate_book.specs.Zones.{judgeZonesFrom}
+use Rattle.book_zones.specs.Zones.{judgeZonesFrom}
 use Rattle.rate_book.specs.Book.{bookLetters, bookOf}
 use Rattle.request.specs.Request.{requestLetters, requestOf}
 use Rattle.revenue.specs.Revenue.{discount, opexFactor, incrementalRevenue}

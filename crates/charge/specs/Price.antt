@@ -8,7 +8,7 @@ use Rattle.tagged.specs.File.{fieldsPart, refusal}
 use Rattle.tagged.specs.declared.file.Standing.{Standing}
 use Rattle.tagged.specs.declared.file.Standing.the-variants.{Stands, Refused}
 use Rattle.rate_book.specs.Book.{bookOf}
-use Rattle.rate_book.specs.Zones.{zoneRates}
+use Rattle.book_zones.specs.Zones.{zoneRates}
 use Rattle.rate_book.specs.declared.book.Book.{Book}
 use Rattle.request.specs.Request.{requestOf}
 use Rattle.request.specs.declared.values.Request.{Request}

@@ -15,8 +15,8 @@ use Rattle.tagged.specs.declared.file.Standing.the-variants.{Stands, Refused}
 use Rattle.rate_book.specs.Book.{bookOf}
 use Rattle.rate_book.specs.BookFacts.{altered-book-refused}
 use Rattle.rate_book.specs.BookWithin.{BookWithin, book-within-limits, rates-within-limits}
-use Rattle.rate_book.specs.Zones.{zoneRates}
-use Rattle.rate_book.specs.ZonesWithin.{RatesWithin}
+use Rattle.book_zones.specs.Zones.{zoneRates}
+use Rattle.book_zones.specs.ZonesWithin.{RatesWithin}
 use Rattle.rate_book.specs.declared.book.Book.{Book}
 use Rattle.request.specs.Request.{requestOf}
 use Rattle.request.specs.RequestFacts.{altered-request-refused}

@@ -13,7 +13,7 @@ ghost use Prim.Native.Nat.{ℕ, _+_, _<_, _≤_};
 ghost use Rattle.tagged.specs.File.{refusal};
 ghost use Rattle.capacity.specs.Capacity.{TiersWithin};
 ghost use Rattle.rate_book.specs.BookWithin.{BookWithin};
-ghost use Rattle.rate_book.specs.ZonesWithin.{RatesWithin};
+ghost use Rattle.book_zones.specs.ZonesWithin.{RatesWithin};
 ghost use Rattle.request.specs.RequestWithin.{RequestWithin};
 ghost use Rattle.charge.specs.Price.{zoneFound, incrementalRevenueOf, billOf, valuesPriced, requestPriced, priceOf, ZoneBelow};
 
@@ -209,11 +209,11 @@ fn price_request(book: Book, rates: [[u32; 5]; 8], request: &[u8]) -> Pricing
 pub fn price(book: &[u8], request: &[u8]) -> Pricing
     ensures { λ r. ⌜ r ≡ priceOf (now (book .entry)) (now (request .entry)) ⌝ }
 {
-    let standing = rate_book::rows::book_stands(1, book);
+    let standing = book_zones::rows::book_stands(1, book);
     match standing {
         Standing::Refused(refusal) => Pricing::NotPriced(refusal),
         Standing::Stands => {
-            let rates = rate_book::zones::zone_rates(tagged::file::fields_part(book));
+            let rates = book_zones::zones::zone_rates(tagged::file::fields_part(book));
             let read = rate_book::book::read_standing_book(1, book, rates);
             let answer = read.answer;
             match answer {

@@ -42,7 +42,7 @@ fn list(fields: &[u8]) {
 
 fn stands(kind: Kind, file: &[u8]) -> Standing {
     match kind {
-        Kind::Book => rate_book::rows::book_stands(1, file),
+        Kind::Book => book_zones::rows::book_stands(1, file),
         Kind::Request => request::rows::request_stands(2, file),
         Kind::Ledger => stored::rows::stored_stands(1, file),
     }

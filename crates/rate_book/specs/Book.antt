@@ -13,8 +13,8 @@ use Rattle.field_values.specs.Judged.{judge, firstFailure, judgeField, judgeLet
 use Rattle.field_values.specs.Factors.{factorsOf, noFactors, judgeFactors}
 use Rattle.field_values.specs.declared.judged.Judged.{Judged}
 use Rattle.field_values.specs.declared.judged.Judged.the-variants.{Passes, Fails}
-use Rattle.rate_book.specs.Rows.{bookRows}
-use Rattle.rate_book.specs.Zones.{zoneStarts, zoneNumbers, judgeZones}
+use Rattle.book_zones.specs.Rows.{bookRows}
+use Rattle.book_zones.specs.Zones.{zoneStarts, zoneNumbers, judgeZones}
 use Rattle.rate_book.specs.declared.book.Book.{Book}
 use Rattle.rate_book.specs.declared.book.BookRead.{BookRead}
 

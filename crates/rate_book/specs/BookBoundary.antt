@@ -12,7 +12,7 @@ use Rattle.tagged.specs.WalkFinds.{closed}
 use Rattle.tagged.specs.declared.file.Standing.{Standing}
 use Rattle.tagged.specs.declared.file.Standing.the-variants.{Stands, Refused}
 use Rattle.field_values.specs.Judged.{judgeNumbers, sameBytes}
-use Rattle.rate_book.specs.Zones.{judgeZonesFrom}
+use Rattle.book_zones.specs.Zones.{judgeZonesFrom}
 use Rattle.rate_book.specs.Book.{bookLetters, bookOf}
 
 abbrev pairs : List (ℕ × ℕ) → List ℕ

@@ -16,7 +16,7 @@ use Rattle.tagged.specs.declared.file.Standing.the-variants.{Stands, Refused}
 use Rattle.field_values.specs.JudgedLaws.{reading-refusal-numbers}
 use Rattle.field_values.specs.declared.judged.Judged.{Judged}
 use Rattle.field_values.specs.declared.judged.Judged.the-variants.{Passes, Fails}
-use Rattle.rate_book.specs.Rows.{bookRows}
+use Rattle.book_zones.specs.Rows.{bookRows}
 use Rattle.rate_book.specs.Book.{bookOf, bookValues, judgeBook, refusedBook, ofJudged, ofStanding}
 
 module _ (number : ℕ) (file : List ℕ) where

@@ -7,7 +7,7 @@ use lib.ListN.{length, getD}
 use Rattle.tagged.specs.Walk.{leastOf, FieldsWalk}
 use Rattle.tagged.specs.Find.{fieldValue, fieldStart}
 use Rattle.tagged.specs.WalkFinds.{Sized, walk-sized}
-use Rattle.rate_book.specs.Rows.{bookRows, book-rows-rise}
+use Rattle.book_zones.specs.Rows.{bookRows, book-rows-rise}
 
 pub record BookSizes (s : List ℕ) : Type 0 where
   pub rate : length (fieldValue 2 s) ≡ 2

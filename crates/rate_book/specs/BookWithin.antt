@@ -15,11 +15,11 @@ use Rattle.tagged.specs.declared.file.Standing.the-variants.{Stands}
 use Rattle.field_values.specs.JudgedLaws.{judge-passes, first-failure-passes, judged-within}
 use Rattle.field_values.specs.FactorsLaws.{FactorsWithin, factors-within}
 use Rattle.field_values.specs.declared.judged.Judged.the-variants.{Passes}
-use Rattle.rate_book.specs.Rows.{bookRows}
-use Rattle.rate_book.specs.Zones.{zoneStarts, zoneRates}
-use Rattle.rate_book.specs.ZonesStand.{zones-stand}
-use Rattle.rate_book.specs.ZonesLaws.{length-eight}
-use Rattle.rate_book.specs.ZonesWithin.{RatesWithin, zone-numbers-rise, zone-rates-within}
+use Rattle.book_zones.specs.Rows.{bookRows}
+use Rattle.book_zones.specs.Zones.{zoneStarts, zoneRates}
+use Rattle.book_zones.specs.ZonesStand.{zones-stand}
+use Rattle.book_zones.specs.ZonesLaws.{length-eight}
+use Rattle.book_zones.specs.ZonesWithin.{RatesWithin, zone-numbers-rise, zone-rates-within}
 use Rattle.rate_book.specs.BookSizes.{book-sizes}
 use Rattle.rate_book.specs.Book.{rateLimits, chargedLimits, sumFrom, sumJudgements, termJudgements, bookJudgements, judgeBook, bookValues, bookOf}
 use Rattle.rate_book.specs.BookFacts.{accepted-stands, accepted-passes, accepted-values, book-walks}

@@ -18,9 +18,9 @@ ghost use Prim.Native.Nat.{_+_, _<_, _≤_};
 ghost use lib.ListN.{length};
 ghost use Rattle.tagged.specs.File.{standing, fieldsPart};
 ghost use Rattle.tagged.specs.declared.file.Standing.the-variants.{Stands};
-ghost use Rattle.rate_book.specs.Rows.{bookRows};
+ghost use Rattle.book_zones.specs.Rows.{bookRows};
 ghost use Rattle.tagged.specs.Walk.{FieldsWalk};
-ghost use Rattle.rate_book.specs.Zones.{zoneRates};
+ghost use Rattle.book_zones.specs.Zones.{zoneRates};
 ghost use Rattle.rate_book.specs.Book.{sumFrom, judgeSums, judgeTerms, judgeBook, bookValues, noBook, refusedBook, bookOf};
 
 pub struct Book {
@@ -114,7 +114,7 @@ fn judge_book(fields: &[u8], rates: [[u32; 5]; 8]) -> Judged
     let transmission = judge_factors(fields, 5);
     let terms = judge_terms(fields);
     let charged = judge_field(fields, 7, &CHARGED_LIMITS);
-    let zones = crate::zones::judge_zones(fields, rates);
+    let zones = book_zones::zones::judge_zones(fields, rates);
     let later = in_order(terms, in_order(charged, zones));
     let factors = in_order(distribution, in_order(transmission, later));
     in_order(letters, in_order(rate, in_order(sums, factors)))
@@ -140,8 +140,8 @@ fn book_values(fields: &[u8]) -> Book
         term: read_u16(terms, 12),
         charged: read_u8(charged, 0),
         share: read_u16(charged, 1),
-        zones: crate::zones::zone_count(fields),
-        zone_numbers: crate::zones::zone_numbers(fields),
+        zones: book_zones::zones::zone_count(fields),
+        zone_numbers: book_zones::zones::zone_numbers(fields),
     }
 }
 
@@ -199,10 +199,10 @@ pub fn read_standing_book(number: u8, file: &[u8], rates: [[u32; 5]; 8]) -> Book
 pub fn read_book(number: u8, file: &[u8]) -> BookRead
     ensures { λ r. ⌜ r ≡ bookOf number (now (file .entry)) ⌝ }
 {
-    let standing = crate::rows::book_stands(number, file);
+    let standing = book_zones::rows::book_stands(number, file);
     match standing {
         Standing::Stands => {
-            let rates = crate::zones::zone_rates(tagged::file::fields_part(file));
+            let rates = book_zones::zones::zone_rates(tagged::file::fields_part(file));
             read_standing_book(number, file, rates)
         }
         Standing::Refused(refusal) => refused_book(refusal),

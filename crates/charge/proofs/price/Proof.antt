@@ -4,9 +4,9 @@ use Rattle.numbers.specs.BigEndian.{Bytes}
 use Rattle.tagged.specs.Walk.{FieldsWalk}
 use Rattle.tagged.specs.File.{standing, fieldsPart}
 use Rattle.tagged.specs.declared.file.Standing.the-variants.{Stands}
-use Rattle.rate_book.specs.Rows.{bookRows}
-use Rattle.rate_book.specs.Zones.{zoneRates}
-use Rattle.rate_book.specs.ZonesWithin.{RatesWithin}
+use Rattle.book_zones.specs.Rows.{bookRows}
+use Rattle.book_zones.specs.Zones.{zoneRates}
+use Rattle.book_zones.specs.ZonesWithin.{RatesWithin}
 use Rattle.rate_book.specs.Book.{bookOf}
 use Rattle.rate_book.specs.BookFacts.{book-refused, book-walks}
 use Rattle.rate_book.specs.BookWithin.{BookWithin, book-within-limits, rates-within-limits}

@@ -1,7 +1,7 @@
 use mathlib.Core.Path.{refl}
 use borrow.Author.Needs.{needs}
 use Rattle.field_values.specs.Judged.{narrow}
-use Rattle.rate_book.specs.Zones.{judgeZones}
+use Rattle.book_zones.specs.Zones.{judgeZones}
 use Rattle.field_values.specs.JudgedLaws.{in-order-end}
 use Rattle.rate_book.proofs.book.judge_book.Statement.{statement}
 use Rattle.rate_book.proofs.book.judge_book.Tie as tie

@@ -3,11 +3,11 @@ use mathlib.Core.Path.{_≡_, refl, _∙_}
 use native.Mathlib.Omega.{arith}
 use lib.ListN.{replicate}
 use borrow.Author.Needs.{needs}
-use Rattle.rate_book.specs.Zones.{rateRow}
-use Rattle.rate_book.specs.ZonesStand.{zones-stand}
-use Rattle.rate_book.proofs.Filling.{filledTo, filled-more, filled-all}
-use Rattle.rate_book.proofs.zones.zone_rates.Statement.{statement}
-use Rattle.rate_book.proofs.zones.zone_rates.Tie as tie
+use Rattle.book_zones.specs.Zones.{rateRow}
+use Rattle.book_zones.specs.ZonesStand.{zones-stand}
+use Rattle.book_zones.proofs.Filling.{filledTo, filled-more, filled-all}
+use Rattle.book_zones.proofs.zones.zone_rates.Statement.{statement}
+use Rattle.book_zones.proofs.zones.zone_rates.Tie as tie
 
 abbrev Inv-loop : tie.InvT-loop
 Inv-loop fields first count rates₀ zone₀ rates zone = (zone ≤ count) × (rates ≡ filledTo (replicate 5 0) (rateRow fields) fields zone)

@@ -1,7 +1,7 @@
 use borrow.Author.Tests.{lt-ltb, le-ltb}
 use borrow.Author.Needs.{needs}
-use Rattle.rate_book.proofs.zones.lower.Statement.{statement}
-use Rattle.rate_book.proofs.zones.lower.Tie as tie
+use Rattle.book_zones.proofs.zones.lower.Statement.{statement}
+use Rattle.book_zones.proofs.zones.lower.Tie as tie
 
 enum-told : tie.Need-enum-told
 enum-told c = search needs

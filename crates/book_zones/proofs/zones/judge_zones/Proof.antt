@@ -1,8 +1,8 @@
 use borrow.Author.Needs.{needs}
-use Rattle.rate_book.specs.ZonesLaws.{judge-zones-by-scans}
-use Rattle.rate_book.specs.ZonesStand.{zones-stand}
-use Rattle.rate_book.proofs.zones.judge_zones.Statement.{statement}
-use Rattle.rate_book.proofs.zones.judge_zones.Tie as tie
+use Rattle.book_zones.specs.ZonesLaws.{judge-zones-by-scans}
+use Rattle.book_zones.specs.ZonesStand.{zones-stand}
+use Rattle.book_zones.proofs.zones.judge_zones.Statement.{statement}
+use Rattle.book_zones.proofs.zones.judge_zones.Tie as tie
 
 first-zone-requires : tie.Need-first-zone-requires
 first-zone-requires c κs = search needs

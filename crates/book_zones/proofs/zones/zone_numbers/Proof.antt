@@ -3,10 +3,10 @@ use mathlib.Core.Path.{_≡_, refl, _∙_}
 use native.Mathlib.Omega.{arith}
 use borrow.Author.Needs.{needs}
 use Rattle.numbers.specs.BigEndian.{numberAt}
-use Rattle.rate_book.specs.ZonesStand.{zones-stand}
-use Rattle.rate_book.proofs.Filling.{filledTo, filled-more, filled-all}
-use Rattle.rate_book.proofs.zones.zone_numbers.Statement.{statement}
-use Rattle.rate_book.proofs.zones.zone_numbers.Tie as tie
+use Rattle.book_zones.specs.ZonesStand.{zones-stand}
+use Rattle.book_zones.proofs.Filling.{filledTo, filled-more, filled-all}
+use Rattle.book_zones.proofs.zones.zone_numbers.Statement.{statement}
+use Rattle.book_zones.proofs.zones.zone_numbers.Tie as tie
 
 abbrev Inv-loop : tie.InvT-loop
 Inv-loop fields first count numbers₀ zone₀ numbers zone = (zone ≤ count) × (numbers ≡ filledTo 0 (λ at. numberAt fields at 1) fields zone)

@@ -5,10 +5,10 @@ use native.Mathlib.Omega.{arith}
 use lib.ListN.{take, drop, length}
 use borrow.Author.Tests.{lt-leb, le-leb}
 use borrow.Author.Needs.{needs}
-use Rattle.rate_book.specs.Zones.{judgeRise}
-use Rattle.rate_book.proofs.Scanning.{rise-on, rise-end}
-use Rattle.rate_book.proofs.zones.first_number_not_above.Statement.{statement}
-use Rattle.rate_book.proofs.zones.first_number_not_above.Tie as tie
+use Rattle.book_zones.specs.Zones.{judgeRise}
+use Rattle.book_zones.proofs.Scanning.{rise-on, rise-end}
+use Rattle.book_zones.proofs.zones.first_number_not_above.Statement.{statement}
+use Rattle.book_zones.proofs.zones.first_number_not_above.Tie as tie
 
 abbrev Inv-loop : tie.InvT-loop
 Inv-loop zones first numbers least₀ zone₀ least zone =

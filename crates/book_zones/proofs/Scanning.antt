@@ -11,7 +11,7 @@ use lib.Dec.{leb}
 use Rattle.field_values.specs.Judged.{judge, inOrder, firstFailure}
 use Rattle.field_values.specs.declared.judged.Judged.{Judged}
 use Rattle.field_values.specs.declared.judged.Judged.the-variants.{Passes}
-use Rattle.rate_book.specs.Zones.{rowJudgements, judgeRow, judgeRows, judgeRise}
+use Rattle.book_zones.specs.Zones.{rowJudgements, judgeRow, judgeRows, judgeRise}
 
 -- the elements from zone i on, of the first n
 module _ {A : Type 0} (l : List A) (d : A) (n i : ℕ) where

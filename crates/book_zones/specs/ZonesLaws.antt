@@ -14,8 +14,8 @@ use Rattle.field_values.specs.Judged.{judge, inOrder}
 use Rattle.field_values.specs.JudgedLaws.{in-order-end}
 use Rattle.field_values.specs.declared.judged.Judged.{Judged}
 use Rattle.field_values.specs.declared.judged.Judged.the-variants.{Passes, Fails}
-use Rattle.rate_book.specs.Zones.{zoneStarts, eightOf, zoneNumbers, rateRow, zoneRates, judgeRow, judgeZonesFrom, judgeZones, judgeRise, judgeRows, lower}
-use Rattle.rate_book.specs.ZonesStand.{every24, ZonesStand}
+use Rattle.book_zones.specs.Zones.{zoneStarts, eightOf, zoneNumbers, rateRow, zoneRates, judgeRow, judgeZonesFrom, judgeZones, judgeRise, judgeRows, lower}
+use Rattle.book_zones.specs.ZonesStand.{every24, ZonesStand}
 
 -- ---- arrays of eight
 module _ {A : Type 0} (nothing : A) (elements : List A) where

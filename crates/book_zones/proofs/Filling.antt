@@ -7,8 +7,8 @@ use native.Mathlib.Omega.{arith}
 use lib.ListN.{length, getD, set, take, replicate, length-append, length-replicate, length-map}
 use lib.Seq.{set-at, append-snoc, take-suc, take-length, take-set-lt, take-append-le, length-take-le}
 use Rattle.tagged.specs.Find.{fieldStart}
-use Rattle.rate_book.specs.Zones.{zoneStarts, eightOf}
-use Rattle.rate_book.specs.ZonesStand.{ZonesStand, every24-getD}
+use Rattle.book_zones.specs.Zones.{zoneStarts, eightOf}
+use Rattle.book_zones.specs.ZonesStand.{ZonesStand, every24-getD}
 
 eight-more : {A : Type 0} (nothing : A) (xs : List A) (x : A) (i : ℕ) → length xs ≡ i → i < 8 → set (eightOf nothing xs) i x ≡ eightOf nothing (xs ++ (x ∷ []))
 eight-more nothing xs x i l h =

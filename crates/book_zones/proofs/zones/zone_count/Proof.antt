@@ -1,8 +1,8 @@
 use native.Mathlib.Omega.{arith}
 use borrow.Author.Needs.{needs}
-use Rattle.rate_book.specs.ZonesStand.{zones-stand}
-use Rattle.rate_book.proofs.zones.zone_count.Statement.{statement}
-use Rattle.rate_book.proofs.zones.zone_count.Tie as tie
+use Rattle.book_zones.specs.ZonesStand.{zones-stand}
+use Rattle.book_zones.proofs.zones.zone_count.Statement.{statement}
+use Rattle.book_zones.proofs.zones.zone_count.Tie as tie
 
 add-result : tie.Need-add-result
 add-result c = search needs

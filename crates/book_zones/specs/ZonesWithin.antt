@@ -13,9 +13,9 @@ use Rattle.numbers.specs.BigEndian.{numberAt}
 use Rattle.field_values.specs.Judged.{judge}
 use Rattle.field_values.specs.JudgedLaws.{judge-passes, first-failure-passes}
 use Rattle.field_values.specs.declared.judged.Judged.the-variants.{Passes}
-use Rattle.rate_book.specs.Zones.{zoneStarts, zoneNumbers, rateRow, zoneRates, rowJudgements, judgeRow, judgeZonesFrom, judgeZones}
-use Rattle.rate_book.specs.ZonesStand.{ZonesStand}
-use Rattle.rate_book.specs.ZonesLaws.{length-eight, zone-getD, zone-past}
+use Rattle.book_zones.specs.Zones.{zoneStarts, zoneNumbers, rateRow, zoneRates, rowJudgements, judgeRow, judgeZonesFrom, judgeZones}
+use Rattle.book_zones.specs.ZonesStand.{ZonesStand}
+use Rattle.book_zones.specs.ZonesLaws.{length-eight, zone-getD, zone-past}
 
 -- "five 4-byte rates, cents per kVA, at most 10,000,000", as a row of five tiers for each zone
 pub record RatesWithin (rates : List (List ℕ)) (zones : ℕ) : Type 0 where

@@ -5,8 +5,8 @@ ghost use mathlib.Core.Path.{_≡_};
 ghost use Prim.Native.Nat.{_+_, _*_, _<_, _≤_, _^_};
 ghost use lib.ListN.{length, take};
 ghost use Rattle.tagged.specs.Find.{fieldStart};
-ghost use Rattle.rate_book.specs.Rows.{bookRows};
-ghost use Rattle.rate_book.specs.Zones.{zoneStarts, zoneNumbers, zoneRates, rateRow, judgeRows, judgeRise, judgeZones, lower};
+ghost use Rattle.book_zones.specs.Rows.{bookRows};
+ghost use Rattle.book_zones.specs.Zones.{zoneStarts, zoneNumbers, zoneRates, rateRow, judgeRows, judgeRise, judgeZones, lower};
 ghost use Rattle.tagged.specs.Walk.{FieldsWalk};
 
 const HIGHEST_RATE: u32 = 10_000_000;

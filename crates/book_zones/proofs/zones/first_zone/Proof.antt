@@ -2,9 +2,9 @@ use mathlib.Core.Path.{ap, _∙_}
 use native.Mathlib.Omega.{arith}
 use borrow.Author.Needs.{needs}
 use Rattle.tagged.specs.Find.{startOf}
-use Rattle.rate_book.specs.ZonesStand.{zones-stand}
-use Rattle.rate_book.proofs.zones.first_zone.Statement.{statement}
-use Rattle.rate_book.proofs.zones.first_zone.Tie as tie
+use Rattle.book_zones.specs.ZonesStand.{zones-stand}
+use Rattle.book_zones.proofs.zones.first_zone.Statement.{statement}
+use Rattle.book_zones.proofs.zones.first_zone.Tie as tie
 
 place-of-requires : tie.Need-place-of-requires
 place-of-requires c κs = search needs

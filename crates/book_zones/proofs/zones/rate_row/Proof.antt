@@ -1,7 +1,7 @@
 use mathlib.Core.List.{[], _∷_}
 use borrow.Author.Needs.{needs}
-use Rattle.rate_book.proofs.zones.rate_row.Statement.{statement}
-use Rattle.rate_book.proofs.zones.rate_row.Tie as tie
+use Rattle.book_zones.proofs.zones.rate_row.Statement.{statement}
+use Rattle.book_zones.proofs.zones.rate_row.Tie as tie
 
 add-read-u32 : tie.Need-add-read-u32
 add-read-u32 c = search needs

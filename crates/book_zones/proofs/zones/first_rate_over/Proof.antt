@@ -8,10 +8,10 @@ use borrow.Author.Tests.{lt-leb, le-leb}
 use borrow.Author.Needs.{needs}
 use Rattle.field_values.specs.declared.judged.Judged.the-variants.{Passes}
 use Rattle.field_values.specs.Judged.{inOrder}
-use Rattle.rate_book.specs.Zones.{judgeRows}
-use Rattle.rate_book.proofs.Scanning.{judgeTiers, rows-on, rows-end, tier-on, tier-end}
-use Rattle.rate_book.proofs.zones.first_rate_over.Statement.{statement}
-use Rattle.rate_book.proofs.zones.first_rate_over.Tie as tie
+use Rattle.book_zones.specs.Zones.{judgeRows}
+use Rattle.book_zones.proofs.Scanning.{judgeTiers, rows-on, rows-end, tier-on, tier-end}
+use Rattle.book_zones.proofs.zones.first_rate_over.Statement.{statement}
+use Rattle.book_zones.proofs.zones.first_rate_over.Tie as tie
 
 abbrev Inv-loop : tie.InvT-loop
 Inv-loop zones first rates judged₀ zone tier₀ judged tier =

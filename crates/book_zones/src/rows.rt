@@ -3,7 +3,7 @@ use tagged::file::Standing;
 use tagged::walk::Row;
 ghost use mathlib.Core.Path.{_≡_};
 ghost use Rattle.tagged.specs.File.{standing};
-ghost use Rattle.rate_book.specs.Rows.{bookRows};
+ghost use Rattle.book_zones.specs.Rows.{bookRows};
 
 // Tag; lowest, highest and step of length; least and most times.
 pub const BOOK_ROWS: [Row; 8] = [

@@ -12,8 +12,8 @@ use Rattle.tagged.specs.Find.{fieldsWith, firstWith, fieldStart, startOf}
 use Rattle.tagged.specs.FieldsWith.{with-past, with-all}
 use Rattle.tagged.specs.WalkFacts.{Stand, Fields, none, first, by-test, Stand-once, Stand-last, walk-stands, walk-fields, permitted-length}
 use Rattle.tagged.specs.WalkFinds.{walk-fieldsOf, walk-firstPlace, walk-next}
-use Rattle.rate_book.specs.Rows.{bookRows}
-use Rattle.rate_book.specs.Zones.{zoneStarts}
+use Rattle.book_zones.specs.Rows.{bookRows}
+use Rattle.book_zones.specs.Zones.{zoneStarts}
 
 -- offsets 24 bytes apart
 unfoldable pub every24 : ℕ → ℕ → List ℕ

@@ -1,0 +1,5 @@
+pub mod Rows
+pub mod Zones
+pub mod ZonesStand
+pub mod ZonesLaws
+pub mod ZonesWithin
