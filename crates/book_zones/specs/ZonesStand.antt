@@ -7,7 +7,7 @@ use native.Mathlib.Omega.{arith}
 use lib.ListN.{length, getD, take, drop, length-map}
 use lib.Dec.{eqb}
 use borrow.Author.Tests.{eqb-true, eqb-false, eq-eqb}
-use Rattle.tagged.specs.Walk.{tagOf, leastOf, mostOf, FieldAt, FieldsWalk}
+use Rattle.field_walk.specs.Walk.{tagOf, leastOf, mostOf, FieldAt, FieldsWalk}
 use Rattle.tagged.specs.Find.{fieldsWith, firstWith, fieldStart, startOf}
 use Rattle.tagged.specs.FieldsWith.{with-past, with-all}
 use Rattle.tagged.specs.WalkFacts.{Stand, Fields, none, first, by-test, Stand-once, Stand-last, walk-stands, walk-fields, permitted-length}

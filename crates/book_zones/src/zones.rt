@@ -7,7 +7,7 @@ ghost use lib.ListN.{length, take};
 ghost use Rattle.tagged.specs.Find.{fieldStart};
 ghost use Rattle.book_zones.specs.Rows.{bookRows};
 ghost use Rattle.book_zones.specs.Zones.{zoneStarts, zoneNumbers, zoneRates, rateRow, judgeRows, judgeRise, judgeZones, lower};
-ghost use Rattle.tagged.specs.Walk.{FieldsWalk};
+ghost use Rattle.field_walk.specs.Walk.{FieldsWalk};
 
 const HIGHEST_RATE: u32 = 10_000_000;
 

@@ -7,7 +7,7 @@ use lib.ListN.{replicate}
 use lib.IntN.{ℤ, pos, negsuc}
 use Rattle.numbers.specs.BigEndian.{number, bytesOf}
 use Rattle.numbers.specs.Check.{check, checkFrom}
-use Rattle.tagged.specs.Walk.{dueFrom, allHad, frontOf, walkFrom}
+use Rattle.field_walk.specs.Walk.{dueFrom, allHad, frontOf, walkFrom}
 use Rattle.tagged.specs.Find.{fieldsFrom, firstWith, fieldsWith}
 use Rattle.tagged.specs.File.{refusal}
 use Rattle.tagged.specs.WalkFinds.{closed}

@@ -6,7 +6,7 @@ use mathlib.Core.List.{List}
 use native.Mathlib.Omega.{arith}
 use lib.ListN.{length, getD, set}
 use Rattle.numbers.specs.BigEndian.{Bytes}
-use Rattle.tagged.specs.Walk.{FieldsWalk}
+use Rattle.field_walk.specs.Walk.{FieldsWalk}
 use Rattle.tagged.specs.File.{standing, fieldsPart, refusal}
 use Rattle.tagged.specs.FileLaws.{stands-means, RefusesTo}
 use Rattle.tagged.specs.AlteredByte.{altered-file-refused}

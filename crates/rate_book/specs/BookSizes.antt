@@ -4,7 +4,7 @@ use mathlib.Core.Path.{_≡_}
 use mathlib.Core.List.{List, []}
 use native.Mathlib.Omega.{arith}
 use lib.ListN.{length, getD}
-use Rattle.tagged.specs.Walk.{leastOf, FieldsWalk}
+use Rattle.field_walk.specs.Walk.{leastOf, FieldsWalk}
 use Rattle.tagged.specs.Find.{fieldValue, fieldStart}
 use Rattle.tagged.specs.WalkFinds.{Sized, walk-sized}
 use Rattle.book_zones.specs.Rows.{bookRows, book-rows-rise}

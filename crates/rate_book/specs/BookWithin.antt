@@ -7,7 +7,7 @@ use lib.ListN.{length, getD}
 use borrow.Author.Tests.{ltb-true, leb-true}
 use Rattle.numbers.specs.BigEndian.{Bytes, numberAt}
 use Rattle.numbers.specs.BigEndianLaws.{Bytes-take, numberAt-below}
-use Rattle.tagged.specs.Walk.{FieldsWalk}
+use Rattle.field_walk.specs.Walk.{FieldsWalk}
 use Rattle.tagged.specs.Find.{firstPlace, fieldValue, fieldStart}
 use Rattle.tagged.specs.WalkFinds.{Bytes-part}
 use Rattle.tagged.specs.File.{fieldsPart}

@@ -19,7 +19,7 @@ ghost use lib.ListN.{length};
 ghost use Rattle.tagged.specs.File.{standing, fieldsPart};
 ghost use Rattle.tagged.specs.declared.file.Standing.the-variants.{Stands};
 ghost use Rattle.book_zones.specs.Rows.{bookRows};
-ghost use Rattle.tagged.specs.Walk.{FieldsWalk};
+ghost use Rattle.field_walk.specs.Walk.{FieldsWalk};
 ghost use Rattle.book_zones.specs.Zones.{zoneRates};
 ghost use Rattle.rate_book.specs.Book.{sumFrom, judgeSums, judgeTerms, judgeBook, bookValues, noBook, refusedBook, bookOf};
 

@@ -5,7 +5,7 @@ use mathlib.Core.List.{List, []}
 use native.Mathlib.Omega.{arith}
 use lib.ListN.{length, getD}
 use lib.Dec.{lit<, lit≤}
-use Rattle.tagged.specs.Walk.{leastOf, FieldsWalk}
+use Rattle.field_walk.specs.Walk.{leastOf, FieldsWalk}
 use Rattle.tagged.specs.Find.{fieldValue}
 use Rattle.tagged.specs.WalkFinds.{Sized, walk-sized}
 use Rattle.request.specs.Rows.{requestRows, request-rows-rise}

@@ -15,7 +15,7 @@ use tagged::file::Standing;
 ghost use mathlib.Core.Path.{_≡_};
 ghost use Prim.Native.Nat.{_+_, _*_, _<_, _≤_};
 ghost use lib.ListN.{length};
-ghost use Rattle.tagged.specs.Walk.{FieldsWalk};
+ghost use Rattle.field_walk.specs.Walk.{FieldsWalk};
 ghost use Rattle.request.specs.Rows.{requestRows};
 ghost use Rattle.request.specs.Request.{judgeCharges, judgeRequest, modesIn, fiveFrom, requestValues, noRequest, refusedRequest, requestOf};
 

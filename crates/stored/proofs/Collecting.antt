@@ -4,7 +4,7 @@ use mathlib.Core.Path.{_≡_, refl, sym, ap, ap₂, subst, _∙_}
 use mathlib.Core.List.{List, [], _∷_, _++_, map, append-assoc, append-nil, List·Memᴰ, List·Memᴰ·head, List·Memᴰ·tail}
 use native.Mathlib.Omega.{arith}
 use lib.ListN.{length, getD, set, drop, length-append, length-take, length-drop}
-use Rattle.tagged.specs.Walk.{FieldAt, FieldsWalk, valueOf}
+use Rattle.field_walk.specs.Walk.{FieldAt, FieldsWalk, valueOf}
 use Rattle.tagged.specs.Find.{fieldsOf, fieldsWith, valuePlace, restPlace, partOf}
 use Rattle.tagged.specs.FieldsWith.{with-this, with-past}
 use Rattle.tagged.specs.WalkFacts.{Fields, walk-fields}

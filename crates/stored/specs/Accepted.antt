@@ -11,7 +11,7 @@ use lib.Dec.{leb, eqb}
 use borrow.Author.Tests.{leb-true, leb-false, eq-eqb, ne-eqb}
 use Rattle.numbers.specs.BigEndian.{Bytes}
 use Rattle.numbers.specs.BigEndianLaws.{Bytes-take, Bytes-drop}
-use Rattle.tagged.specs.Walk.{FieldAt, valueOf, FieldsWalk}
+use Rattle.field_walk.specs.Walk.{FieldAt, valueOf, FieldsWalk}
 use Rattle.tagged.specs.Find.{fieldsOf, firstWith, firstPlace, partOf, fieldStart, fieldValue}
 use Rattle.tagged.specs.File.{fieldsPart}
 use Rattle.tagged.specs.FileLaws.{FileStands, stands-means}

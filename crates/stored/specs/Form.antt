@@ -2,7 +2,7 @@
 use Prim.Native.Nat.{ℕ, _+_, _*_}
 use mathlib.Core.List.{List, [], _∷_, _++_, map}
 use lib.ListN.{length, take, replicate}
-use Rattle.tagged.specs.Walk.{FieldAt, valueOf}
+use Rattle.field_walk.specs.Walk.{FieldAt, valueOf}
 use Rattle.tagged.specs.Find.{fieldsOf, fieldsWith, fieldValue}
 use Rattle.tagged.specs.WalkFinds.{closed}
 use Rattle.ledger.specs.Records.{noScheme}

@@ -5,7 +5,7 @@ use mathlib.Core.List.{List, [], _∷_, _++_, append-nil, map, List·Memᴰ, Mem
 use mathlib.Core.Bool.{true}
 use native.Mathlib.Omega.{arith}
 use lib.ListN.{length, getD, take, drop, length-map, length-take, take-append-drop}
-use Rattle.tagged.specs.Walk.{tagOf, permittedBy, fields, walk}
+use Rattle.field_walk.specs.Walk.{tagOf, permittedBy, fields, walk}
 use Rattle.tagged.specs.Find.{fieldsOf, firstWith, partOf, fieldValue}
 use Rattle.tagged.specs.File.{fieldsPart, standing}
 use Rattle.tagged.specs.WalkFacts.{Stand, end}

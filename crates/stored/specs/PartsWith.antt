@@ -4,7 +4,7 @@ use mathlib.Core.Path.{_≡_, refl, ap, ap₂, subst, _∙_}
 use mathlib.Core.List.{List, [], _∷_, _++_, append-nil, map, List·Memᴰ, List·Memᴰ·head, List·Memᴰ·tail}
 use native.Mathlib.Omega.{arith}
 use lib.ListN.{length, getD, drop}
-use Rattle.tagged.specs.Walk.{FieldAt, valueOf}
+use Rattle.field_walk.specs.Walk.{FieldAt, valueOf}
 use Rattle.tagged.specs.Find.{fieldsWith}
 use Rattle.tagged.specs.FieldsWith.{with-this, with-past}
 use Rattle.tagged.specs.WalkFinds.{partsOf}

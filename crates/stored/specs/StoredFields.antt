@@ -4,7 +4,7 @@ use mathlib.Core.Path.{_≡_, refl, ap, subst, _∙_}
 use mathlib.Core.List.{List, [], _∷_, _++_, append-nil, List·Memᴰ}
 use native.Mathlib.Omega.{arith}
 use lib.ListN.{length, getD, length-map}
-use Rattle.tagged.specs.Walk.{FieldAt, FieldsWalk, lowestOf, highestOf}
+use Rattle.field_walk.specs.Walk.{FieldAt, FieldsWalk, lowestOf, highestOf}
 use Rattle.tagged.specs.Find.{fieldsOf, fieldsWith, fieldValue}
 use Rattle.tagged.specs.FieldsWith.{with-past, with-append, with-all, with-none, with-among}
 use Rattle.tagged.specs.WalkFacts.{OfRow, Stand-once, Stand-repeated, Stand-last, walk-stands, permitted-length}

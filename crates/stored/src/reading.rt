@@ -11,7 +11,7 @@ use tagged::file::Standing;
 ghost use mathlib.Core.Path.{_≡_};
 ghost use Prim.Native.Nat.{_≤_};
 ghost use lib.ListN.{length};
-ghost use Rattle.tagged.specs.Walk.{FieldsWalk};
+ghost use Rattle.field_walk.specs.Walk.{FieldsWalk};
 ghost use Rattle.ledger.specs.Records.{noParties};
 ghost use Rattle.stored.specs.Rows.{storedRows};
 ghost use Rattle.stored.specs.Layout.{placed};

@@ -7,9 +7,9 @@ use lib.ListN.{length, getD}
 use lib.Dec.{ltb}
 use borrow.Author.Tests.{leb-true, eq-eqb, ne-eqb}
 use Rattle.tagged.specs.declared.find.Place.the-variants.{At, Nowhere}
-use Rattle.tagged.specs.Walk.{lengthAt}
+use Rattle.field_walk.specs.Walk.{lengthAt}
 use Rattle.tagged.specs.Find.{wholeField, fieldsFrom, firstWith, firstPlace}
-use Rattle.tagged.proofs.Rest.{restFrom, rest-from-drop, SoFar, at-start, one-field-on}
+use Rattle.field_walk.proofs.Rest.{restFrom, rest-from-drop, SoFar, at-start, one-field-on}
 
 second-true : (first second : Bool) → cond first false second ≡ true → second ≡ true
 second-true true second e = absurd (true≢false (sym e))

@@ -12,7 +12,7 @@ use Rattle.numbers.specs.BigEndian.{Bytes, number, bytesOf}
 use Rattle.numbers.specs.BigEndianLaws.{Bytes-take, Bytes-drop, length-bytesOf, number-of-bytesOf, bytesOf-number}
 use Rattle.numbers.specs.Check.{check}
 use Rattle.numbers.specs.CheckLaws.{check-below}
-use Rattle.tagged.specs.Walk.{FieldAt, fields, walk}
+use Rattle.field_walk.specs.Walk.{FieldAt, fields, walk}
 use Rattle.tagged.specs.WalkFinds.{joined, closed, partsOf, walk-tiles}
 use Rattle.tagged.specs.WalkFacts.{by-test}
 use Rattle.tagged.specs.File.{tailStands, checkStands, fieldsPart, ofWalk, standing}

@@ -6,7 +6,7 @@ use mathlib.Core.Logic.{⊎-elim}
 use mathlib.Core.Bool.{Bool, true, false, cond}
 use lib.Dec.{eqb}
 use borrow.Author.Tests.{eq-eqb, ne-eqb}
-use Rattle.tagged.specs.Walk.{FieldAt}
+use Rattle.field_walk.specs.Walk.{FieldAt}
 use Rattle.tagged.specs.Find.{fieldsWith}
 
 module _ (tag : ℕ) where

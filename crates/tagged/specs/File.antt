@@ -6,7 +6,7 @@ use lib.ListN.{length, getD, take}
 use lib.Dec.{ltb, eqb}
 use Rattle.numbers.specs.BigEndian.{numberAt}
 use Rattle.numbers.specs.Check.{check}
-use Rattle.tagged.specs.Walk.{Walk, walk, fields, stops}
+use Rattle.field_walk.specs.Walk.{Walk, walk, fields, stops}
 use Rattle.tagged.specs.declared.file.Refusal.{Refusal}
 use Rattle.tagged.specs.declared.file.Standing.{Standing}
 use Rattle.tagged.specs.declared.file.Standing.the-variants.{Stands, Refused}

@@ -9,7 +9,7 @@ use native.Mathlib.Omega.{arith}
 use lib.ListN.{length}
 use lib.Dec.{ltb}
 use borrow.Author.Tests.{ltb-false}
-use Rattle.tagged.specs.Walk.{FieldAt, Walk, fields, stops, walk}
+use Rattle.field_walk.specs.Walk.{FieldAt, Walk, fields, stops, walk}
 use Rattle.tagged.specs.File.{tailStands, checkStands, fieldsPart, refusal, ofWalk, standing}
 use Rattle.tagged.specs.declared.file.Refusal.{Refusal}
 use Rattle.tagged.specs.declared.file.Standing.{Standing}

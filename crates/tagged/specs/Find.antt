@@ -7,7 +7,7 @@ use mathlib.Core.Bool.{Bool, false, cond}
 use lib.ListN.{length, getD, take, drop}
 use lib.Dec.{ltb, leb, eqb}
 use denote.Ref.{RefT}
-use Rattle.tagged.specs.Walk.{FieldAt, lengthAt}
+use Rattle.field_walk.specs.Walk.{FieldAt, lengthAt}
 use Rattle.tagged.specs.declared.find.Place.{Place}
 use Rattle.tagged.specs.declared.find.Place.the-variants.{At, Nowhere}
 

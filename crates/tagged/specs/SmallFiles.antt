@@ -4,7 +4,7 @@ use mathlib.Core.Path.{_≡_, refl}
 use mathlib.Core.List.{List, [], _∷_, map}
 use Rattle.numbers.specs.BigEndian.{number}
 use Rattle.numbers.specs.Check.{checkFrom}
-use Rattle.tagged.specs.Walk.{dueFrom, allHad, frontOf, walkFrom}
+use Rattle.field_walk.specs.Walk.{dueFrom, allHad, frontOf, walkFrom}
 use Rattle.tagged.specs.File.{refusal, standing}
 use Rattle.tagged.specs.declared.file.Standing.{Standing}
 use Rattle.tagged.specs.declared.file.Standing.the-variants.{Stands, Refused}

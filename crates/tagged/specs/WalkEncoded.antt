@@ -12,10 +12,10 @@ use lib.Dec.{ltb, eqb}
 use borrow.Author.Tests.{le-ltb, le-leb, lt-ltb, eq-eqb, ne-eqb}
 use Rattle.numbers.specs.BigEndian.{number, bytesOf}
 use Rattle.numbers.specs.BigEndianLaws.{length-bytesOf, number-of-bytesOf}
-use Rattle.tagged.specs.Walk.{tagOf, leastOf, mostOf, highestOf, dueFrom, allHad, permittedBy, frontOf, FieldAt, fields, walkFrom, walk}
+use Rattle.field_walk.specs.Walk.{tagOf, leastOf, mostOf, highestOf, dueFrom, allHad, permittedBy, frontOf, FieldAt, fields, walkFrom, walk}
 use Rattle.tagged.specs.WalkFacts.{Stand, end, next-row, field, StandsAt, Fields, none, first, permitted-length, both-hold, rest-tag}
 use Rattle.tagged.specs.WalkFinds.{joined, partsOf, walk-seen, tagsAbove, risingTags, rising-rest}
-use Rattle.tagged.specs.declared.walk.Due.the-variants.{Row}
+use Rattle.field_walk.specs.declared.walk.Due.the-variants.{Row}
 
 -- a field that stands by rows above a tag is above it
 Stand-above : {rows : List (List ℕ)} {n : ℕ} {f : FieldAt} {fs : List FieldAt} → Stand rows n (f ∷ fs) → (tag : ℕ) → tagsAbove tag rows ≡ true → tag < f .tag

@@ -12,11 +12,11 @@ use lib.Seq.{getD-drop, drop-drop}
 use lib.Dec.{ltb, leb, eqb}
 use borrow.Author.Tests.{ltb-true, ltb-false, leb-true, eqb-true}
 use Rattle.numbers.specs.BigEndian.{number, numberAt}
-use Rattle.tagged.specs.Walk.{tagOf, lowestOf, highestOf, stepOf, leastOf, mostOf, dueFrom, allHad, permittedBy, lengthAt, fieldOf, frontOf, FieldAt, Walk, fields, stops, andThen, onFront, walkFrom, walk}
-use Rattle.tagged.specs.declared.walk.Due.{Due}
-use Rattle.tagged.specs.declared.walk.Due.the-variants.{Row, NotDue}
-use Rattle.tagged.specs.declared.walk.Front.{Front}
-use Rattle.tagged.specs.declared.walk.Front.the-variants.{End, Field, CannotStand}
+use Rattle.field_walk.specs.Walk.{tagOf, lowestOf, highestOf, stepOf, leastOf, mostOf, dueFrom, allHad, permittedBy, lengthAt, fieldOf, frontOf, FieldAt, Walk, fields, stops, andThen, onFront, walkFrom, walk}
+use Rattle.field_walk.specs.declared.walk.Due.{Due}
+use Rattle.field_walk.specs.declared.walk.Due.the-variants.{Row, NotDue}
+use Rattle.field_walk.specs.declared.walk.Front.{Front}
+use Rattle.field_walk.specs.declared.walk.Front.the-variants.{End, Field, CannotStand}
 
 -- The fields stand by the rows, where n fields of the first row have come before them.
 pub data Stand : List (List ℕ) → ℕ → List FieldAt → Type 0 where

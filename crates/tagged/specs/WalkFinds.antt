@@ -12,7 +12,7 @@ use lib.Dec.{ltb, eqb}
 use borrow.Author.Tests.{le-ltb, le-leb, lt-ltb, eq-eqb, ne-eqb}
 use Rattle.numbers.specs.BigEndian.{Bytes, number, bytesOf}
 use Rattle.numbers.specs.BigEndianLaws.{Bytes-take, Bytes-drop, bytesOf-number}
-use Rattle.tagged.specs.Walk.{tagOf, lowestOf, highestOf, stepOf, leastOf, permittedBy, lengthAt, FieldAt, valueOf, fields, walk, FieldsWalk}
+use Rattle.field_walk.specs.Walk.{tagOf, lowestOf, highestOf, stepOf, leastOf, permittedBy, lengthAt, FieldAt, valueOf, fields, walk, FieldsWalk}
 use Rattle.tagged.specs.Find.{wholeField, fieldsFrom, fieldsOf, firstWith, firstPlace, valuePlace, restPlace, partOf, startOf, fieldValue, fieldStart}
 use Rattle.tagged.specs.WalkFacts.{Stand, end, next-row, field, StandsAt, Fields, none, first, walk-stands, walk-fields, both-hold, rest-tag, rest-length, permitted-length}
 use Rattle.numbers.specs.Check.{check}

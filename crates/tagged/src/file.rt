@@ -1,6 +1,6 @@
 // A whole file's first steps, in document 01's order: its last five bytes, its check, its fields.
-use crate::walk::Row;
-use crate::walk::Walked;
+use field_walk::walk::Row;
+use field_walk::walk::Walked;
 ghost use mathlib.Core.Path.{_≡_};
 ghost use Prim.Native.Nat.{_≤_};
 ghost use lib.ListN.{length};
@@ -77,7 +77,7 @@ pub fn file_stands(rows: &[Row], number: u8, file: &[u8]) -> Standing
     if !check_stands(file) {
         return refused(2, number, checked);
     }
-    let ended = crate::walk::walk(rows, fields_part(file));
+    let ended = field_walk::walk::walk(rows, fields_part(file));
     match ended {
         Walked::Walks => Standing::Stands,
         Walked::Stops(at) => refused(1, number, at),

@@ -1,7 +1,7 @@
 use mathlib.Core.Path.{_≡_, sym, ap, ap₂, subst, subst₂, _∙_}
 use denote.Ref.{now}
 use Rattle.numbers.specs.BigEndian.{Bytes}
-use Rattle.tagged.specs.Walk.{FieldsWalk}
+use Rattle.field_walk.specs.Walk.{FieldsWalk}
 use Rattle.tagged.specs.File.{standing, fieldsPart}
 use Rattle.tagged.specs.declared.file.Standing.the-variants.{Stands}
 use Rattle.book_zones.specs.Rows.{bookRows}

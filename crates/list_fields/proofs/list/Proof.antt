@@ -4,7 +4,7 @@ use mathlib.Core.Bool.{Bool, true, false, cond}
 use native.Mathlib.Omega.{arith}
 use lib.ListN.{length, length-take}
 use borrow.Author.Needs.{needs}
-use Rattle.tagged.specs.Walk.{lengthAt}
+use Rattle.field_walk.specs.Walk.{lengthAt}
 use Rattle.tagged.specs.Find.{wholeField, partOf}
 use Rattle.tagged.specs.declared.find.Place.the-variants.{At, Nowhere}
 use Rattle.list_fields.proofs.list.Statement.{statement}

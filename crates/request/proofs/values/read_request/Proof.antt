@@ -1,6 +1,6 @@
 use mathlib.Core.Path.{_≡_, sym, ap, _∙_}
 use borrow.Author.Needs.{needs}
-use Rattle.tagged.specs.Walk.{walk}
+use Rattle.field_walk.specs.Walk.{walk}
 use Rattle.tagged.specs.File.{standing}
 use Rattle.tagged.specs.FileLaws.{stands-means}
 use Rattle.tagged.specs.declared.file.Standing.the-variants.{Stands}

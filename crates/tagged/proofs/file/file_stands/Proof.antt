@@ -5,11 +5,11 @@ use mathlib.Core.Bool.{Bool, false, not}
 use native.Mathlib.Omega.{arith}
 use borrow.Author.Needs.{needs}
 use borrow.Author.Tests.{not-true, not-false}
-use Rattle.tagged.specs.Walk.{Walk, fields, stops, walk, walked}
+use Rattle.field_walk.specs.Walk.{Walk, fields, stops, walk, walked}
 use Rattle.tagged.specs.File.{tailStands, checkStands, fieldsPart, refusal, ofWalk, standing}
 use Rattle.tagged.specs.FileLaws.{tail-size, walk-decides}
-use Rattle.tagged.specs.declared.walk.Walked.{Walked}
-use Rattle.tagged.specs.declared.walk.Walked.the-variants.{Walks, Stops}
+use Rattle.field_walk.specs.declared.walk.Walked.{Walked}
+use Rattle.field_walk.specs.declared.walk.Walked.the-variants.{Walks, Stops}
 use Rattle.tagged.specs.declared.file.Standing.{Standing}
 use Rattle.tagged.specs.declared.file.Standing.the-variants.{Stands, Refused}
 use Rattle.tagged.proofs.file.file_stands.Statement.{statement}

@@ -3,8 +3,8 @@ use mathlib.Core.Path.{sym}
 use native.Mathlib.Omega.{arith}
 use lib.ListN.{length}
 use borrow.Author.Needs.{needs}
-use Rattle.tagged.specs.Walk.{lengthAt}
-use Rattle.tagged.proofs.Rest.{rest-from-shorter}
+use Rattle.field_walk.specs.Walk.{lengthAt}
+use Rattle.field_walk.proofs.Rest.{rest-from-shorter}
 use Rattle.tagged.proofs.Finding.{SearchSoFar, whole-fits, search-starts, search-ends, search-finds, search-goes-on}
 use Rattle.tagged.proofs.find.place_of.Statement.{statement}
 use Rattle.tagged.proofs.find.place_of.Tie as tie

@@ -1,7 +1,7 @@
 use borrow.Author.Tests.{lt-ltb, le-ltb, eq-eqb, ne-eqb}
 use borrow.Author.Needs.{needs}
-use Rattle.tagged.proofs.walk.permitted.Statement.{statement}
-use Rattle.tagged.proofs.walk.permitted.Tie as tie
+use Rattle.field_walk.proofs.walk.permitted.Statement.{statement}
+use Rattle.field_walk.proofs.walk.permitted.Tie as tie
 
 mul-wide : tie.Need-mul-wide
 mul-wide c = search needs

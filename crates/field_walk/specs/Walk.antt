@@ -8,12 +8,12 @@ use mathlib.Core.Bool.{Bool, true, false, cond}
 use lib.ListN.{length, getD, take, drop}
 use lib.Dec.{ltb, leb, eqb}
 use Rattle.numbers.specs.BigEndian.{numberAt}
-use Rattle.tagged.specs.declared.walk.Due.{Due}
-use Rattle.tagged.specs.declared.walk.Due.the-variants.{Row, NotDue}
-use Rattle.tagged.specs.declared.walk.Front.{Front}
-use Rattle.tagged.specs.declared.walk.Front.the-variants.{End, Field, CannotStand}
-use Rattle.tagged.specs.declared.walk.Walked.{Walked}
-use Rattle.tagged.specs.declared.walk.Walked.the-variants.{Walks, Stops}
+use Rattle.field_walk.specs.declared.walk.Due.{Due}
+use Rattle.field_walk.specs.declared.walk.Due.the-variants.{Row, NotDue}
+use Rattle.field_walk.specs.declared.walk.Front.{Front}
+use Rattle.field_walk.specs.declared.walk.Front.the-variants.{End, Field, CannotStand}
+use Rattle.field_walk.specs.declared.walk.Walked.{Walked}
+use Rattle.field_walk.specs.declared.walk.Walked.the-variants.{Walks, Stops}
 
 -- A row: tag, lowest, highest and step of length, how often at least and at most.
 abbrev pub tagOf : List ℕ → ℕ

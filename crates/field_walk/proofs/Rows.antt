@@ -7,8 +7,8 @@ use native.Mathlib.Numerals.{add-one}
 use lib.ListN.{length, getD, drop, drop-of-length-le}
 use lib.Seq.{drop-cons}
 use lib.Dec.{ltb, eqb}
-use Rattle.tagged.specs.Walk.{dueFrom, allHad, tagOf, mostOf, leastOf}
-use Rattle.tagged.specs.declared.walk.Due.the-variants.{Row, NotDue}
+use Rattle.field_walk.specs.Walk.{dueFrom, allHad, tagOf, mostOf, leastOf}
+use Rattle.field_walk.specs.declared.walk.Due.the-variants.{Row, NotDue}
 
 module _ (rows : List (List ℕ)) (k n : ℕ) where
   pub due-at : (tag : ℕ) → k < length rows →

@@ -3,7 +3,7 @@ ghost use mathlib.Core.Path.{_≡_};
 ghost use mathlib.Core.List.{[]};
 ghost use Prim.Native.Nat.{_<_};
 ghost use lib.ListN.{length, getD, drop};
-ghost use Rattle.tagged.specs.Walk.{dueFrom, allHad, permittedBy, frontOf, walk, walked, RowBelow, EndsWithin};
+ghost use Rattle.field_walk.specs.Walk.{dueFrom, allHad, permittedBy, frontOf, walk, walked, RowBelow, EndsWithin};
 
 // A row of a kind's table: tag; lowest, highest and step of length; least and most times.
 pub type Row = [u16; 6];

@@ -3,10 +3,10 @@ use mathlib.Core.Path.{_≡_, refl, _∙_}
 use mathlib.Core.List.{List}
 use Prim.Native.Nat.{ℕ, _+_, _≤_}
 use lib.ListN.{length}
-use Rattle.tagged.specs.declared.walk.Front.the-variants.{End, Field, CannotStand}
-use Rattle.tagged.specs.declared.walk.Walked.the-variants.{Walks, Stops}
-use Rattle.tagged.specs.Walk.{frontOf, walkFrom, walk, walked, Walk, fields, stops, andThen, FieldAt}
-use Rattle.tagged.proofs.Rest.{restFrom, rest-from-drop, SoFar, at-start, one-field-on}
+use Rattle.field_walk.specs.declared.walk.Front.the-variants.{End, Field, CannotStand}
+use Rattle.field_walk.specs.declared.walk.Walked.the-variants.{Walks, Stops}
+use Rattle.field_walk.specs.Walk.{frontOf, walkFrom, walk, walked, Walk, fields, stops, andThen, FieldAt}
+use Rattle.field_walk.proofs.Rest.{restFrom, rest-from-drop, SoFar, at-start, one-field-on}
 
 abbrev pub WalkSoFar : List (List ℕ) → List ℕ → List ℕ → ℕ → ℕ → ℕ → Type 0
 WalkSoFar rows file rest at row count = SoFar (walked (walk rows file)) file rest at (λ most. walked (walkFrom most rows row count at rest))

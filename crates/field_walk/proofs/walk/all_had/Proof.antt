@@ -3,10 +3,10 @@ use mathlib.Core.Path.{_≡_}
 use lib.ListN.{length, drop}
 use borrow.Author.Tests.{lt-ltb, le-ltb}
 use borrow.Author.Needs.{needs}
-use Rattle.tagged.specs.Walk.{allHad}
-use Rattle.tagged.proofs.Rows.{had-at, had-past}
-use Rattle.tagged.proofs.walk.all_had.Statement.{statement}
-use Rattle.tagged.proofs.walk.all_had.Tie as tie
+use Rattle.field_walk.specs.Walk.{allHad}
+use Rattle.field_walk.proofs.Rows.{had-at, had-past}
+use Rattle.field_walk.proofs.walk.all_had.Statement.{statement}
+use Rattle.field_walk.proofs.walk.all_had.Tie as tie
 
 abbrev Inv-loop : tie.InvT-loop
 Inv-loop rows from had row₀ count₀ row count = allHad (drop from rows) had ≡ allHad (drop row rows) count

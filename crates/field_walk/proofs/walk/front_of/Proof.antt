@@ -2,10 +2,10 @@ use mathlib.Core.Path.{subst}
 use lib.ListN.{length}
 use borrow.Author.Tests.{lt-ltb, le-ltb, eq-eqb, ne-eqb, lt-leb, le-leb}
 use borrow.Author.Needs.{needs}
-use Rattle.tagged.specs.declared.walk.Due.{Due}
-use Rattle.tagged.specs.Walk.{frontOf, RowBelow}
-use Rattle.tagged.proofs.walk.front_of.Statement.{statement}
-use Rattle.tagged.proofs.walk.front_of.Tie as tie
+use Rattle.field_walk.specs.declared.walk.Due.{Due}
+use Rattle.field_walk.specs.Walk.{frontOf, RowBelow}
+use Rattle.field_walk.proofs.walk.front_of.Statement.{statement}
+use Rattle.field_walk.proofs.walk.front_of.Tie as tie
 
 all-had-requires : tie.Need-all-had-requires
 all-had-requires c κs = search needs

@@ -3,10 +3,10 @@ use mathlib.Core.Path.{_≡_}
 use lib.ListN.{length, drop}
 use borrow.Author.Tests.{lt-ltb, le-ltb, eq-eqb, ne-eqb}
 use borrow.Author.Needs.{needs}
-use Rattle.tagged.specs.Walk.{dueFrom}
-use Rattle.tagged.proofs.Rows.{due-at, due-past}
-use Rattle.tagged.proofs.walk.row_due.Statement.{statement}
-use Rattle.tagged.proofs.walk.row_due.Tie as tie
+use Rattle.field_walk.specs.Walk.{dueFrom}
+use Rattle.field_walk.proofs.Rows.{due-at, due-past}
+use Rattle.field_walk.proofs.walk.row_due.Statement.{statement}
+use Rattle.field_walk.proofs.walk.row_due.Tie as tie
 
 abbrev Inv-loop : tie.InvT-loop
 Inv-loop rows from had tag row₀ count₀ row count = dueFrom (drop from rows) from had tag ≡ dueFrom (drop row rows) row count tag

@@ -3,12 +3,12 @@ use mathlib.Core.Path.{sym, subst, _∙_}
 use native.Mathlib.Omega.{arith}
 use lib.ListN.{length}
 use borrow.Author.Needs.{needs}
-use Rattle.tagged.specs.declared.walk.Front.{Front}
-use Rattle.tagged.specs.Walk.{EndsWithin}
-use Rattle.tagged.proofs.Rest.{rest-from-shorter}
-use Rattle.tagged.proofs.Walking.{WalkSoFar, walk-starts, walk-ends, walk-stops, walk-goes-on}
-use Rattle.tagged.proofs.walk.walk.Statement.{statement}
-use Rattle.tagged.proofs.walk.walk.Tie as tie
+use Rattle.field_walk.specs.declared.walk.Front.{Front}
+use Rattle.field_walk.specs.Walk.{EndsWithin}
+use Rattle.field_walk.proofs.Rest.{rest-from-shorter}
+use Rattle.field_walk.proofs.Walking.{WalkSoFar, walk-starts, walk-ends, walk-stops, walk-goes-on}
+use Rattle.field_walk.proofs.walk.walk.Statement.{statement}
+use Rattle.field_walk.proofs.walk.walk.Tie as tie
 
 abbrev Inv-loop : tie.InvT-loop
 Inv-loop rows fields rest₀ at₀ row₀ count₀ rest at row count = WalkSoFar rows fields rest at row count

@@ -1,0 +1,3 @@
+pub mod Rest
+pub mod Rows
+pub mod Walking
