@@ -21,8 +21,8 @@ HEADER = """\
 What each crate and each edit of it takes to prove. An edit proves its whole crate again, so a crate's time counts once for itself and once for each
 of its edits. Written by `python3 tools/times.py target/gate.log` from the log that `.ci/run` leaves.
 
-A crate's time is that of its functions: 0.3 to 4 seconds each by the size of their code, and about 2 seconds to start. A file of theorems takes some
-hundredths of a second, a computed table up to 2 seconds. So a crate whose edits take long is split by its functions, not by its theorems.
+Nearly all of a crate's time is that of its functions, by the size of their code; it takes about 2 seconds to start. A file of theorems takes tenths of a
+second at most, a computed table about 2 seconds. So a crate whose edits take long is split by its functions, not by its theorems.
 
 Measured {date}; quiet machine: {quiet}.
 
