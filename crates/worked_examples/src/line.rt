@@ -1,5 +1,8 @@
 // A line of the program's text.
+use crate::printed::NAMES;
 use libc::STDOUT_FILENO;
+ghost use Prim.Native.Nat.{_≤_};
+ghost use lib.ListN.{length};
 
 // A figure with its sign: `negative` is 1 or 0.
 pub struct SignedFigure {
@@ -24,6 +27,20 @@ pub fn signed(n: i64) -> SignedFigure {
     unsigned(n as u64)
 }
 
+// The bytes from a place up to the next blank.
+pub fn word(text: &[u8], start: usize) -> &[u8]
+    requires { ⌜ start ≤ length (now text) ⌝ }
+{
+    let mut end = start;
+    while end < text.len() {
+        if text[end] == b' ' {
+            return &text[start..end];
+        }
+        end += 1;
+    }
+    &text[start..]
+}
+
 pub fn write(text: &[u8]) {
     io::write_all(STDOUT_FILENO, text);
 }
@@ -44,20 +61,8 @@ pub fn write_signed(n: SignedFigure) {
 // A blank and a figure's name.
 pub fn write_name(figure: u64) {
     write(b" ");
-    match figure {
-        crate::printed::IDR => write(b"IDR"),
-        crate::printed::ITR => write(b"ITR"),
-        crate::printed::MC => write(b"MC"),
-        crate::printed::CC2 => write(b"CC2"),
-        crate::printed::CC => write(b"CC"),
-        crate::printed::BORNE => write(b"BORNE"),
-        crate::printed::IC => write(b"IC"),
-        crate::printed::IR => write(b"IR"),
-        crate::printed::NIC => write(b"NIC"),
-        crate::printed::NC => write(b"NC"),
-        crate::printed::RELIANCE => write(b"RELIANCE"),
-        crate::printed::UPFRONT => write(b"UPFRONT"),
-        _ => write(b"NCRATIO"),
+    if figure < 13 {
+        write(word(&NAMES, figure as usize * 9));
     }
 }
 

@@ -13,6 +13,7 @@ use charge::Pricing;
 use line::SignedFigure;
 use line::signed;
 use line::unsigned;
+use line::word;
 use line::write;
 use line::write_number;
 use line::write_signed;
@@ -25,15 +26,8 @@ use tagged::file::Refusal;
 use tagged::file::Standing;
 use tolerance::Bounds;
 use tolerance::capped;
+ghost use Rattle.io.specs.Counts.{Counts};
 ghost use Rattle.rate_book.specs.BookWithin.{BookWithin};
-
-// An example's pricing, and how far its figures may lie off.
-struct Example {
-    pricing: Pricing,
-    bounds: Bounds,
-    // whether the share was fitted to the charge
-    fitted: bool,
-}
 
 struct Tally {
     figures: u64,
@@ -116,28 +110,53 @@ fn one_more(n: u64, counts: bool) -> u64 {
     if counts { capped(n) + 1 } else { n }
 }
 
-// A printed figure against the computed one, which may lie off by the bound besides.
-fn compared(
-    name: &[u8],
+fn write_example(pricing: usize) {
+    if pricing < 23 {
+        write(word(&printed::FILES, pricing * printed::ROW));
+    }
+}
+
+// The bytes of the file that a pricing's row names in a column.
+fn read_column(pricing: usize, column: usize, space: &mut [u8]) -> usize
+    ensures { λ r. ⌜ Counts r (now (space .exit)) ⌝ }
+{
+    if pricing < 23 {
+        if column < printed::ROW {
+            let place = pricing * printed::ROW + column;
+            return files::read_file(word(&printed::FILES, place), space);
+        }
+    }
+    0
+}
+
+// A printed figure, where it is of this pricing, against the computed one, which may lie off by the
+// bound besides.
+fn held_figure(
+    pricing: usize,
     row: Printed,
-    computed: SignedFigure,
-    bound: u64,
-    no_evidence: bool,
+    r: Reconciliation,
+    bounds: Bounds,
+    fitted: bool,
     tally: Tally,
 ) -> Tally {
-    let half = capped(row[3] / 2);
-    let tolerance = half + capped(bound);
+    if row.pricing != pricing as u64 {
+        return tally;
+    }
+    let figure = row.figure;
     let printed = SignedFigure {
-        negative: row[1],
-        size: row[2],
+        negative: row.negative,
+        size: row.size,
     };
+    let computed = computed_figure(r, figure);
+    let half = capped(row.unit / 2);
+    let tolerance = half + capped(bound_of(bounds, figure));
     let off = distance(printed, computed);
-    write(name);
-    line::write_name(row[0]);
+    write_example(pricing);
+    line::write_name(figure);
     write_signed(printed);
     write_signed(computed);
     write_signed(unsigned(tolerance));
-    line::write_marks(off <= tolerance, off <= half, no_evidence);
+    line::write_marks(off <= tolerance, off <= half, no_evidence(fitted, figure));
     Tally {
         figures: one_more(tally.figures, true),
         within: one_more(tally.within, off <= tolerance),
@@ -145,24 +164,8 @@ fn compared(
     }
 }
 
-fn held_figure(
-    name: &[u8],
-    row: Printed,
-    r: Reconciliation,
-    bounds: Bounds,
-    fitted: bool,
-    tally: Tally,
-) -> Tally {
-    let figure = row[0];
-    let computed = computed_figure(r, figure);
-    let bound = bound_of(bounds, figure);
-    let marked = no_evidence(fitted, figure);
-    compared(name, row, computed, bound, marked, tally)
-}
-
 fn held_figures(
-    name: &[u8],
-    rows: &[Printed],
+    pricing: usize,
     r: Reconciliation,
     bounds: Bounds,
     fitted: bool,
@@ -170,39 +173,25 @@ fn held_figures(
 ) -> Tally {
     let mut sum = tally;
     let mut k: usize = 0;
-    while k < rows.len() {
-        sum = held_figure(name, rows[k], r, bounds, fitted, sum);
+    while k < 131 {
+        sum = held_figure(pricing, printed::figure(k), r, bounds, fitted, sum);
         k += 1;
     }
     sum
 }
 
 // A refused example counts as one figure that isn't within.
-fn refused(name: &[u8], refusal: Refusal, tally: Tally) -> Tally {
-    write(name);
-    write(b" REFUSED ");
-    write_number(refusal.number as u64);
-    write(b" ");
-    write_number(refusal.file as u64);
-    write(b" ");
-    write_number(refusal.place as u64);
+fn refused(pricing: usize, refusal: Refusal, tally: Tally) -> Tally {
+    write_example(pricing);
+    write(b" REFUSED");
+    write_signed(unsigned(refusal.number as u64));
+    write_signed(unsigned(refusal.file as u64));
+    write_signed(unsigned(refusal.place as u64));
     write(b"\n");
     Tally {
         figures: one_more(tally.figures, true),
         within: tally.within,
         half: tally.half,
-    }
-}
-
-fn held(name: &[u8], example: Example, rows: &[Printed], tally: Tally) -> Tally {
-    let pricing = example.pricing;
-    let bounds = example.bounds;
-    match pricing {
-        Pricing::NotPriced(refusal) => refused(name, refusal, tally),
-        Pricing::Priced(bill) => {
-            let r = bill.reconciliation;
-            held_figures(name, rows, r, bounds, example.fitted, tally)
-        }
     }
 }
 
@@ -226,178 +215,55 @@ fn file_bounds(book: &[u8], request: &[u8], units: Units) -> Bounds {
     }
 }
 
-fn priced_by(book: &[u8], request_name: &[u8], units: Units) -> Example {
-    let mut space = io::buffer();
-    let size = files::read_file(request_name, &mut space);
-    let request = &space[..size];
-    Example {
-        pricing: charge::price(book, request),
-        bounds: file_bounds(book, request, units),
-        fitted: units[3] != 0,
+// The share was fitted to the charge where its unit isn't 0.
+fn held_answer(pricing: usize, answer: Pricing, bounds: Bounds, tally: Tally) -> Tally {
+    match answer {
+        Pricing::NotPriced(refusal) => refused(pricing, refusal, tally),
+        Pricing::Priced(bill) => {
+            let r = bill.reconciliation;
+            let units = printed::units(pricing);
+            held_figures(pricing, r, bounds, units[3] != 0, tally)
+        }
     }
 }
 
-fn priced(book_name: &[u8], request_name: &[u8], units: Units) -> Example {
+fn held_request(pricing: usize, book: &[u8], tally: Tally) -> Tally {
     let mut space = io::buffer();
-    let size = files::read_file(book_name, &mut space);
+    let size = read_column(pricing, printed::REQUEST, &mut space);
+    let request = &space[..size];
+    let bounds = file_bounds(book, request, printed::units(pricing));
+    let answer = charge::price(book, request);
+    held_answer(pricing, answer, bounds, tally)
+}
+
+fn held_pricing(pricing: usize, tally: Tally) -> Tally {
+    let mut space = io::buffer();
+    let size = read_column(pricing, printed::BOOK, &mut space);
     let book = &space[..size];
-    priced_by(book, request_name, units)
+    held_request(pricing, book, tally)
 }
 
-fn distribution_1a(tally: Tally) -> Tally {
-    let e = priced(
-        b"1a_rates.bin",
-        b"1a_distribution.bin",
-        printed::POSTED_CHARGE,
-    );
-    held(b"1a", e, &printed::DISTRIBUTION_1A, tally)
-}
-
-fn transmission_1a(tally: Tally) -> Tally {
-    let e = priced(
-        b"1a_rates.bin",
-        b"1a_transmission.bin",
-        printed::POSTED_CHARGE,
-    );
-    held(b"1a", e, &printed::TRANSMISSION_1A, tally)
-}
-
-fn example_1a(tally: Tally) -> Tally {
-    let e = priced(b"1a_rates.bin", b"1a_job.bin", printed::POSTED_CHARGE);
-    held(b"1a", e, &printed::EXAMPLE_1A, tally)
-}
-
-fn example_1b(tally: Tally) -> Tally {
-    let e = priced(b"1b_rates.bin", b"1b_job.bin", printed::POSTED_CHARGE);
-    held(b"1b", e, &printed::EXAMPLE_1B, tally)
-}
-
-fn example_1c(tally: Tally) -> Tally {
-    let e = priced(b"1c_rates.bin", b"1c_job.bin", printed::POSTED_CHARGE);
-    held(b"1c", e, &printed::EXAMPLE_1C, tally)
-}
-
-fn example_1d(tally: Tally) -> Tally {
-    let e = priced(b"1d_rates.bin", b"1d_job.bin", printed::NO_REVENUE);
-    held(b"1d", e, &printed::EXAMPLE_1D, tally)
-}
-
-fn distribution_1e(tally: Tally) -> Tally {
-    let e = priced(
-        b"1e_rates.bin",
-        b"1e_distribution.bin",
-        printed::INVERSE_TARIFF,
-    );
-    held(b"1e", e, &printed::DISTRIBUTION_1E, tally)
-}
-
-fn transmission_1e(tally: Tally) -> Tally {
-    let e = priced(
-        b"1e_rates.bin",
-        b"1e_transmission.bin",
-        printed::INVERSE_TARIFF,
-    );
-    held(b"1e", e, &printed::TRANSMISSION_1E, tally)
-}
-
-fn example_1e(tally: Tally) -> Tally {
-    let e = priced(b"1e_rates.bin", b"1e_job.bin", printed::INVERSE_TARIFF);
-    held(b"1e", e, &printed::EXAMPLE_1E, tally)
-}
-
-fn example_1f(tally: Tally) -> Tally {
-    let e = priced(b"1f_rates.bin", b"1f_job.bin", printed::INVERSE_TARIFF);
-    held(b"1f", e, &printed::EXAMPLE_1F, tally)
-}
-
-fn example_1g(tally: Tally) -> Tally {
-    let e = priced(b"1g_rates.bin", b"1g_job.bin", printed::INVERSE_TARIFF);
-    held(b"1g", e, &printed::EXAMPLE_1G, tally)
-}
-
-fn distribution_2a(tally: Tally) -> Tally {
-    let e = priced(b"2a_rates.bin", b"2a_distribution.bin", printed::PHASED_IN);
-    held(b"2a", e, &printed::DISTRIBUTION_2A, tally)
-}
-
-fn transmission_2a(tally: Tally) -> Tally {
-    let e = priced(b"2a_rates.bin", b"2a_transmission.bin", printed::PHASED_IN);
-    held(b"2a", e, &printed::TRANSMISSION_2A, tally)
-}
-
-fn example_2a(tally: Tally) -> Tally {
-    let e = priced(b"2a_rates.bin", b"2a_job.bin", printed::PHASED_IN);
-    held(b"2a", e, &printed::EXAMPLE_2A, tally)
-}
-
-fn example_2b(tally: Tally) -> Tally {
-    let e = priced(b"2b_rates.bin", b"2b_job.bin", printed::PHASED_IN);
-    held(b"2b", e, &printed::EXAMPLE_2B, tally)
-}
-
-fn example_3a(tally: Tally) -> Tally {
-    let e = priced(b"3a_rates.bin", b"3a_job.bin", printed::LOADING);
-    held(b"3a", e, &printed::EXAMPLE_3A, tally)
-}
-
-fn example_3b(tally: Tally) -> Tally {
-    let e = priced(b"3b_rates.bin", b"3b_job.bin", printed::BLENDED);
-    held(b"3b", e, &printed::EXAMPLE_3B, tally)
-}
-
-fn example_3c(tally: Tally) -> Tally {
-    let e = priced(b"3c_rates.bin", b"3c_job.bin", printed::LOADING);
-    held(b"3c", e, &printed::EXAMPLE_3C, tally)
-}
-
-fn example_3d(tally: Tally) -> Tally {
-    let e = priced(b"3d_rates.bin", b"3d_job.bin", printed::LOADING);
-    held(b"3d", e, &printed::EXAMPLE_3D, tally)
-}
-
-fn recast_3a(tally: Tally) -> Tally {
-    let units = printed::LOADING_RECAST;
-    let e = priced(b"3a_recast_rates.bin", b"3a_recast_job.bin", units);
-    held(b"3a*", e, &printed::RECAST_3A, tally)
-}
-
-fn recast_3b(tally: Tally) -> Tally {
-    let units = printed::BLENDED_RECAST;
-    let e = priced(b"3b_recast_rates.bin", b"3b_recast_job.bin", units);
-    held(b"3b*", e, &printed::RECAST_3B, tally)
-}
-
-fn recast_3c(tally: Tally) -> Tally {
-    let units = printed::LOADING_RECAST;
-    let e = priced(b"3c_recast_rates.bin", b"3c_recast_job.bin", units);
-    held(b"3c*", e, &printed::RECAST_3C, tally)
-}
-
-fn recast_3d(tally: Tally) -> Tally {
-    let units = printed::LOADING_RECAST;
-    let e = priced(b"3d_recast_rates.bin", b"3d_recast_job.bin", units);
-    held(b"3d*", e, &printed::RECAST_3D, tally)
-}
-
-fn main() {
-    write(b"example figure printed computed tolerance within\n");
-    let none = Tally {
+fn held_pricings() -> Tally {
+    let mut tally = Tally {
         figures: 0,
         within: 0,
         half: 0,
     };
-    let t = example_1a(transmission_1a(distribution_1a(none)));
-    let t = example_1d(example_1c(example_1b(t)));
-    let t = example_1e(transmission_1e(distribution_1e(t)));
-    let t = example_1g(example_1f(t));
-    let t = example_2a(transmission_2a(distribution_2a(t)));
-    let t = example_2b(t);
-    let t = example_3d(example_3c(example_3b(example_3a(t))));
-    let t = recast_3d(recast_3c(recast_3b(recast_3a(t))));
-    write_number(t.figures);
+    let mut pricing: usize = 0;
+    while pricing < 23 {
+        tally = held_pricing(pricing, tally);
+        pricing += 1;
+    }
+    tally
+}
+
+fn main() {
+    write(b"example figure printed computed tolerance within\n");
+    let tally = held_pricings();
+    write_number(tally.figures);
     write(b" figures, ");
-    write_number(t.within);
+    write_number(tally.within);
     write(b" within their tolerance, ");
-    write_number(t.half);
+    write_number(tally.half);
     write(b" within half the printed unit alone\n");
 }

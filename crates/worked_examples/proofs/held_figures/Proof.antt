@@ -1,23 +1,19 @@
 use Prim.Native.Nat.{_≤_, _-_}
-use lib.ListN.{length}
 use borrow.Author.Needs.{needs}
 use Rattle.worked_examples.proofs.held_figures.Statement.{statement}
 use Rattle.worked_examples.proofs.held_figures.Tie as tie
 
 abbrev Inv-loop : tie.InvT-loop
-Inv-loop name rows r bounds fitted sum₀ k₀ sum k = k ≤ length rows
+Inv-loop pricing r bounds fitted sum₀ k₀ sum k = k ≤ 131
 
 abbrev μ-loop : tie.MeasureT-loop
-μ-loop name rows r bounds fitted sum₀ k₀ sum k = length rows - k
+μ-loop pricing r bounds fitted sum₀ k₀ sum k = 131 - k
 
 loop-holds : tie.Need-loop-holds Inv-loop μ-loop
 loop-holds c = search needs
 
-mul-held-figure : tie.Need-mul-held-figure Inv-loop μ-loop
-mul-held-figure c = search needs
-
-shared-slice-copy-out-held-figure : tie.Need-shared-slice-copy-out-held-figure Inv-loop μ-loop
-shared-slice-copy-out-held-figure c = search needs
+figure-requires : tie.Need-figure-requires Inv-loop μ-loop
+figure-requires c κs = search needs
 
 held-figure-requires : tie.Need-held-figure-requires Inv-loop μ-loop
 held-figure-requires c κs = search needs
@@ -41,8 +37,7 @@ held-figures-spec =
     Inv-loop
     μ-loop
     loop-holds
-    mul-held-figure
-    shared-slice-copy-out-held-figure
+    figure-requires
     held-figure-requires
     add-k
     loop-less
