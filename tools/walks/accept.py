@@ -5,7 +5,7 @@ from writer import *
 
 def carry_out():
     """party_table::credit_each(table, entries, credits_of(plan));
-    party_table::put_one(table, entries as usize, party_of(plan));"""
+    party_table::put_each(table, entries, added_of(plan), added_count_of(plan));"""
     definitions = """\
   abbrev credited : List Party
   credited = creditEach table (take entries (plan .credits))
@@ -13,47 +13,51 @@ def carry_out():
   credited-length : length credited ≡ length table
   credited-length = length-credit-each table (take entries (plan .credits))
 
+  abbrev count : ℕ
+  count = plan .«added_count»
+
   abbrev after : List Party
-  after = set credited entries (plan .party)
+  after = sets credited entries (take count (plan .added))
 
   after-length : length after ≡ length table
-  after-length = length-set credited entries (plan .party) ∙ credited-length
-
-  wide : entries < 2 ^ 64
-  wide = omega (arith, entries-fits)
+  after-length = length-sets credited entries (take count (plan .added)) ∙ credited-length
 """
     types = [UNIT, slice_of("mut", "named 0"), U32.type, PLAN.type, UNIT, reference("mut", "erased"), slice_of("mut", "erased"), CREDITS.type]
-    types += [reference("mut", "erased"), slice_of("mut", "erased"), USIZE.type, PARTY.type]
+    types += [reference("mut", "erased"), slice_of("mut", "erased"), ADDED.type, U32.type]
+    credits_fit = "CreditsFit entries table (plan .credits)"
     walk = Walk(
         "pioneer", "carry_out", [("table", TABLE), ("entries", U32), ("plan", PLAN)], types,
-        ["credits_of", "party_of", "party_table::credit_each", "party_table::put_one"], definitions,
-        requires="(entries < 512) × (entries < length table) × CreditsFit entries table (plan .credits)",
+        ["credits_of", "added_of", "added_count_of", "party_table::credit_each", "party_table::put_each"], definitions,
+        requires=f"(entries ≤ 512) × (plan .«added_count» ≤ 2) × (entries + plan .«added_count» ≤ length table) × {credits_fit}",
         imports=[
+            "use lib.Seq.{sets, length-sets}",
             "use Rattle.ledger.specs.Table.{creditEach}",
             "use Rattle.ledger.specs.TableLaws.{length-credit-each}",
             "use Rattle.party_table.specs.PartyTable.{CreditsFit}",
         ],
     )
+    entries = ("entries", U32, "entries-fits")
     planned = ("plan", PLAN, "plan-fits")
     walk.point_again("_5", "_6")
     walk.call("credits_of", [planned], ["_3"], CREDITS, "shares", "shares ≡ plan .credits")
     shares = walk.got_value(CREDITS, "shares", "_7", "(plan .credits)")
-    arguments = [walk.lend_again(), ("entries", U32, "entries-fits"), shares]
-    fact = "(entries ≤ 512) × (entries ≤ length table) × CreditsFit entries table (plan .credits)"
-    proof = "(le-of-lt (required .0), le-of-lt (required .1), required .2)"
-    walk.call("party_table::credit_each", arguments, ["_6", "_2", "_7"], NOTHING, "done", "last .0 ≡ credited", requires=(fact, proof))
+    fact = f"(entries ≤ 512) × (entries ≤ length table) × {credits_fit}"
+    proof = "(required .0, omega (arith, required .2), required .3)"
+    arguments, read = [walk.lend_again(), entries, shares], ["_6", "_2", "_7"]
+    walk.call("party_table::credit_each", arguments, read, NOTHING, "done", "last .0 ≡ credited", requires=(fact, proof))
     walk.got_unit("done", "_4")
     walk.comes_back()
     walk.as_list("done-is")
     walk.has("table", "credited", "credited-length")
     walk.point_again("_8", "_9")
-    walk.assign("_10", f"(un ! {walk.load('_2')} (record {{ fits = wide }}))", "tt, record { fits = wide }")
-    walk.call("party_of", [planned], ["_3"], PARTY, "added", "added ≡ plan .party")
-    added = walk.got_value(PARTY, "added", "_11", "(plan .party)")
-    arguments = [walk.lend_again(), ("entries", USIZE, "wide"), added]
-    proof = "subst (λ (k : ℕ). entries < k) (sym credited-length) (required .1)"
-    requires = ("entries < length credited", proof)
-    walk.call("party_table::put_one", arguments, ["_9", "_10", "_11"], NOTHING, "put", "last .0 ≡ after", requires=requires)
+    walk.call("added_of", [planned], ["_3"], ADDED, "parties", "parties ≡ plan .added")
+    parties = walk.got_value(ADDED, "parties", "_10", "(plan .added)")
+    walk.call("added_count_of", [planned], ["_3"], U32, "many", "many ≡ count")
+    walk.got_number(U32, "many", "_11", "count")
+    fact = "(count ≤ 2) × (entries + count ≤ length credited)"
+    proof = "(required .1, subst (λ (k : ℕ). entries + count ≤ k) (sym credited-length) (required .2))"
+    arguments, read = [walk.lend_again(), entries, parties, ("count", U32, "(many-known .1)")], ["_9", "_2", "_10", "_11"]
+    walk.call("party_table::put_each", arguments, read, NOTHING, "put", "last .0 ≡ after", requires=(fact, proof))
     walk.got_unit("put", "_4")
     walk.comes_back()
     walk.as_list("put-is")
@@ -65,18 +69,15 @@ def carry_out():
 def accept():
     """let parties = party_table::snapshot(table, ledger.entries);
     let plan = acceptance::accept::accept(ledger, parties, table.len(), book, request);
-    if keeps_table(plan) { return accept_result(plan); }
+    if not_accepted(plan) { return accept_result(plan); }
     carry_out(table, ledger.entries, plan);
     accept_result(plan)"""
     definitions = """\
   abbrev parties : List Party
   parties = snapshotOf (ledger .entries) table
 
-  abbrev pricing : Pricing
-  pricing = priceOf book request
-
   abbrev plan : Plan
-  plan = planOf ledger table (length table) pricing
+  plan = planOf ledger parties (length table) (priceOf book request)
 
   abbrev after : List Party
   after = planTable ledger table plan
@@ -84,17 +85,11 @@ def accept():
   after-length : length after ≡ length table
   after-length = plan-length ledger table plan
 
-  adds : T (not (keepsTable (plan .answer))) → Adds ledger table plan
-  adds = plan-adds ledger table pricing (schemes-length ledger _ ledger-fits)
+  places : length (ledger .schemes) ≡ 64
+  places = schemes-length ledger _ ledger-fits
 
-  accepts : Accepts ledger table book request (plan .answer) (plan .ledger) after
-  accepts =
-      let carried : carriedOut ledger table plan ≡ acceptOf ledger table pricing = plan-is-accept ledger table table refl pricing in
-      record {
-        answers = ap (λ (end : AfterAccept). end .answer) carried;
-        books = ap (λ (end : AfterAccept). end .ledger) carried;
-        leaves = ap (λ (end : AfterAccept). end .table) carried;
-      }
+  carries : T (not (notAccepted (plan .answer))) → Carries ledger table plan
+  carries = plan-carries ledger table places (priceOf book request)
 """
     types = [ACCEPT_RESULT.type, LEDGER.type, slice_of("mut", "named 0"), slice_of("imm", "named 1", U8), slice_of("imm", "named 2", U8)]
     types += [PARTIES.type, PLAN.type, reference("imm", "erased"), slice_of("imm", "erased"), USIZE.type, BOOL, UNIT, reference("mut", "erased")]
@@ -102,20 +97,17 @@ def accept():
     result = "(acceptResult (plan .answer) (plan .ledger))"
     walk = Walk(
         "pioneer", "accept", [("ledger", LEDGER), ("table", TABLE), ("book", BYTES_SEEN), ("request", BYTES_SEEN)], types,
-        ["party_table::snapshot", "acceptance::accept::accept", "keeps_table", "accept_result", "carry_out"], definitions,
+        ["party_table::snapshot", "acceptance::accept::accept", "not_accepted", "accept_result", "carry_out"], definitions,
         result=(ACCEPT_RESULT, result),
-        says="accepts",
+        says="plan-promised ledger table places book request",
         imports=[
-            "use Rattle.charge.specs.declared.Pricing.{Pricing}",
+            "use lib.Seq.{sets}",
             "use Rattle.charge.specs.Price.{priceOf}",
             "use Rattle.ledger.specs.Table.{creditEach}",
-            "use Rattle.acceptance.specs.Accept.{AfterAccept, acceptOf, planOf, planTable}",
-            "use Rattle.acceptance.specs.AcceptFacts.{carriedOut, plan-is-accept}",
-            "use Rattle.acceptance.specs.Promises.{Accepts}",
+            "use Rattle.acceptance.specs.Plan.{planOf, planTable}",
             "use Rattle.party_table.specs.PartyTable.{CreditsFit, snapshotOf}",
-            "use Rattle.pioneer.specs.Calls.{keepsTable, acceptResult}",
-            "use Rattle.pioneer.specs.Snapshots.{snapshot-plan}",
-            "use Rattle.pioneer.proofs.Plans.{Adds, plan-length, kept-leaves, plan-adds}",
+            "use Rattle.pioneer.specs.Calls.{notAccepted, acceptResult}",
+            "use Rattle.pioneer.proofs.Plans.{plan-length, kept-leaves, carried-leaves, Carries, plan-carries, plan-promised}",
             "use Rattle.pioneer.proofs.Records.{entries-fits, schemes-length}",
         ],
     )
@@ -128,30 +120,32 @@ def accept():
     walk.length("_9")
     arguments = [("ledger", LEDGER, "ledger-fits"), copied, ("(length table)", USIZE, "(table-fits .0)")]
     arguments += [walk.handed_on("book"), walk.handed_on("request")]
-    ensures = "decided ≡ planOf ledger parties (length table) pricing"
-    walk.call("acceptance::accept::accept", arguments, ["_1", "_5", "_9", "_3", "_4"], PLAN, "decided", ensures)
-    decided = walk.got_value(PLAN, "decided", "_6", "plan", "decided-is ∙ snapshot-plan ledger table pricing")
-    walk.call("keeps_table", [decided], ["_6"], TRUTH, "keeps", "keeps ≡ keepsTable (plan .answer)")
-    walk.got_truth("keeps", "_10", "(keepsTable (plan .answer))")
+    walk.call("acceptance::accept::accept", arguments, ["_1", "_5", "_9", "_3", "_4"], PLAN, "decided", "decided ≡ plan")
+    decided = walk.got_value(PLAN, "decided", "_6", "plan")
+    walk.call("not_accepted", [decided], ["_6"], TRUTH, "refused", "refused ≡ notAccepted (plan .answer)")
+    walk.got_truth("refused", "_10", "(notAccepted (plan .answer))")
 
     def answers(walk, within=False):
         walk.call("accept_result", [decided], ["_6"], ACCEPT_RESULT, "told", f"told ≡ {result}")
         walk.got(ACCEPT_RESULT, "told", "_0", result)
         walk.ret(["own-table", "own-book", "own-request", "told-own"], "told-value", within)
 
-    def keeps(walk):
+    def refuses(walk):
         walk.as_list("kept-leaves ledger table plan tested")
         answers(walk, within=True)
 
-    walk.branch("_10", keeps, "t-8")
+    walk.branch("_10", refuses, "t-8")
     walk.point_again("_12", "_13")
-    fact = "(ledger .entries < 512) × (ledger .entries < length table) × CreditsFit (ledger .entries) table (plan .credits)"
-    proof = "(adds tested .limit, adds tested .room, adds tested .fits)"
-    ensures = "last .0 ≡ set (creditEach table (take (ledger .entries) (plan .credits))) (ledger .entries) (plan .party)"
+    room = "ledger .entries + plan .«added_count» ≤ length table"
+    credits_fit = "CreditsFit (ledger .entries) table (plan .credits)"
+    fact = f"(ledger .entries ≤ 512) × (plan .«added_count» ≤ 2) × ({room}) × {credits_fit}"
+    proof = "(carries tested .limit, carries tested .few, carries tested .room, carries tested .credits)"
+    credited, added = "(creditEach table (take (ledger .entries) (plan .credits)))", "(take (plan .«added_count») (plan .added))"
+    ensures = f"last .0 ≡ sets {credited} (ledger .entries) {added}"
     walk.call("carry_out", [walk.lend_again(), entries, decided], ["_13", ("_1", 4), "_6"], NOTHING, "done", ensures, requires=(fact, proof))
     walk.got_unit("done", "_11")
     walk.comes_back()
-    walk.as_list("done-is ∙ adds tested .leaves")
+    walk.as_list("done-is ∙ carried-leaves ledger table plan tested")
     answers(walk)
     walk.write()
 

@@ -7,54 +7,51 @@ DEFINITIONS = """\
   parties = snapshotOf (ledger .entries) table
 
   abbrev change : EntryChange
-  change = {changed} ledger table (length table) entry {value}
+  change = {decided} ledger parties (length table) entry {value}
 
   abbrev after : List Party
-  after = withEntry table entry change
+  after = changedTable table change
 
   after-length : length after ≡ length table
-  after-length = changed-length table entry change
+  after-length = changed-length table change
 
-  changes : T (not (isRefused (change .answer))) → Changes table entry change ({new} (entryAt table entry) {value})
+  abbrev old : Party
+  old = getD table (change .place) noParty
+
+  abbrev new : Party
+  new = {new}
+
+  changes : T (not (notDone (change .answer))) → Changes table change new
   changes = {laws}-changes ledger table entry {value}
-
-  one-more : T (not (isRefused (change .answer))) → 1 ≤ entry
-  one-more done = changes done .numbered
-
-  entry-wide : entry < 2 ^ 64
-  entry-wide = omega (arith, entry-fits)
-
-  place-wide : entry - 1 < 2 ^ 64
-  place-wide = omega (arith, entry-fits)
 """
 
 
-def change_entry(name, parameter, changed, new, one, room):
+def change_entry(name, parameter, decided, new, imported, one, room):
     """let parties = party_table::snapshot(table, ledger.entries);
-    let change = ledger::entries::NAME(ledger, parties, table.len(), entry, parameter);
-    if is_refused(change) { return answer_of(change); }
-    party_table::ONE(table, entry as usize - 1, parameter);
+    let change = entry_calls::NAME(ledger, parties, table.len(), entry, parameter);
+    if not_done(change) { return answer_of(change); }
+    party_table::ONE(table, place_of(change), parameter);
     answer_of(change)
 
-    changed, new: what the ledger's definitions call the decision and the new record; room: what ONE requires beside the place, and its proof"""
+    decided: the definition of what is decided; new: what the record `old` becomes, by a definition of the ledger that is imported; room: what ONE
+    requires beside the place, and its proof"""
     value, row = parameter
     laws = dashed(name)
     types = [ANSWER.type, LEDGER.type, slice_of("mut", "named 0"), U32.type, row.type, PARTIES.type, CHANGE.type, reference("imm", "erased")]
-    types += [slice_of("imm", "erased"), USIZE.type, BOOL, UNIT, reference("mut", "erased"), slice_of("mut", "erased"), USIZE.type]
-    decide = f"ledger::entries::{name}"
-    write = f"party_table::{one}"
+    types += [slice_of("imm", "erased"), USIZE.type, BOOL, UNIT, reference("mut", "erased"), slice_of("mut", "erased")]
+    decide, write = f"entry_calls::{name}", f"party_table::{one}"
     walk = Walk(
         "pioneer", name, [("ledger", LEDGER), ("table", TABLE), ("entry", U32), parameter], types,
-        ["party_table::snapshot", decide, "is_refused", "answer_of", write],
-        DEFINITIONS.format(changed=changed, new=new, value=value, laws=laws),
+        ["party_table::snapshot", decide, "not_done", "answer_of", "place_of", write],
+        DEFINITIONS.format(decided=decided, new=new, value=value, laws=laws),
         result=(ANSWER, "(change .answer)"),
-        says="record { answers = refl; leaves = refl }",
+        says=f"{laws}-promised ledger table entry {value}",
         imports=[
-            f"use Rattle.ledger.specs.Entries.{{{changed}, {new}, entryAt, withEntry}}",
+            f"use Rattle.ledger.specs.Updates.{{{imported}}}",
+            f"use Rattle.entry_calls.specs.EntryCalls.{{{decided}, changedTable}}",
             "use Rattle.party_table.specs.PartyTable.{snapshotOf}",
-            "use Rattle.pioneer.specs.Calls.{isRefused}",
-            f"use Rattle.pioneer.specs.Snapshots.{{snapshot-{laws}}}",
-            f"use Rattle.pioneer.proofs.Changes.{{Changes, changed-length, refused-leaves, done-leaves, {laws}-changes}}",
+            "use Rattle.pioneer.specs.Calls.{notDone}",
+            f"use Rattle.pioneer.proofs.Changes.{{Changes, changed-length, refused-leaves, done-leaves, {laws}-changes, {laws}-promised}}",
             "use Rattle.pioneer.proofs.Records.{entries-fits, paid-out-fits}",
         ],
     )
@@ -66,11 +63,10 @@ def change_entry(name, parameter, changed, new, one, room):
     walk.length("_9")
     arguments = [("ledger", LEDGER, "ledger-fits"), copied, ("(length table)", USIZE, "(table-fits .0)")]
     arguments += [("entry", U32, "entry-fits"), (value, row, value + "-fits")]
-    ensures = f"decided ≡ {changed} ledger parties (length table) entry {value}"
-    walk.call(decide, arguments, ["_1", "_5", "_9", "_3", "_4"], CHANGE, "decided", ensures)
-    decided = walk.got_value(CHANGE, "decided", "_6", "change", f"decided-is ∙ snapshot-{laws} ledger table entry {value}")
-    walk.call("is_refused", [decided], ["_6"], TRUTH, "refused", "refused ≡ isRefused (change .answer)")
-    walk.got_truth("refused", "_10", "(isRefused (change .answer))")
+    walk.call(decide, arguments, ["_1", "_5", "_9", "_3", "_4"], CHANGE, "decided", "decided ≡ change")
+    decided = walk.got_value(CHANGE, "decided", "_6", "change")
+    walk.call("not_done", [decided], ["_6"], TRUTH, "refused", "refused ≡ notDone (change .answer)")
+    walk.got_truth("refused", "_10", "(notDone (change .answer))")
 
     def answers(walk, within=False):
         walk.call("answer_of", [decided], ["_6"], ANSWER, "told", "told ≡ change .answer")
@@ -78,28 +74,27 @@ def change_entry(name, parameter, changed, new, one, room):
         walk.ret(["own-table", "told-own"], "told-value", within)
 
     def refuses(walk):
-        walk.as_list("refused-leaves table entry change tested")
+        walk.as_list("refused-leaves table change tested")
         answers(walk, within=True)
 
     walk.branch("_10", refuses, "t-8")
     walk.point_again("_12", "_13")
-    walk.assign("_9", f"(un ! {walk.load('_3')} (record {{ fits = entry-wide }}))", "tt, record { fits = entry-wide }")
-    walk.assign("_14", f"(bin ! {walk.load('_9')} (lit ! tt) (one-more tested))", "tt, record { fits = place-wide }")
-    arguments = [walk.lend_again(), ("(entry - 1)", USIZE, "place-wide"), (value, row, value + "-fits")]
-    fact, proof = "entry - 1 < length table", "changes tested .within"
+    walk.call("place_of", [decided], ["_6"], USIZE, "place", "place ≡ change .place")
+    walk.got_number(USIZE, "place", "_9", "(change .place)")
+    arguments = [walk.lend_again(), ("(change .place)", USIZE, "(place-known .1)"), (value, row, value + "-fits")]
+    fact, proof = "change .place < length table", "changes tested .within"
     if room:
         fact, proof = f"({fact}) × ({room[0]})", f"({proof}, {room[1]})"
-    ensures = f"last .0 ≡ set table (entry - 1) ({new} (getD table (entry - 1) noParty) {value})"
-    walk.call(write, arguments, ["_13", "_14", "_4"], NOTHING, "done", ensures, requires=(fact, proof))
+    walk.call(write, arguments, ["_13", "_9", "_4"], NOTHING, "done", "last .0 ≡ set table (change .place) new", requires=(fact, proof))
     walk.got_unit("done", "_11")
     walk.comes_back()
-    walk.as_list("done-is ∙ done-leaves table entry (changes tested)")
+    walk.as_list("done-is ∙ done-leaves table change tested (changes tested)")
     answers(walk)
     walk.write()
 
 
 if __name__ == "__main__":
-    paid = "subst (λ (c : EntryChange). c .party .«paid_out» < 2 ^ 64) (changes tested .done) (paid-out-fits change _ decided-known)"
-    room = ("getD table (entry - 1) noParty .«paid_out» + amount < 2 ^ 64", paid)
-    change_entry("pay_out", ("amount", U64), "payOutChange", "paidMore", "pay_one", room)
-    change_entry("hand_over", ("person", U32), "handOverChange", "handedTo", "hand_one", None)
+    paid = "subst (λ (party : Party). party .«paid_out» < 2 ^ 64) (changes tested .writes) (paid-out-fits change _ decided-known)"
+    room = ("old .«paid_out» + amount < 2 ^ 64", paid)
+    change_entry("pay_out", ("amount", U64), "payOutChange", "withPaidOut (old .«paid_out» + amount) old", "withPaidOut", "pay_one", room)
+    change_entry("hand_over", ("person", U32), "handOverChange", "withPerson person old", "withPerson", "hand_one", None)

@@ -28,8 +28,9 @@ def put_one():
     walk.write()
 
 
-def change_one(name, callee, parameter, specs, changed, field=None):
-    """table[at] = callee(table[at], parameter); specs: the ledger's module that defines what is changed; field: the one that must not overflow"""
+def change_one(name, callee, parameter, changed, imported, field=None):
+    """table[at] = callee(table[at], parameter); changed: what the record `old` becomes, by a definition of the ledger that is imported; field: the one
+    that must not overflow"""
     value, row = parameter
     types = [UNIT, slice_of("mut", "named 0"), USIZE.type, row.type, PARTY.type, USIZE.type, POINTER, PARTY.type, USIZE.type, POINTER]
     definitions = f"""\
@@ -37,13 +38,13 @@ def change_one(name, callee, parameter, specs, changed, field=None):
   old = getD table at noParty
 
   abbrev new : Party
-  new = {changed} old {value}
+  new = {changed}
 
 """ + LAST_LIST.format(party="new")
     fact = f"old .{field} + {value} < 2 ^ 64"
     asked = f"(at < length table) × (getD table at noParty .{field} + {value} < 2 ^ 64)" if field else "at < length table"
     within = "required .0" if field else "required"
-    imports = [f"use Rattle.ledger.specs.{specs}.{{{changed}}}"]
+    imports = [f"use Rattle.ledger.specs.{imported}"]
     parameters = [("table", TABLE), ("at", USIZE), parameter]
     walk = Walk("party_table", name, parameters, types, [callee], definitions, requires=asked, imports=imports)
     walk.place("_2", "at", within, "_5", "_6")
@@ -64,6 +65,6 @@ def change_one(name, callee, parameter, specs, changed, field=None):
 
 if __name__ == "__main__":
     put_one()
-    change_one("credit_one", "credited", ("credit", U64), "Table", "creditedMore", "credited")
-    change_one("pay_one", "paid", ("amount", U64), "Entries", "paidMore", "«paid_out»")
-    change_one("hand_one", "handed", ("person", U32), "Entries", "handedTo")
+    change_one("credit_one", "credited", ("credit", U64), "creditedMore old credit", "Table.{creditedMore}", "credited")
+    change_one("pay_one", "paid", ("amount", U64), "withPaidOut (old .«paid_out» + amount) old", "Updates.{withPaidOut}", "«paid_out»")
+    change_one("hand_one", "handed", ("person", U32), "withPerson person old", "Updates.{withPerson}")

@@ -48,19 +48,19 @@ def number(row, width, bits):
     )
 
 
-def array(element, lawful):
-    row, values = f"ArrayRow {element.row}", f"array-vals {atom(element.values)}"
+def array(element, size, lawful):
+    row, values = f"ArrayRow {element.row} {size}", f"array-vals {atom(element.values)}"
     return Row(
         row=row,
         denoted=f"List {element.denoted}",
-        type=f"array-type {element.row}",
+        type=f"array-type {element.row} {size}",
         values=values,
-        tells=f"array-tells {element.row} {atom(element.values)} {atom(element.tells)} 512",
-        makes=f"array-makes {GIVEN} {element.row} ({element.makes}) 512",
+        tells=f"array-tells {element.row} {atom(element.values)} {atom(element.tells)} {size}",
+        makes=f"array-makes {GIVEN} {element.row} ({element.makes}) {size}",
         value=lambda x: f"only ({values} {x})",
         known=lambda x: f"Is ({row}) {x} ({values} {x})",
         has=lambda known: known,
-        typed=lambda x, known: f"array-typed {element.row} {GIVEN} {lawful} {x} _ {known}",
+        typed=lambda x, known: f"array-typed {element.row} {size} {GIVEN} {lawful} {x} _ {known}",
     )
 
 
@@ -113,18 +113,17 @@ U8 = number("u8", "w8", 8)
 U32 = number("u32", "w32", 32)
 U64 = number("u64", "w64", 64)
 USIZE = number("usize", "w64", 64)
-PARTIES = array(PARTY, f"(party-lawful {GIVEN})")
-CREDITS = array(U64, f"(uint-lawful {GIVEN} w64)")
+PARTIES = array(PARTY, 512, f"(party-lawful {GIVEN})")
+ADDED = array(PARTY, 2, f"(party-lawful {GIVEN})")
+CREDITS = array(U64, 512, f"(uint-lawful {GIVEN} w64)")
 # what a function without a result returns
 NOTHING = Row("unit", "Unit {0}", "tyUnit", None, None, None, None, None, None, None)
 
 LEDGER = declared("Ledger", "Ledger", "records.Ledger", "ledger", "pioneer.proofs.Records")
-ANSWER = declared("Answer", "Answer", "entries.Answer", "ledger", "pioneer.proofs.Records")
-CHANGE = declared("Change", "EntryChange", "entries.EntryChange", "ledger", "pioneer.proofs.Records")
+ANSWER = declared("Answer", "Answer", "answers.Answer", "calls", "pioneer.proofs.Records")
+CHANGE = declared("Change", "EntryChange", "EntryChange", "entry_calls", "pioneer.proofs.Records")
 PLAN = declared("Plan", "Plan", "accept.Plan", "acceptance", "pioneer.proofs.Records")
 ACCEPT_RESULT = declared("AcceptResult", "AcceptResult", "AcceptResult", "pioneer", "pioneer.proofs.Records")
-ACCEPTED_TABLE = declared("AcceptedTable", "AcceptedTable", "AcceptedTable", "pioneer", "pioneer.proofs.Records")
-CHANGED_TABLE = declared("ChangedTable", "ChangedTable", "ChangedTable", "pioneer", "pioneer.proofs.Records")
 WRITTEN = declared("Written", "Written", "writing.Written", "stored", "pioneer.proofs.Records")
 READ_BACK = declared("ReadBack", "ReadBack", "reading.ReadBack", "stored", "pioneer.proofs.Records")
 READ_RESULT = declared("ReadResult", "ReadResult", "ReadResult", "pioneer", "pioneer.proofs.Records")
@@ -133,9 +132,10 @@ READ_RESULT = declared("ReadResult", "ReadResult", "ReadResult", "pioneer", "pio
 TABLE, TABLE_SEEN = Slice(True, PARTY), Slice(False, PARTY)
 BYTES, BYTES_SEEN = Slice(True, U8), Slice(False, U8)
 
-# how many bytes an element has, and the array that has such elements
+# how many bytes an element has; of an array its elements, and how many they are
 SIZE = {PARTY: 32, U64: 8}
-ELEMENT = {PARTIES: PARTY, CREDITS: U64}
+ELEMENT = {PARTIES: PARTY, ADDED: PARTY, CREDITS: U64}
+COUNT = {PARTIES: 512, ADDED: 2, CREDITS: 512}
 
 # MIR types of locals
 UNIT, BOOL, POINTER = "tyUnit", "tyBool", "tyPtr"

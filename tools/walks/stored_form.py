@@ -79,7 +79,8 @@ def read():
             "use lib.ListN.{drop as dropped}",
             "use Rattle.stored.specs.Reading.{readBack, ReadEnd, readOf}",
             "use Rattle.pioneer.specs.Calls.{readRefused, readResult}",
-            "use Rattle.pioneer.proofs.Readings.{read-same, refused-leaves, read-length, Stores, standing-stores}",
+            "use Rattle.stored.specs.ReadFacts.{read-length}",
+            "use Rattle.pioneer.proofs.Readings.{read-same, refused-leaves, Stores, standing-stores}",
         ],
     )
     walk.length("_5")

@@ -294,54 +294,25 @@ class Walk(Context):
         """what a plain value owns is made"""
         self.step([], row.owned(x, known), [name])
 
-    # ---- an array in a local, as the row `array`, so that it can be indexed or lent
+    # ---- an array in a local, as the row `array`, so that it can be indexed
     def apart(self, local, array, xs, own, value="_"):
-        element = ELEMENT[array].row
-        item = f"‵ (fsep (feq ℕ (length {xs}) 512) (row {element} fullShare {xs} {place_of(local)} 0))"
-        self.use([local, own], "both", item, f"to-row {element} {GIVEN} tt {xs} {value} {place_of(local)}")
+        element, count = ELEMENT[array].row, COUNT[array]
+        item = f"‵ (fsep (feq ℕ (length {xs}) {count}) (row {element} fullShare {xs} {place_of(local)} 0))"
+        self.use([local, own], "both", item, f"to-row {element} {count} {GIVEN} tt {xs} {value} {place_of(local)}")
         self.fsplit("both", "array-length", "array")
         self.drop("array-length")
         self.full.remove(local)
 
     def whole(self, local, array, xs, length):
-        """back; length: that xs has 512 elements. What owns it is `array-own`"""
-        element = ELEMENT[array]
-        self.step([], f"feqI ! ℕ (length {xs}) 512 {atom(length)} $", ["array-length"])
+        """back; length: how many elements xs has. What owns it is `array-own`"""
+        element, count = ELEMENT[array], COUNT[array]
+        self.step([], f"feqI ! ℕ (length {xs}) {count} {atom(length)} $", ["array-length"])
         self.fjoin("array-length", "array", "array")
         item = f"{self.cell(local, array.value(xs))} ⊛ ‵ ({atom(array.row)} .own {xs} ({array.values} {xs}))"
-        law = f"from-row {element.row} {GIVEN} {atom(element.values)} {atom(element.tells)} {xs} {place_of(local)}"
+        law = f"from-row {element.row} {count} {GIVEN} {atom(element.values)} {atom(element.tells)} {xs} {place_of(local)}"
         self.use(["array"], "both", item, law)
         self.split("both", local, "array-own")
         self.full.add(local)
-
-    def lend_first(self, local, array, xs, length, k, count, pointer, slice):
-        """pointer = &local; slice = {pointer, count}: of the row `array` of xs, which has 512 elements by `length`, the first k are lent as a `&mut` for
-        a lifetime ν of the call, under the name δ; count: their number's local and value, that they are as many, and that it fits a word.
-        `first_back` ends it"""
-        element, place = ELEMENT[array], place_of(local)
-        number, records, same, fits = count
-        self.assign(pointer, "(addr ! (from ! (stop !)))", "tt, tt")
-        parts = f"(and-then ! {self.load(pointer)} (and-then ! {self.load(number)} (no-more !)))"
-        self.assign(slice, f"(agg ! {parts})", f"tt, (tt, (record {{ fits = {fits} }}, tt))")
-        self.step([], "lft-new ! tt (λ ν.", ["new-token"])
-        at, value = f"record {{ ptr = ({place}, 0); name = δ; now = take {k} {xs} }}", f"sliceVal ({place}, 0) {records}"
-        lent = f"‵ (MutSlice (named 0) (ν ∷ []) {element.row} .own ({at}) ({value} ∷ []))"
-        kept = f"‵ (LentFirst {element.row} {xs} {k} {place} 0 (ν ∷ []) δ)"
-        room = f"(subst (Room {element.row}) (sym {atom(length)}) (lit< tt, lit< tt))"
-        law = f"lends-first {element.row} {xs} {k} {place} 0 {GIVEN} (ν ∷ []) (named 0) {room} {records} {atom(same)}"
-        self.use(["array"], "both", f"later (some (λ (δ : GName). {lent} ⊛ {kept}))", law)
-        self.emit("await ! tt $ pick ! (λ δ.")
-        self.split("both", "lent", "lent-first")
-        return Lent(Slice(True, element), at, value, "lent", "ν ∷ []", "fullShare", "new-token")
-
-    def first_back(self, local, array, xs, k, last):
-        """the array is back as a row, with the list `last` as its first k elements"""
-        element, place = ELEMENT[array].row, place_of(local)
-        self.step(["new-token"], "lft-end ! tt $", ["dead"])
-        law = f"first-back {element} {xs} {k} {place} 0 {GIVEN} (ν ∷ []) δ {last}"
-        item = f"later (‵ (row {element} fullShare (withFirst {k} {xs} {last}) {place} 0))"
-        self.use(["dead", "lent-first", "finally"], "array", item, law)
-        self.emit("await ! tt $")
 
     # ---- a call
     def call(self, path, arguments, operands, row, name, ensures, requires=None, more=None):

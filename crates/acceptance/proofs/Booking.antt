@@ -11,10 +11,11 @@ use lib.ListN.{length, take, getD, set, replicate, length-append, length-map}
 use lib.Seq.{take-suc, set-append-seam, length-take-le}
 use Rattle.ledger.specs.Columns.{schemeColumn, capacityColumn, sumOver, sumOf}
 use Rattle.ledger.specs.ColumnsLaws.{of-own, of-other}
-use Rattle.acceptance.specs.Rules.{weights, shares}
-use Rattle.acceptance.specs.RulesLaws.{length-weights, sum-weights, length-shares, rises}
-use Rattle.acceptance.specs.Accept.{padded}
 use Rattle.ledger.specs.declared.records.Party.{Party}
+use Rattle.calls.specs.RulesLaws.{rises}
+use Rattle.calls.specs.CreditColumns.{weights, shares}
+use Rattle.calls.specs.CreditColumnsLaws.{length-weights, sum-weights, length-shares}
+use Rattle.acceptance.specs.Plan.{padded}
 use Rattle.acceptance.proofs.Deciding.{capacityUpTo, capacity-own, capacity-other}
 
 -- ---- zeros past the last figure, of so many places

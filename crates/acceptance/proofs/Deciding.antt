@@ -9,13 +9,13 @@ use lib.Dec.{eqb}
 use lib.ListN.{length, take, getD}
 use lib.Seq.{take-suc}
 use borrow.Author.Tests.{eq-eqb, ne-eqb}
-use Rattle.ledger.specs.Columns.{schemeColumn, capacityColumn, capacityOf}
+use Rattle.ledger.specs.Columns.{schemeColumn, capacityColumn, sumOver}
 use Rattle.ledger.specs.declared.records.Party.{Party}
 use Rattle.ledger.proofs.Tallying.{sum-more}
 
 -- K of the first i entries
 abbrev pub capacityUpTo : ℕ → List Party → ℕ → ℕ
-capacityUpTo s parties i = capacityOf s (schemeColumn (take i parties)) (capacityColumn (take i parties))
+capacityUpTo s parties i = sumOver s (schemeColumn (take i parties)) (capacityColumn (take i parties))
 
 module _ (s : ℕ) (parties : List Party) (i : ℕ) (none : Party) (within : i < length parties) where
   capacity-more : capacityUpTo s parties (i + 1) ≡ capacityUpTo s parties i + cond (eqb (getD parties i none .scheme) s) (getD parties i none .capacity) 0

@@ -1,67 +1,56 @@
-// Accept: what it answers, and what it makes of the ledger and the table. Deciding is verdict.rt's; nothing is refused here
-// once a verdict accepts.
-use crate::verdict::Verdict;
+// Accept: what it answers, and what it makes of the ledger and the table, in three steps: the connection is booked, the joining
+// that is paid comes next, and a scheme that opens last. Deciding is verdict.rt's; nothing is refused here once a verdict accepts.
+use calls::answers::AcceptAnswer;
+use calls::answers::Acceptance;
+use calls::answers::Collected;
+use calls::answers::JoiningAnswer;
+use calls::answers::OpeningAnswer;
+use calls::courses::Course;
+use calls::courses::Joining;
+use calls::courses::Verdict;
 use charge::Bill;
 use charge::Pricing;
+use ledger::lookup::SchemeAt;
 use ledger::records::Ledger;
 use ledger::records::Party;
 use ledger::records::Scheme;
-use reconciliation::Reconciliation;
 use tagged::file::Refusal;
 ghost use mathlib.Core.Path.{_≡_};
-ghost use mathlib.Core.Bool.{true};
-ghost use mathlib.Core.List.{List};
-ghost use Prim.Native.Nat.{_-_, _<_, _≤_};
-ghost use lib.ListN.{take, getD};
+ghost use mathlib.Core.Bool.{true, cond};
+ghost use Prim.Native.Nat.{ℕ, _+_, _<_, _≤_};
+ghost use lib.ListN.{take};
 ghost use Rattle.charge.specs.Price.{priceOf};
 ghost use Rattle.charge.specs.PriceFacts.{BillWithin};
-ghost use Rattle.ledger.specs.Columns.{schemeColumn, capacityColumn, capacityOf};
-ghost use Rattle.acceptance.specs.Rules.{credits};
+ghost use Rattle.ledger.specs.Books.{Books};
+ghost use Rattle.ledger.specs.Columns.{schemeColumn, capacityColumn, sumOver};
 ghost use Rattle.ledger.specs.Sound.{sound};
-ghost use Rattle.ledger.specs.Table.{newEntry};
-ghost use Rattle.ledger.specs.Records.{noScheme};
-ghost use Rattle.ledger.specs.declared.records.Party.{Party};
-ghost use Rattle.acceptance.specs.declared.verdict.Verdict.the-variants.{Opens, Joins};
-ghost use Rattle.acceptance.specs.Accept.{booked, opened, joined, padded, accepted, plannedBy, connectionPlan, refusedPlan, billPlan, planOf, Bookable, JoiningDue};
+ghost use Rattle.calls.specs.ByPlace.{creditsAmong};
+ghost use Rattle.calls.specs.Carried.{newParty};
+ghost use Rattle.calls.specs.Decision.{joiningAnswer};
+ghost use Rattle.acceptance.specs.Plan.{padded, bookedLedger, feeTaken, joinedLedger, openedLedger, creditsBy, noneAdded, entryAdded, joinerAdded, openerAdded, refusedPlan, coursePlan, billPlan, planOf};
+ghost use Rattle.acceptance.specs.PlanNeeds.{Bookable, FeeDue, FeesDue, CreditsDue, CourseDue};
 
-// The entry's number and the contribution G that was collected.
-pub struct Joining {
-    pub entry: u32,
-    pub collected: u32,
-}
-
-pub enum SchemeAnswer {
-    Plain,
-    // the scheme's number
-    Opened(u16),
-    Joined(Joining),
-    Small,
-    Ended,
-}
-
-pub struct Acceptance {
-    pub reconciliation: Reconciliation,
-    pub scheme: SchemeAnswer,
-}
-
-pub enum AcceptAnswer {
-    Accepted(Acceptance),
-    NotAccepted(Refusal),
-}
-
-// What an accept comes to: the answer, the ledger after it, what each entry is credited, and the new entry's record. Where none
-// is credited and no entry is added, these hold zeros.
+// What an accept comes to: the answer, the ledger after it, what each entry is credited, and the entries that are added in
+// order. Where none is credited or added, these hold zeros.
 pub struct Plan {
     pub answer: AcceptAnswer,
     pub ledger: Ledger,
     pub credits: [u64; 512],
-    pub party: Party,
+    pub added: [Party; 2],
+    pub added_count: u32,
 }
 
-// The ledger with one connection more.
+// Entries to be added, in order; zeros past them.
+struct Added {
+    pub parties: [Party; 2],
+    pub count: u32,
+}
+
+// ---- the ledger
+
 fn booked(ledger: Ledger, bill: Bill) -> Ledger
     requires { ⌜ Bookable ledger × BillWithin bill ⌝ }
-    ensures { λ r. ⌜ r ≡ booked ledger bill ⌝ }
+    ensures { λ r. ⌜ r ≡ bookedLedger bill ledger ⌝ }
 {
     let mut after = ledger;
     after.month = bill.applicant.month;
@@ -71,11 +60,46 @@ fn booked(ledger: Ledger, bill: Bill) -> Ledger
     after
 }
 
-// The ledger with the scheme that a bill opens, and its first entry counted.
-fn opened(ledger: Ledger, bill: Bill) -> Ledger
-    requires { ⌜ (ledger .count < 64) × (ledger .entries < 512) × BillWithin bill ⌝ }
-    ensures { λ r. ⌜ r ≡ opened ledger bill ⌝ }
+// The fee taken at a scheme's place, and the joiner's entry counted.
+fn fee_taken(ledger: Ledger, at: usize, fee: u32) -> Ledger
+    requires { ⌜ FeeDue (ledger .entries) (ledger .schemes) at ⌝ }
+    ensures { λ r. ⌜ r ≡ feeTaken at fee ledger ⌝ }
 {
+    let mut schemes = ledger.schemes;
+    let mut scheme = schemes[at];
+    scheme.fees = scheme.fees + fee as u64;
+    schemes[at] = scheme;
+    let mut after = ledger;
+    after.entries = ledger.entries + 1;
+    after.schemes = schemes;
+    after
+}
+
+fn joined(ledger: Ledger, bill: Bill, joining: Joining) -> Ledger
+    requires { ⌜ FeesDue ledger bill joining ⌝ }
+    ensures { λ r. ⌜ r ≡ joinedLedger joining bill ledger ⌝ }
+{
+    match joining {
+        Joining::NotAsked => ledger,
+        Joining::Ended => ledger,
+        Joining::Small => ledger,
+        Joining::Pays(paid) => {
+            match ledger::lookup::scheme_at(ledger.count, bill.applicant.scheme) {
+                SchemeAt::NeverOpened => ledger,
+                SchemeAt::Place(at) => fee_taken(ledger, at, paid.fee),
+            }
+        }
+    }
+}
+
+// The scheme that opens, and its first entry counted.
+fn opened(ledger: Ledger, bill: Bill, opens: bool) -> Ledger
+    requires { ⌜ (opens ≡ true → (ledger .count < 64) × (ledger .entries < 512)) × BillWithin bill ⌝ }
+    ensures { λ r. ⌜ r ≡ openedLedger opens bill ledger ⌝ }
+{
+    if !opens {
+        return ledger;
+    }
     let at = ledger.count as usize;
     let mut schemes = ledger.schemes;
     schemes[at] = Scheme {
@@ -93,23 +117,9 @@ fn opened(ledger: Ledger, bill: Bill) -> Ledger
     after
 }
 
-// The ledger with the fee of one joining more taken, and the joiner's entry counted.
-fn joined(ledger: Ledger, number: u16) -> Ledger
-    requires { ⌜ (1 ≤ number) × (number ≤ 64) × (ledger .entries < 512) × (getD (ledger .schemes) (number - 1) noScheme .fees ≤ 511000000000) ⌝ }
-    ensures { λ r. ⌜ r ≡ joined ledger number ⌝ }
-{
-    let at = number as usize - 1;
-    let mut schemes = ledger.schemes;
-    let mut scheme = schemes[at];
-    scheme.fees = scheme.fees + scheme.fee as u64;
-    schemes[at] = scheme;
-    let mut after = ledger;
-    after.entries = ledger.entries + 1;
-    after.schemes = schemes;
-    after
-}
+// ---- what each entry is credited
 
-// What each entry of a scheme is credited of an amount: what the quotient by the running capacity grows by.
+// Each entry of a scheme, of an amount: what the quotient by the running capacity grows by.
 fn credits_of(
     parties: [Party; 512],
     entries: u32,
@@ -117,8 +127,8 @@ fn credits_of(
     amount: u64,
     total: u64,
 ) -> [u64; 512]
-    requires { ⌜ (entries ≤ 512) × (amount < 4294967296) × (1 ≤ total) × (total ≤ 512000000) × (total ≡ capacityOf scheme (schemeColumn (take entries parties)) (capacityColumn (take entries parties))) ⌝ }
-    ensures { λ r. ⌜ r ≡ padded (credits scheme amount (schemeColumn (take entries parties)) (capacityColumn (take entries parties))) ⌝ }
+    requires { ⌜ (entries ≤ 512) × (amount < 4294967296) × (1 ≤ total) × (total ≤ 512000000) × (total ≡ sumOver scheme (schemeColumn (take entries parties)) (capacityColumn (take entries parties))) ⌝ }
+    ensures { λ r. ⌜ r ≡ padded (creditsAmong scheme amount (take entries parties)) ⌝ }
 {
     let mut credits = [0u64; 512];
     let mut before: u64 = 0;
@@ -137,97 +147,151 @@ fn credits_of(
     credits
 }
 
-fn new_entry(scheme: u16, person: u32, capacity: u32, put_in: u32) -> Party
-    ensures { λ r. ⌜ r ≡ newEntry scheme person capacity put_in ⌝ }
+fn credits_by(parties: [Party; 512], entries: u32, bill: Bill, joining: Joining) -> [u64; 512]
+    requires { ⌜ (entries ≤ 512) × CreditsDue (take entries parties) bill joining ⌝ }
+    ensures { λ r. ⌜ r ≡ padded (creditsBy (take entries parties) bill joining) ⌝ }
+{
+    let none = [0u64; 512];
+    match joining {
+        Joining::NotAsked => none,
+        Joining::Ended => none,
+        Joining::Small => none,
+        Joining::Pays(paid) => {
+            let number = bill.applicant.scheme;
+            let amount = (paid.collected - paid.fee) as u64;
+            credits_of(parties, entries, number, amount, paid.capacity)
+        }
+    }
+}
+
+// ---- the entries that are added
+
+fn none_added() -> Added
+    ensures { λ r. ⌜ r ≡ noneAdded ⌝ }
+{
+    let none = ledger::records::no_party();
+    let parties = [none; 2];
+    Added { parties, count: 0 }
+}
+
+fn entry_added(added: Added, party: Party) -> Added
+    requires { ⌜ added .count < 2 ⌝ }
+    ensures { λ r. ⌜ r ≡ entryAdded party added ⌝ }
+{
+    let at = added.count as usize;
+    let mut after = added;
+    let mut parties = added.parties;
+    parties[at] = party;
+    after.parties = parties;
+    after.count = added.count + 1;
+    after
+}
+
+fn new_party(scheme: u16, bill: Bill, put_in: u32) -> Party
+    ensures { λ r. ⌜ r ≡ newParty scheme bill put_in ⌝ }
 {
     Party {
         scheme,
-        person,
-        capacity,
+        person: bill.applicant.person,
+        capacity: bill.applicant.capacity,
         put_in,
         credited: 0,
         paid_out: 0,
     }
 }
 
+fn joiner_added(bill: Bill, joining: Joining) -> Added
+    ensures { λ r. ⌜ r ≡ joinerAdded bill joining ⌝ }
+{
+    let none = none_added();
+    match joining {
+        Joining::NotAsked => none,
+        Joining::Ended => none,
+        Joining::Small => none,
+        Joining::Pays(paid) => {
+            entry_added(none, new_party(bill.applicant.scheme, bill, paid.collected))
+        }
+    }
+}
+
+fn opener_added(added: Added, number: u16, bill: Bill, opens: bool) -> Added
+    requires { ⌜ (added .count < 2) × BillWithin bill ⌝ }
+    ensures { λ r. ⌜ r ≡ openerAdded number bill opens added ⌝ }
+{
+    if !opens {
+        return added;
+    }
+    entry_added(added, new_party(number, bill, bill.reconciliation.x as u32))
+}
+
+// ---- the answer
+
+fn joining_answer(entries: u32, joining: Joining) -> JoiningAnswer
+    requires { ⌜ entries ≤ 512 ⌝ }
+    ensures { λ r. ⌜ ((books : Books) → books .nextEntry ≡ entries + 1 → r ≡ joiningAnswer books joining) ⌝ }
+{
+    match joining {
+        Joining::NotAsked => JoiningAnswer::NotAsked,
+        Joining::Ended => JoiningAnswer::Ended,
+        Joining::Small => JoiningAnswer::Small,
+        Joining::Pays(paid) => JoiningAnswer::Joined(Collected {
+            entry: entries + 1,
+            contribution: paid.collected,
+        }),
+    }
+}
+
+fn opening_answer(number: u16, opens: bool) -> OpeningAnswer
+    ensures { λ r. ⌜ r ≡ cond opens (OpeningAnswer.Opened number) OpeningAnswer.NotOpened ⌝ }
+{
+    if opens {
+        return OpeningAnswer::Opened(number);
+    }
+    OpeningAnswer::NotOpened
+}
+
+// ---- the plan
+
 fn refused_plan(ledger: Ledger, refusal: Refusal) -> Plan
     ensures { λ r. ⌜ r ≡ refusedPlan ledger refusal ⌝ }
 {
+    let added = none_added();
+    let parties = added.parties;
     Plan {
         answer: AcceptAnswer::NotAccepted(refusal),
         ledger,
         credits: [0u64; 512],
-        party: ledger::records::no_party(),
+        added: parties,
+        added_count: added.count,
     }
 }
 
-fn accepted(bill: Bill, scheme: SchemeAnswer) -> AcceptAnswer
-    ensures { λ r. ⌜ r ≡ accepted bill scheme ⌝ }
+fn course_plan(ledger: Ledger, parties: [Party; 512], bill: Bill, course: Course) -> Plan
+    requires { ⌜ CourseDue ledger parties bill course ⌝ }
+    ensures { λ r. ⌜ ((room : ℕ) → r ≡ coursePlan ledger parties room bill course) ⌝ }
 {
-    let reconciliation = bill.reconciliation;
-    AcceptAnswer::Accepted(Acceptance {
-        reconciliation,
-        scheme,
-    })
-}
-
-// A connection that changes no scheme.
-fn connection_plan(ledger: Ledger, bill: Bill, scheme: SchemeAnswer) -> Plan
-    requires { ⌜ Bookable ledger × BillWithin bill ⌝ }
-    ensures { λ r. ⌜ r ≡ connectionPlan ledger bill scheme ⌝ }
-{
-    Plan {
-        answer: accepted(bill, scheme),
-        ledger: booked(ledger, bill),
-        credits: [0u64; 512],
-        party: ledger::records::no_party(),
-    }
-}
-
-fn opening_plan(ledger: Ledger, bill: Bill) -> Plan
-    requires { ⌜ Bookable ledger × BillWithin bill × (ledger .count < 64) × (ledger .entries < 512) ⌝ }
-    ensures { λ r. ⌜ ((parties : List Party) → r ≡ plannedBy ledger parties bill Opens) ⌝ }
-{
+    let joining = course.joining;
     let number = (ledger.count + 1) as u16;
+    let reconciliation = bill.reconciliation;
+    let answer = AcceptAnswer::Accepted(Acceptance {
+        reconciliation,
+        joining: joining_answer(ledger.entries, joining),
+        opening: opening_answer(number, course.opens),
+    });
+    let after = opened(
+        joined(booked(ledger, bill), bill, joining),
+        bill,
+        course.opens,
+    );
+    let credits = credits_by(parties, ledger.entries, bill, joining);
+    let added = opener_added(joiner_added(bill, joining), number, bill, course.opens);
+    let entries = added.parties;
     Plan {
-        answer: accepted(bill, SchemeAnswer::Opened(number)),
-        ledger: opened(booked(ledger, bill), bill),
-        credits: [0u64; 512],
-        party: new_entry(
-            number,
-            bill.applicant.person,
-            bill.applicant.capacity,
-            bill.reconciliation.x as u32,
-        ),
-    }
-}
-
-// By the scheme's fee, which is at most its minimum and so at most G.
-fn joining_plan(ledger: Ledger, parties: [Party; 512], bill: Bill, collected: u32) -> Plan
-    requires { ⌜ JoiningDue ledger parties bill collected ⌝ }
-    ensures { λ r. ⌜ r ≡ plannedBy ledger parties bill (Joins collected) ⌝ }
-{
-    let number = bill.applicant.scheme;
-    let schemes = ledger.schemes;
-    let scheme = schemes[number as usize - 1];
-    let total = crate::verdict::capacity_of(parties, ledger.entries, number);
-    let amount = (collected - scheme.fee) as u64;
-    Plan {
-        answer: accepted(
-            bill,
-            SchemeAnswer::Joined(Joining {
-                entry: ledger.entries + 1,
-                collected,
-            }),
-        ),
-        ledger: joined(booked(ledger, bill), number),
-        credits: credits_of(parties, ledger.entries, number, amount, total),
-        party: new_entry(
-            number,
-            bill.applicant.person,
-            bill.applicant.capacity,
-            collected,
-        ),
+        answer,
+        ledger: after,
+        credits,
+        added: entries,
+        added_count: added.count,
     }
 }
 
@@ -244,15 +308,29 @@ fn bill_plan(ledger: Ledger, parties: [Party; 512], room: usize, bill: Bill) -> 
                 place: 0,
             },
         ),
-        Verdict::StaysPlain => connection_plan(ledger, bill, SchemeAnswer::Plain),
-        Verdict::IsSmall => connection_plan(ledger, bill, SchemeAnswer::Small),
-        Verdict::HasEnded => connection_plan(ledger, bill, SchemeAnswer::Ended),
-        Verdict::Opens => opening_plan(ledger, bill),
-        Verdict::Joins(collected) => joining_plan(ledger, parties, bill, collected),
+        Verdict::Accepts(course) => course_plan(ledger, parties, bill, course),
     }
 }
 
-// Accept over the snapshot of a table that has `room` records: 13, the book, the request, 4, 5, and then by the verdict.
+// Accept over the snapshot of a table that has `room` records, on a ledger that is known to be sound: the book, the request, 4, 5, and
+// then by the verdict.
+pub fn accept_sound(
+    ledger: Ledger,
+    parties: [Party; 512],
+    room: usize,
+    book: &[u8],
+    request: &[u8],
+) -> Plan
+    requires { ⌜ sound ledger parties room ≡ true ⌝ }
+    ensures { λ r. ⌜ r ≡ planOf ledger parties room (priceOf (now (book .entry)) (now (request .entry))) ⌝ }
+{
+    match charge::price(book, request) {
+        Pricing::NotPriced(refusal) => refused_plan(ledger, refusal),
+        Pricing::Priced(bill) => bill_plan(ledger, parties, room, bill),
+    }
+}
+
+// The same on any ledger: 13 first.
 pub fn accept(
     ledger: Ledger,
     parties: [Party; 512],
@@ -272,8 +350,5 @@ pub fn accept(
             },
         );
     }
-    match charge::price(book, request) {
-        Pricing::NotPriced(refusal) => refused_plan(ledger, refusal),
-        Pricing::Priced(bill) => bill_plan(ledger, parties, room, bill),
-    }
+    accept_sound(ledger, parties, room, book, request)
 }

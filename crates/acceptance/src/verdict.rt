@@ -1,66 +1,57 @@
-// Deciding: what becomes of a priced request. All refusals of accept but 13 and pricing's are here, and nothing is changed.
+// Deciding: what becomes of a priced request, its joining and then its opening. All refusals of accept but 13 and pricing's are
+// here, and nothing is changed.
+use calls::courses::Contribution;
+use calls::courses::Course;
+use calls::courses::Joining;
+use calls::courses::Verdict;
 use charge::Bill;
+use ledger::lookup::SchemeAt;
 use ledger::records::Ledger;
 use ledger::records::Party;
+use ledger::records::Scheme;
 ghost use mathlib.Core.Path.{_≡_};
 ghost use mathlib.Core.Bool.{true};
-ghost use mathlib.Core.List.{List};
-ghost use Prim.Native.Nat.{_*_, _≤_};
+ghost use mathlib.Core.List.{[], _∷_};
+ghost use Prim.Native.Nat.{ℕ, _*_, _≤_};
+ghost use lib.Dec.{leb};
 ghost use lib.ListN.{take};
-ghost use Rattle.ledger.specs.Columns.{schemeColumn, capacityColumn, capacityOf};
-ghost use Rattle.acceptance.specs.Rules.{contribution};
-ghost use Rattle.ledger.specs.Sound.{sound};
-ghost use Rattle.ledger.specs.declared.records.Party.{Party};
-ghost use Rattle.acceptance.specs.Verdict.{columnsOf, tableFull, opensScheme, openingVerdict, joiningVerdict, verdict};
+ghost use Rattle.ledger.specs.Books.{Books, schemeRow};
+ghost use Rattle.ledger.specs.Columns.{schemeColumn, capacityColumn, sumOver};
+ghost use Rattle.ledger.specs.Sound.{allHold, sound};
+ghost use Rattle.calls.specs.Rules.{partiesOf, capacityOf, contribution};
+ghost use Rattle.calls.specs.Verdict.{joiningOf, joiningPart, opensScheme, entriesOfJoining, entriesNeeded, entriesLacking, courseVerdict, verdict};
+ghost use Rattle.acceptance.specs.Snapshot.{snapshotBooks, Counted};
 
-pub enum Verdict {
-    StaysPlain,
-    Opens,
-    // with its contribution G
-    Joins(u32),
-    IsSmall,
-    HasEnded,
-    // with the refusal's number; file and place are 0
-    Refuses(u8),
-}
-
-fn table_full(entries: u32, room: usize) -> bool
-    ensures { λ r. ⌜ r ≡ tableFull entries room ⌝ }
+// Whether the table or the limit of 512 has no place for so many entries more.
+fn entries_lacking(entries: u32, room: usize, needed: u32) -> bool
+    requires { ⌜ (entries ≤ 512) × (needed ≤ 2) ⌝ }
+    ensures { λ r. ⌜ r ≡ entriesLacking entries room needed ⌝ }
 {
-    if 512 <= entries {
+    if needed == 0 {
+        return false;
+    }
+    if 512 < entries + needed {
         return true;
     }
-    room <= entries as usize
+    room < (entries + needed) as usize
 }
 
 fn opens_scheme(bill: Bill) -> bool
     ensures { λ r. ⌜ r ≡ opensScheme bill ⌝ }
 {
+    if bill.applicant.scheme != 0 {
+        return false;
+    }
     if bill.applicant.mark != 0 {
         return false;
     }
     (bill.terms.threshold as u64) < bill.reconciliation.x
 }
 
-fn opening_verdict(ledger: Ledger, room: usize, bill: Bill) -> Verdict
-    ensures { λ r. ⌜ ((parties : List Party) → r ≡ openingVerdict (columnsOf ledger parties) room bill) ⌝ }
-{
-    if !opens_scheme(bill) {
-        return Verdict::StaysPlain;
-    }
-    if 64 <= ledger.count {
-        return Verdict::Refuses(8);
-    }
-    if table_full(ledger.entries, room) {
-        return Verdict::Refuses(9);
-    }
-    Verdict::Opens
-}
-
 // K: the capacity of all parties of a scheme.
-pub fn capacity_of(parties: [Party; 512], entries: u32, scheme: u16) -> u64
+fn capacity_of(parties: [Party; 512], entries: u32, scheme: u16) -> u64
     requires { ⌜ entries ≤ 512 ⌝ }
-    ensures { λ r. ⌜ (r ≡ capacityOf scheme (schemeColumn (take entries parties)) (capacityColumn (take entries parties))) × (r ≤ 4294967295 * entries) ⌝ }
+    ensures { λ r. ⌜ (r ≡ sumOver scheme (schemeColumn (take entries parties)) (capacityColumn (take entries parties))) × (r ≤ 4294967295 * entries) ⌝ }
 {
     let mut total: u64 = 0;
     let mut i = 0;
@@ -82,31 +73,90 @@ fn contribution(cost: u32, k: u32, total: u64) -> u32
     (cost as u64 * k as u64 / (total + k as u64)) as u32
 }
 
-// A request that names a scheme that was opened.
-fn joining_verdict(ledger: Ledger, parties: [Party; 512], room: usize, bill: Bill) -> Verdict
-    requires { ⌜ (sound ledger parties room ≡ true) × (1 ≤ bill .applicant .scheme) × (bill .applicant .scheme ≤ ledger .count) × (1 ≤ bill .applicant .capacity) ⌝ }
-    ensures { λ r. ⌜ r ≡ joiningVerdict (columnsOf ledger parties) room bill ⌝ }
+// The joining of this scheme, by its own terms.
+fn joining_of(parties: [Party; 512], entries: u32, scheme: Scheme, bill: Bill) -> Joining
+    requires { ⌜ (entries ≤ 512) × (1 ≤ bill .applicant .capacity) ⌝ }
+    ensures { λ r. ⌜ ((books : Books) (number : ℕ) → capacityOf (partiesOf (bill .applicant .scheme) books) ≡ sumOver (bill .applicant .scheme) (schemeColumn (take entries parties)) (capacityColumn (take entries parties)) → r ≡ joiningOf books bill (schemeRow number scheme)) ⌝ }
 {
-    let number = bill.applicant.scheme;
-    let schemes = ledger.schemes;
-    let scheme = schemes[number as usize - 1];
     if scheme.opening as u32 + scheme.term as u32 <= bill.applicant.month as u32 {
-        return Verdict::HasEnded;
+        return Joining::Ended;
     }
-    let total = capacity_of(parties, ledger.entries, number);
+    let total = capacity_of(parties, entries, bill.applicant.scheme);
     let due = contribution(scheme.cost, bill.applicant.capacity, total);
     if due < scheme.minimum {
-        return Verdict::IsSmall;
+        return Joining::Small;
     }
-    if table_full(ledger.entries, room) {
+    Joining::Pays(Contribution {
+        collected: due,
+        fee: scheme.fee,
+        capacity: total,
+    })
+}
+
+fn joining_part(ledger: Ledger, parties: [Party; 512], bill: Bill) -> Joining
+    requires { ⌜ (ledger .count ≤ 64) × (ledger .entries ≤ 512) × (1 ≤ bill .applicant .capacity) ⌝ }
+    ensures { λ r. ⌜ ((room : ℕ) → r ≡ joiningPart (snapshotBooks ledger parties room) bill) ⌝ }
+{
+    if bill.applicant.scheme == 0 {
+        return Joining::NotAsked;
+    }
+    match ledger::lookup::scheme_at(ledger.count, bill.applicant.scheme) {
+        SchemeAt::NeverOpened => Joining::Ended,
+        SchemeAt::Place(at) => {
+            let schemes = ledger.schemes;
+            joining_of(parties, ledger.entries, schemes[at], bill)
+        }
+    }
+}
+
+fn entries_of_joining(joining: Joining) -> u32
+    ensures { λ r. ⌜ (r ≡ entriesOfJoining joining) × (r ≤ 1) ⌝ }
+{
+    match joining {
+        Joining::NotAsked => 0,
+        Joining::Ended => 0,
+        Joining::Small => 0,
+        Joining::Pays(paid) => 1,
+    }
+}
+
+fn entries_needed(course: Course) -> u32
+    ensures { λ r. ⌜ (r ≡ entriesNeeded course) × (r ≤ 2) ⌝ }
+{
+    let joining = course.joining;
+    let entries = entries_of_joining(joining);
+    if course.opens {
+        return entries + 1;
+    }
+    entries
+}
+
+fn schemes_lacking(count: u32, opens: bool) -> bool
+    ensures { λ r. ⌜ r ≡ allHold (opens ∷ leb 64 count ∷ []) ⌝ }
+{
+    if !opens {
+        return false;
+    }
+    64 <= count
+}
+
+// 8 and 9, where there are so many schemes and entries.
+fn course_verdict(count: u32, entries: u32, room: usize, course: Course) -> Verdict
+    requires { ⌜ entries ≤ 512 ⌝ }
+    ensures { λ r. ⌜ ((books : Books) → Counted books count entries room → r ≡ courseVerdict books course) ⌝ }
+{
+    if schemes_lacking(count, course.opens) {
+        return Verdict::Refuses(8);
+    }
+    if entries_lacking(entries, room, entries_needed(course)) {
         return Verdict::Refuses(9);
     }
-    Verdict::Joins(due)
+    Verdict::Accepts(course)
 }
 
 pub fn verdict_of(ledger: Ledger, parties: [Party; 512], room: usize, bill: Bill) -> Verdict
     requires { ⌜ (sound ledger parties room ≡ true) × (1 ≤ bill .applicant .capacity) ⌝ }
-    ensures { λ r. ⌜ r ≡ verdict (columnsOf ledger parties) room bill ⌝ }
+    ensures { λ r. ⌜ r ≡ verdict (snapshotBooks ledger parties room) bill ⌝ }
 {
     if 1_000_000 <= ledger.connections {
         return Verdict::Refuses(10);
@@ -114,11 +164,12 @@ pub fn verdict_of(ledger: Ledger, parties: [Party; 512], room: usize, bill: Bill
     if bill.applicant.month < ledger.month {
         return Verdict::Refuses(7);
     }
-    if bill.applicant.scheme == 0 {
-        return opening_verdict(ledger, room, bill);
-    }
     if ledger.count < bill.applicant.scheme as u32 {
         return Verdict::Refuses(6);
     }
-    joining_verdict(ledger, parties, room, bill)
+    let course = Course {
+        joining: joining_part(ledger, parties, bill),
+        opens: opens_scheme(bill),
+    };
+    course_verdict(ledger.count, ledger.entries, room, course)
 }

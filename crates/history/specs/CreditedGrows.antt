@@ -1,59 +1,61 @@
--- What an entry was credited grows in joinings alone.
+-- What an entry was credited grows in joinings alone: an opening has no credits, and no other decision adds an entering.
 use Prim.Native.Nat.{ℕ}
-use mathlib.Core.Path.{_≡_, refl}
+use mathlib.Core.Path.{_≡_, refl, _∙_}
 use mathlib.Core.List.{List}
+use mathlib.Core.Bool.{Bool, true, false}
 use native.Mathlib.Omega.{arith}
-use Rattle.charge.specs.Price.{priceOf}
+use lib.Dec.{eqb}
 use Rattle.charge.specs.declared.Bill.{Bill}
-use Rattle.charge.specs.declared.Pricing.{Pricing}
-use Rattle.charge.specs.declared.Pricing.the-variants.{Priced, NotPriced}
-use Rattle.acceptance.specs.Verdict.{verdict}
-use Rattle.acceptance.specs.Accept.{answerOf}
-use Rattle.acceptance.specs.declared.verdict.Verdict.{Verdict}
-use Rattle.acceptance.specs.declared.verdict.Verdict.the-variants.{StaysPlain, Opens, Joins, IsSmall, HasEnded, Refuses}
-use Rattle.acceptance.specs.declared.accept.SchemeAnswer.{SchemeAnswer}
-use Rattle.acceptance.specs.declared.accept.SchemeAnswer.the-variants.{Plain, Opened, Joined, Small, Ended}
-use Rattle.acceptance.specs.declared.accept.AcceptAnswer.the-variants.{Accepted, NotAccepted}
-use Rattle.ledger.specs.declared.entries.Answer.{Answer}
-use Rattle.ledger.specs.declared.entries.Answer.the-variants.{Done, Refused}
-use Rattle.history.specs.Calls.{Call, accept, payOut, handOver, CallAnswer, ofAccept, ofEntry}
-use Rattle.history.specs.History.{Event, paid, handed, ofCredit, schemes, schemeOf, creditedTo, entries, columnsIn, withBill, withPricing, pricingAnswer, payOutAnswer, handOverAnswer, ifDone, withCall, answerBy}
+use Rattle.ledger.specs.Lists.{consIf}
+use Rattle.calls.specs.Rules.{Credit}
+use Rattle.calls.specs.Decision.{Call, Decision, accepted, paidOut, handedOver, refused, decided, CallAnswer, isAccepted, isDone, isRefused, answerTo}
+use Rattle.calls.specs.declared.courses.Joining.{Joining}
+use Rattle.calls.specs.declared.courses.Joining.the-variants.{NotAsked, Ended, Small, Pays}
+use Rattle.calls.specs.declared.answers.JoiningAnswer.{JoiningAnswer}
+use Rattle.calls.specs.declared.answers.JoiningAnswer.the-variants as JoiningAnswer
+use Rattle.history.specs.History.{Entering, History, accountOf, enteringsOf, creditedTo, booksIn, billedIn, joinedIn, opener, openedIn, recorded, withCall, answerBy}
 
 -- the answer "joined"
-abbrev pub IsJoined : SchemeAnswer → Type 0
-IsJoined Plain = ⊥
-IsJoined (Opened s) = ⊥
-IsJoined (Joined joining) = Unit {0}
-IsJoined Small = ⊥
-IsJoined Ended = ⊥
+abbrev pub IsJoined : JoiningAnswer → Type 0
+IsJoined JoiningAnswer.NotAsked = ⊥
+IsJoined JoiningAnswer.Ended = ⊥
+IsJoined JoiningAnswer.Small = ⊥
+IsJoined (JoiningAnswer.Joined collected) = Unit {0}
 
 abbrev pub AnswersJoined : CallAnswer → Type 0
-AnswersJoined (ofAccept (Accepted acceptance)) = IsJoined (acceptance .scheme)
-AnswersJoined (ofAccept (NotAccepted r)) = ⊥
-AnswersJoined (ofEntry answer) = ⊥
+AnswersJoined (isAccepted acceptance) = IsJoined (acceptance .joining)
+AnswersJoined isDone = ⊥
+AnswersJoined (isRefused r) = ⊥
 
-module _ (room : ℕ) (history : List Event) (e : ℕ) where
-  bill-credits : (bill : Bill) (v : Verdict) → (AnswersJoined (ofAccept (answerOf (schemes history) (entries history) bill v)) → ⊥) →
-      creditedTo e (withBill history bill v) ≡ creditedTo e history
-  bill-credits bill StaysPlain none = omega arith
-  bill-credits bill Opens none = omega arith
-  bill-credits bill (Joins G) none = absurd (none tt)
-  bill-credits bill IsSmall none = omega arith
-  bill-credits bill HasEnded none = omega arith
-  bill-credits bill (Refuses number) none = refl
+module _ (room : ℕ) (history : History) (s e : ℕ) where
+  opener-credits : (t : Bool) (bill : Bill) (scheme entry : ℕ) (c : List Entering) → creditedTo e (consIf t (opener bill scheme entry) c) ≡ creditedTo e c
+  opener-credits true bill scheme entry c = omega arith
+  opener-credits false bill scheme entry c = refl
 
-  pricing-credits : (pricing : Pricing) → (AnswersJoined (ofAccept (pricingAnswer room history pricing)) → ⊥) →
-      creditedTo e (withPricing room history pricing) ≡ creditedTo e history
-  pricing-credits (Priced bill) none = bill-credits bill (verdict (columnsIn history) room bill) none
-  pricing-credits (NotPriced r) none = refl
+  opened-credits : (now : History) (bill : Bill) (opens : Bool) →
+      creditedTo e (accountOf s (openedIn opens bill now) .entered) ≡ creditedTo e (accountOf s now .entered)
+  opened-credits now bill false = refl
+  opened-credits now bill true =
+      opener-credits (eqb (now .nextScheme) s) bill (now .nextScheme) (now .nextEntry) (enteringsOf s (now .entered))
 
-  done-credits : (answer : Answer) (event : Event) → ofCredit e event ≡ 0 → creditedTo e (ifDone answer event history) ≡ creditedTo e history
-  done-credits Done event nothing = omega arith
-  done-credits (Refused r) event nothing = refl
+  joined-credits : (bill : Bill) (credits : List Credit) (joining : Joining) (opens : Bool) →
+      (AnswersJoined (answerTo (booksIn room history) (accepted bill (record { joining = joining; opens = opens }) credits)) → ⊥) →
+      creditedTo e (accountOf s (joinedIn joining credits bill (billedIn bill history)) .entered) ≡ creditedTo e (accountOf s history .entered)
+  joined-credits bill credits NotAsked opens other = refl
+  joined-credits bill credits Ended opens other = refl
+  joined-credits bill credits Small opens other = refl
+  joined-credits bill credits (Pays paid) opens other = absurd (other tt)
 
-  -- a call that is not answered "joined" credits no entry
+  decision-credits : (d : Decision) → (AnswersJoined (answerTo (booksIn room history) d) → ⊥) →
+      creditedTo e (accountOf s (recorded history d) .entered) ≡ creditedTo e (accountOf s history .entered)
+  decision-credits (accepted bill course credits) other =
+      opened-credits (joinedIn (course .joining) credits bill (billedIn bill history)) bill (course .opens)
+      ∙ joined-credits bill credits (course .joining) (course .opens) other
+  decision-credits (paidOut scheme entry amount) other = refl
+  decision-credits (handedOver entry person) other = refl
+  decision-credits (refused r) other = refl
+
+  -- a call that is not answered "joined" credits no entry of any scheme
   pub credited-in-joinings : (call : Call) → (AnswersJoined (answerBy room history call) → ⊥) →
-      creditedTo e (withCall room history call) ≡ creditedTo e history
-  credited-in-joinings (accept book request) none = pricing-credits (priceOf book request) none
-  credited-in-joinings (payOut one amount) none = done-credits (payOutAnswer history one amount) (paid (schemeOf one history) one amount) refl
-  credited-in-joinings (handOver one to) none = done-credits (handOverAnswer history one) (handed one to) refl
+      creditedTo e (accountOf s (withCall room history call) .entered) ≡ creditedTo e (accountOf s history .entered)
+  credited-in-joinings call other = decision-credits (decided (booksIn room history) call) other

@@ -1,562 +1,289 @@
--- One more call keeps it so that the ledger and the table show the history.
-use Prim.Native.Nat.{ℕ, suc, _+_, _*_, _-_, _≤_, _<_}
-use mathlib.Core.Path.{_≡_, refl, sym, ap, ap₂, _∙_}
+-- What a decision makes of the state that shows a history is the state that shows the history with the decision recorded.
+use Prim.Native.Nat.{ℕ, _+_, _≤_, _<_}
+use mathlib.Core.Path.{_≡_, refl, sym, ap, ap₂, _∙_, subst}
 use mathlib.Core.List.{List, [], _∷_, _++_, map}
-use mathlib.Core.Bool.{Bool, true, false, cond}
-use native.Mathlib.Nat.{add-zero, mul-zero, not-suc-le-zero, le-of-suc-le-suc}
+use mathlib.Core.Bool.{Bool, true, false, cond, true≢false}
 use native.Mathlib.Numerals.{add-one}
 use native.Mathlib.Omega.{arith}
-use lib.ListN.{length, getD, take, drop, set, length-append, length-drop, List·getD-eq-default, List·getD-append}
-use lib.Seq.{ext-getD, take-at, set-append-left}
+use lib.ListN.{length}
 use lib.Dec.{eqb}
-use Rattle.charge.specs.Price.{priceOf}
+use borrow.Author.Tests.{eqb-true, eq-eqb, ne-eqb}
 use Rattle.charge.specs.declared.Bill.{Bill}
-use Rattle.charge.specs.declared.Pricing.{Pricing}
-use Rattle.charge.specs.declared.Pricing.the-variants.{Priced, NotPriced}
-use Rattle.ledger.specs.Records.{noScheme, noParty, newLedger}
-use Rattle.ledger.specs.Table.{creditedMore, creditEach, newEntry}
-use Rattle.ledger.specs.TableLaws.{length-credit-each, credit-none, credited-at}
-use Rattle.ledger.specs.Sound.{sound}
-use Rattle.ledger.specs.SoundFacts.{sound-means}
-use Rattle.acceptance.specs.Verdict.{Columns, termsOf, columnsOf, verdict}
-use Rattle.acceptance.specs.VerdictFacts.{VerdictHas, verdict-has}
-use Rattle.acceptance.specs.Accept as accepting
-use Rattle.acceptance.specs.Accept.{booked, newScheme, firstEntry, feeTaken, joinerEntry, joiningCredits, answerOf, ledgerAfter, tableAfter, acceptedBy, acceptPriced, acceptOf}
-use Rattle.ledger.specs.Entries as entryCalls
-use Rattle.ledger.specs.Entries.{entryAt, paidMore, handedTo, changeOf, payOutChange, handOverChange, withEntry}
+use Rattle.ledger.specs.Lists.{consIf, inOrder, numberedFrom, All, nil, more}
+use Rattle.ledger.specs.Records.{newLedger}
+use Rattle.ledger.specs.Books.{schemeRow, entryRow}
+use Rattle.ledger.specs.Updates.{withPerson, withCredited, withPaidOut, withFees}
 use Rattle.ledger.specs.declared.records.Scheme.{Scheme}
 use Rattle.ledger.specs.declared.records.Party.{Party}
-use Rattle.acceptance.specs.declared.verdict.Verdict.{Verdict}
-use Rattle.acceptance.specs.declared.verdict.Verdict.the-variants.{StaysPlain, Opens, Joins, IsSmall, HasEnded, Refuses}
-use Rattle.ledger.specs.declared.entries.Answer.{Answer}
-use Rattle.ledger.specs.declared.entries.Answer.the-variants.{Done, Refused}
-use Rattle.history.specs.Calls.{Call, accept, payOut, handOver, ofAccept, ofEntry, State}
-use Rattle.history.specs.Steps.{answered, leaves}
-use Rattle.history.specs.History.{Event, connected, opened, joined, paid, handed, summed, ofOpening, connections, charged, borne, month, cost, fee, minimum, openingMonth, term, joinings, fees, schemes, schemeOf, capacity, putIn, creditedTo, paidTo, person, entries, numbered, termsIn, columnsIn, withBill, withPricing, pricingAnswer, entryMade, payOutAnswer, handOverAnswer, ifDone, withCall, answerBy}
-use Rattle.history.specs.Demand.{schemeIn, partyIn, ledgerIn, tableIn}
-use Rattle.history.specs.Numbered.{length-numbered, numbered-at, numbered-by, numbered-same, map-numbered, take-numbered, set-numbered, set-by, set-next}
-use Rattle.history.specs.Figures.{same-number, other-number, same-person, other-person, SchemeSame, scheme-kept, EntrySame, NotOfEntry, entry-kept, Fresh, Made, fresh-more, length-joining-credits, entry-made, pay-out-made, hand-over-made}
+use Rattle.calls.specs.Rules.{Credit, creditTo}
+use Rattle.calls.specs.Carried.{State, booksOn, schemesOn, entriesOn, atStart, withTable, newParty, newScheme, takesFee, isCredited, joined, opened, isPaid, isHanded}
+use Rattle.calls.specs.Calls.{stateOf}
+use Rattle.calls.specs.ListsLaws.{all-map, all-any, all-keep, all-inOrder, map-same}
+use Rattle.calls.specs.ByPlace.{length-at-start}
+use Rattle.calls.specs.declared.courses.Contribution.{Contribution}
+use Rattle.calls.specs.declared.courses.Joining.the-variants.{Pays}
+use Rattle.history.specs.History.{Entering, Payment, HandOver, History, enteringsOf, paymentsOf, fee, fees, creditedTo, paidTo, personOf, connections, charged, borne, openings, booksIn, schemeIn, schemesIn, ledgerIn, partyBy, partyIn, partiesIn, entersIn, joiner, opener, paidIn, handedIn}
+use Rattle.history.specs.Split.{all-below}
+use Rattle.history.specs.Chain.{Opens, Joins, joiner-uncredited, fees-more, fees-none, opener-uncredited}
+use Rattle.history.specs.SoundHistory.{SoundHistory, numbered, unpaid, no-enterings}
+use Rattle.history.specs.Numbering.{length-shown, by-number, shown-each, shown-more, take-at-start, at-start-again}
 
-pub record Shows (start : List Party) (history : List Event) (state : State) : Type 0 where
-  pub ledger : state .ledger ≡ ledgerIn history
-  pub table : state .table ≡ tableIn history start
+-- the ledger and the table that show a history, from this table at the start
+abbrev pub stateIn : List Party → History → State
+stateIn start h = stateOf (ledgerIn h) (atStart (partiesIn h) start)
 
-pub shows-new : (start : List Party) → Shows start [] (record { ledger = newLedger; table = start })
-unfolding ledgerIn tableIn
-shows-new start = record { ledger = refl; table = refl }
+-- ---- the rules read the same
 
--- ---- a scheme's record
+entries-many : (h : History) → length (partiesIn h) ≡ length (h .entered)
+entries-many h = length-shown (partyIn h) (h .entered)
 
-same-scheme : {s : ℕ} {after before : List Event} → SchemeSame s after before → schemeIn after s ≡ schemeIn before s
-same-scheme same =
-    λ i. record {
-      cost = same .cost i;
-      fee = same .fee i;
-      minimum = same .minimum i;
-      opening = same .opening i;
-      term = same .term i;
-      fees = same .fee i * same .joinings i;
-    }
+schemes-many : (h : History) → length (schemesIn h) ≡ length (openings (h .entered))
+schemes-many h = length-shown (schemeIn h) (openings (h .entered))
 
-opened-scheme : (number s e : ℕ) (bill : Bill) (history : List Event) → s ≡ number → SchemeSame number history [] →
-    schemeIn (opened s e bill ∷ history) number ≡ newScheme bill
-opened-scheme number s e bill history same none =
-    let told : (figure : Bill → ℕ) → summed (ofOpening number figure) history ≡ 0 →
-    summed (ofOpening number figure) (opened s e bill ∷ history) ≡ figure bill =
-    λ figure before. omega (arith, same-number s number (figure bill) same) in
-    let joinings-none : joinings number history + 0 ≡ 0 = omega (arith, none .joinings) in
-    let fees-none : fees number (opened s e bill ∷ history) ≡ 0 =
-    ap (λ n. fee number (opened s e bill ∷ history) * n) joinings-none ∙ mul-zero (fee number (opened s e bill ∷ history)) in
-    λ i. record {
-      cost = told _ (none .cost) i;
-      fee = told _ (none .fee) i;
-      minimum = told _ (none .minimum) i;
-      opening = told _ (none .opening) i;
-      term = told _ (none .term) i;
-      fees = fees-none i;
-    }
+module _ (start : List Party) (h : History) where
+  pub entries-on : entriesOn (stateIn start h) ≡ partiesIn h
+  entries-on = take-at-start (partiesIn h) start (length (h .entered)) (entries-many h)
 
-joined-scheme : (s e : ℕ) (bill : Bill) (G : ℕ) (credits : List ℕ) (history : List Event) →
-    schemeIn (joined s e bill G credits ∷ history) s ≡ feeTaken (schemeIn history s)
-joined-scheme s e bill G credits history =
-    let fees-more : fees s (joined s e bill G credits ∷ history) ≡ fees s history + fee s history =
-    omega (arith, ap (λ n. fee s history * n) (same-number s s 1 refl)) in
-    λ i. record {
-      cost = add-zero (cost s history) i;
-      fee = add-zero (fee s history) i;
-      minimum = add-zero (minimum s history) i;
-      opening = add-zero (openingMonth s history) i;
-      term = add-zero (term s history) i;
-      fees = fees-more i;
-    }
+  schemes-on : schemesOn (stateIn start h) ≡ schemesIn h
+  schemes-on = take-at-start (schemesIn h) (newLedger .schemes) (length (openings (h .entered))) (schemes-many h)
 
--- ---- the ledger
+  pub table-length : length (h .entered) ≤ length start → length (stateIn start h .table) ≡ length start
+  table-length fewer = length-at-start (partiesIn h) start (omega (arith, entries-many h))
 
-connected-ledger : (bill : Bill) (history : List Event) → booked (ledgerIn history) bill ≡ ledgerIn (connected bill ∷ history)
-unfolding ledgerIn
-connected-ledger bill history =
-    let same : numbered 64 (schemeIn history) ≡ numbered 64 (schemeIn (connected bill ∷ history)) =
-    numbered-same 64 (schemeIn history) (schemeIn (connected bill ∷ history))
-    (λ s low high. sym (same-scheme (scheme-kept s (connected bill) history tt))) in
-    λ i. record {
-      month = bill .applicant .month;
-      connections = connections history + 1;
-      charged = charged history + bill .reconciliation .cc;
-      borne = borne history + bill .reconciliation .borne;
-      entries = sym (add-zero (entries history)) i;
-      count = sym (add-zero (schemes history)) i;
-      schemes = same i;
-    }
+  pub books-shown : SoundHistory h → length (h .entered) ≤ length start → booksOn (stateIn start h) ≡ booksIn (length start) h
+  books-shown sound fewer = λ i. record {
+    connections = connections h;
+    month = h .month;
+    nextScheme = sym (sound .next-scheme) i;
+    nextEntry = sym (sound .next-entry) i;
+    room = table-length fewer i;
+    schemes =
+        (ap (numberedFrom 1 schemeRow) schemes-on
+        ∙ by-number (λ (e : Entering). e .scheme) schemeRow (schemeIn h) (openings (h .entered)) (sound .schemes-counted)) i;
+    entries =
+        (ap (numberedFrom 1 entryRow) entries-on
+        ∙ by-number (λ (e : Entering). e .entry) entryRow (partyIn h) (h .entered) (sound .entries-counted)) i;
+  }
 
-opened-ledger : (s e : ℕ) (bill : Bill) (history : List Event) → Fresh history → s ≡ schemes history + 1 → schemes history < 64 →
-    accepting.opened (ledgerIn history) bill ≡ ledgerIn (opened s e bill ∷ history)
-unfolding ledgerIn
-opened-ledger s e bill history fresh next below =
-    let one-more : set (numbered 64 (schemeIn history)) (schemes history) (newScheme bill) ≡ numbered 64 (schemeIn (opened s e bill ∷ history)) =
-    set-numbered 64 (schemeIn history) (schemeIn (opened s e bill ∷ history)) (schemes history) (newScheme bill) below
-    (opened-scheme (suc (schemes history)) s e bill history (omega arith) (fresh .no-scheme (suc (schemes history)) (omega arith)))
-    (λ other low high differs. same-scheme (scheme-kept other (opened s e bill) history (λ same. differs (omega arith)))) in
-    λ i. record {
-      month = month history;
-      connections = sym (add-zero (connections history)) i;
-      charged = sym (add-zero (charged history)) i;
-      borne = sym (add-zero (borne history)) i;
-      entries = entries history + 1;
-      count = schemes history + 1;
-      schemes = one-more i;
-    }
+-- entries at the start of the table that shows a history, where there are no fewer
+table-again : (start : List Party) (h after : History) (entries : List Party) → length (h .entered) ≤ length (after .entered) → entries ≡ partiesIn after →
+    atStart entries (stateIn start h .table) ≡ atStart (partiesIn after) start
+table-again start h after entries fewer same =
+    ap (λ (l : List Party). atStart l (stateIn start h .table)) same
+    ∙ at-start-again (partiesIn after) (partiesIn h) start (omega (arith, fewer, entries-many h, entries-many after))
 
-joined-ledger : (s e : ℕ) (bill : Bill) (G : ℕ) (credits : List ℕ) (history : List Event) → 1 ≤ s → s ≤ 64 →
-    accepting.joined (ledgerIn history) s ≡ ledgerIn (joined s e bill G credits ∷ history)
-unfolding ledgerIn
-joined-ledger s e bill G credits history low high =
-    let after : List Event = joined s e bill G credits ∷ history in
-    let before : List Scheme = numbered 64 (schemeIn history) in
-    let scheme : Scheme = getD before (s - 1) noScheme in
-    let as-shown : scheme ≡ schemeIn history s = numbered-by 64 (schemeIn history) s noScheme low high in
-    let fee-taken : set before (s - 1) (feeTaken scheme) ≡ numbered 64 (schemeIn after) =
-    set-by 64 (schemeIn history) (schemeIn after) s (feeTaken scheme) low high
-    (joined-scheme s e bill G credits history ∙ ap feeTaken (sym as-shown))
-    (λ other one within differs. same-scheme (scheme-kept other (joined s e bill G credits) history (λ same. differs (sym same)))) in
-    λ i. record {
-      month = month history;
-      connections = sym (add-zero (connections history)) i;
-      charged = sym (add-zero (charged history)) i;
-      borne = sym (add-zero (borne history)) i;
-      entries = entries history + 1;
-      count = sym (add-zero (schemes history)) i;
-      schemes = fee-taken i;
-    }
+-- and so of the places of schemes
+places-again : (h after : History) (schemes : List Scheme) → length (openings (h .entered)) ≤ length (openings (after .entered)) →
+    schemes ≡ schemesIn after → atStart schemes (ledgerIn h .schemes) ≡ ledgerIn after .schemes
+places-again h after schemes fewer same =
+    ap (λ (l : List Scheme). atStart l (ledgerIn h .schemes)) same
+    ∙ at-start-again (schemesIn after) (schemesIn h) (newLedger .schemes) (omega (arith, fewer, schemes-many h, schemes-many after))
 
--- ---- an entry's record
+-- ---- one more entering
 
-same-entry : {e : ℕ} {after before : List Event} → EntrySame e after before → partyIn after e ≡ partyIn before e
-same-entry same =
-    λ i. record {
-      scheme = same .scheme i;
-      person = same .person i;
-      capacity = same .capacity i;
-      «put_in» = same .put-in i;
-      credited = same .credited i;
-      «paid_out» = same .paid-out i;
-    }
+-- a party, before and after its scheme has one more entering
+party-credited : (t : Bool) (e j : Entering) (c : List Entering) (paid : List Payment) (handed : List HandOver) →
+    let party = partyBy (record { entered = c; paid = paid }) handed e in
+    cond t (withCredited (party .credited + creditTo (e .entry) (j .credits)) party) party
+    ≡ partyBy (record { entered = consIf t j c; paid = paid }) handed e
+party-credited true e j c paid handed = refl
+party-credited false e j c paid handed = refl
 
--- an entry that is made
-module _ (number s e : ℕ) (bill : Bill) (history : List Event) (same : e ≡ number) (none : EntrySame number history []) where
-  entered : (before figure : ℕ) → before ≡ 0 → before + cond (eqb e number) figure 0 ≡ figure
-  entered before figure none-before = omega (arith, same-number e number figure same)
+unhanded : (n at-first : ℕ) {handed : List HandOver} → All (λ x. x .entry < n) handed → personOf n at-first handed ≡ at-first
+unhanded n at-first nil = refl
+unhanded n at-first (more {x} below belows) = rw (ne-eqb (x .entry) n (λ same. omega (arith, same, below))) (unhanded n at-first belows)
 
-  opened-entry :
-      partyIn (opened s e bill ∷ history) number ≡ newEntry s (bill .applicant .person) (bill .applicant .capacity) (bill .reconciliation .x)
-  opened-entry =
-      λ i. record {
-        scheme = entered (schemeOf number history) s (none .scheme) i;
-        person = same-person number e (bill .applicant .person) (person number history) same i;
-        capacity = entered (capacity number history) (bill .applicant .capacity) (none .capacity) i;
-        «put_in» = entered (putIn number history) (bill .reconciliation .x) (none .put-in) i;
-        credited = (add-zero (creditedTo number history) ∙ none .credited) i;
-        «paid_out» = (add-zero (paidTo number history) ∙ none .paid-out) i;
-      }
+-- the new party has nothing yet
+party-new : (nextScheme : ℕ) (e : Entering) (h : History) → SoundHistory h → e .entry ≡ h .nextEntry →
+    creditedTo (e .entry) (enteringsOf (e .scheme) (e ∷ h .entered)) ≡ 0 → newParty (e .scheme) (e .bill) (e .putIn) ≡ partyIn (entersIn nextScheme e h) e
+party-new nextScheme e h sound new uncredited = λ i. record {
+  scheme = e .scheme;
+  person =
+      (sym (unhanded (h .nextEntry) (e .bill .applicant .person) (sound .handed-made))
+      ∙ ap (λ (n : ℕ). personOf n (e .bill .applicant .person) (h .handed)) (sym new)) i;
+  capacity = e .bill .applicant .capacity;
+  «put_in» = e .putIn;
+  credited = sym uncredited i;
+  «paid_out» =
+      (sym (unpaid (h .nextEntry) (all-keep (λ p. eqb (p .scheme) (e .scheme)) (sound .paid-made)))
+      ∙ ap (λ (n : ℕ). paidTo n (paymentsOf (e .scheme) (h .paid))) (sym new)) i;
+}
 
-  joined-entry : (G : ℕ) (credits : List ℕ) → getD credits (number - 1) 0 ≡ 0 →
-      partyIn (joined s e bill G credits ∷ history) number ≡ newEntry s (bill .applicant .person) (bill .applicant .capacity) G
-  joined-entry G credits no-credit =
-      let nothing : creditedTo number history + getD credits (number - 1) 0 ≡ 0 = omega (arith, none .credited) in
-      λ i. record {
-        scheme = entered (schemeOf number history) s (none .scheme) i;
-        person = same-person number e (bill .applicant .person) (person number history) same i;
-        capacity = entered (capacity number history) (bill .applicant .capacity) (none .capacity) i;
-        «put_in» = entered (putIn number history) G (none .put-in) i;
-        credited = nothing i;
-        «paid_out» = (add-zero (paidTo number history) ∙ none .paid-out) i;
-      }
+own-entering : (e : Entering) (c : List Entering) → enteringsOf (e .scheme) (e ∷ c) ≡ e ∷ enteringsOf (e .scheme) c
+own-entering e c = ap (λ (t : Bool). consIf t e (enteringsOf (e .scheme) c)) (eq-eqb (e .scheme) (e .scheme) refl)
 
--- an earlier entry, at a joining
-credited-entry : (number s e : ℕ) (bill : Bill) (G : ℕ) (credits : List ℕ) (history : List Event) → (e ≡ number → ⊥) →
-    partyIn (joined s e bill G credits ∷ history) number ≡ creditedMore (partyIn history number) (getD credits (number - 1) 0)
-credited-entry number s e bill G credits history other =
-    let kept : (before figure : ℕ) → before + cond (eqb e number) figure 0 ≡ before =
-    λ before figure. omega (arith, other-number e number figure other) in
-    λ i. record {
-      scheme = kept (schemeOf number history) s i;
-      person = other-person number e (bill .applicant .person) (person number history) other i;
-      capacity = kept (capacity number history) (bill .applicant .capacity) i;
-      «put_in» = kept (putIn number history) G i;
-      credited = creditedTo number history + getD credits (number - 1) 0;
-      «paid_out» = add-zero (paidTo number history) i;
-    }
+-- ---- a joining
 
-paid-entry : (s e amount : ℕ) (history : List Event) → partyIn (paid s e amount ∷ history) e ≡ paidMore (partyIn history e) amount
-paid-entry s e amount history =
-    λ i. record {
-      scheme = add-zero (schemeOf e history) i;
-      person = person e history;
-      capacity = add-zero (capacity e history) i;
-      «put_in» = add-zero (putIn e history) i;
-      credited = add-zero (creditedTo e history) i;
-      «paid_out» = paidTo e history + same-number e e amount refl i;
-    }
+scheme-joined : (t : Bool) (o j : Entering) (c : List Entering) → (t ≡ true → Joins j c) → (f : ℕ) → (t ≡ true → f ≡ fee c) → (scheme : Scheme) →
+    scheme .fees ≡ fees c → cond t (withFees (scheme .fees + f) scheme) scheme ≡ withFees (fees (consIf t j c)) scheme
+scheme-joined true o j c joins f same scheme now =
+    ap (λ (x : ℕ). withFees x scheme) (ap₂ (λ (x y : ℕ). x + y) now (same refl) ∙ sym (fees-more j c (joins refl)))
+scheme-joined false o j c joins f same scheme now = ap (λ (x : ℕ). withFees x scheme) now
 
-handed-entry : (e to : ℕ) (history : List Event) → partyIn (handed e to ∷ history) e ≡ handedTo (partyIn history e) to
-handed-entry e to history =
-    λ i. record {
-      scheme = add-zero (schemeOf e history) i;
-      person = same-person e e to (person e history) refl i;
-      capacity = add-zero (capacity e history) i;
-      «put_in» = add-zero (putIn e history) i;
-      credited = add-zero (creditedTo e history) i;
-      «paid_out» = add-zero (paidTo e history) i;
-    }
+module _ (start : List Party) (paid : Contribution) (credits : List Credit) (bill : Bill) (h : History) (sound : SoundHistory h)
+    (same-fee : paid .fee ≡ fee (enteringsOf (bill .applicant .scheme) (h .entered)))
+    (joins : Joins (joiner bill (h .nextEntry) (paid .collected) credits) (enteringsOf (bill .applicant .scheme) (h .entered))) where
+  abbrev s : ℕ
+  s = bill .applicant .scheme
 
--- ---- the table
+  abbrev j : Entering
+  j = joiner bill (h .nextEntry) (paid .collected) credits
 
-pub length-table : (history : List Event) (start : List Party) → entries history ≤ length start → length (tableIn history start) ≡ length start
-unfolding tableIn
-length-table history start within =
-    omega (
-      arith,
-      length-append (numbered (entries history) (partyIn history)) (drop (entries history) start),
-      length-numbered (entries history) (partyIn history),
-      length-drop (entries history) start,
-    )
+  abbrev after-joining : History
+  after-joining = entersIn (h .nextScheme) j h
 
-pub entry-in : (history : List Event) (start : List Party) (e : ℕ) → Made history e → entryAt (tableIn history start) e ≡ partyIn history e
-unfolding tableIn
-entry-in history start e made =
-    List·getD-append (numbered (entries history) (partyIn history)) (drop (entries history) start) noParty (e - 1)
-    (omega (arith, length-numbered (entries history) (partyIn history)))
-    ∙ numbered-by (entries history) (partyIn history) e noParty (made .0) (made .1)
+  joiner-new : creditedTo (h .nextEntry) (enteringsOf s (j ∷ h .entered)) ≡ 0
+  joiner-new =
+      ap (creditedTo (h .nextEntry)) (own-entering j (h .entered))
+      ∙ joiner-uncredited j (enteringsOf s (h .entered)) joins (sound .accounts s .chain)
+      (all-keep (λ e. eqb (e .scheme) s) (all-below (h .nextEntry) (h .entered) (numbered h sound)))
 
-pub shows-length : (start : List Party) (history : List Event) (state : State) → Shows start history state → entries history ≤ length start →
-    length (state .table) ≡ length start
-shows-length start history state shows within = ap length (shows .table) ∙ length-table history start within
+  fee-taken : (o : Entering) → takesFee s (paid .fee) (o .scheme) (schemeIn h o) ≡ schemeIn after-joining o
+  fee-taken o =
+      scheme-joined (eqb s (o .scheme)) o j (enteringsOf (o .scheme) (h .entered))
+      (λ here. subst (λ (n : ℕ). Joins j (enteringsOf n (h .entered))) (eqb-true s (o .scheme) here) joins) (paid .fee)
+      (λ here. same-fee ∙ ap (λ (n : ℕ). fee (enteringsOf n (h .entered))) (eqb-true s (o .scheme) here))
+      (schemeIn h o) refl
 
-connected-table : (bill : Bill) (history : List Event) (start : List Party) → tableIn (connected bill ∷ history) start ≡ tableIn history start
-unfolding tableIn
-connected-table bill history start =
-    let after : List Event = connected bill ∷ history in
-    ap (λ (n : ℕ). numbered n (partyIn after) ++ drop n start) (add-zero (entries history))
-    ∙ ap (λ parties. parties ++ drop (entries history) start)
-    (numbered-same (entries history) (partyIn after) (partyIn history) (λ e low high. same-entry (entry-kept e (connected bill) history tt)))
+  fees-taken : numberedFrom 1 (takesFee s (paid .fee)) (schemesOn (stateIn start h)) ≡ schemesIn after-joining
+  fees-taken =
+      ap (numberedFrom 1 (takesFee s (paid .fee))) (schemes-on start h)
+      ∙ shown-each (λ (e : Entering). e .scheme) (takesFee s (paid .fee)) (schemeIn h) (schemeIn after-joining) (sound .schemes-counted)
+      (all-any (openings (h .entered)) fee-taken)
 
-opened-table : (s e : ℕ) (bill : Bill) (history : List Event) (start : List Party) → Fresh history → e ≡ entries history + 1 →
-    entries history < length start →
-    set (tableIn history start) (entries history) (newEntry s (bill .applicant .person) (bill .applicant .capacity) (bill .reconciliation .x))
-    ≡ tableIn (opened s e bill ∷ history) start
-unfolding tableIn
-opened-table s e bill history start fresh next below =
-    let n : ℕ = entries history in
-    let after : List Event = opened s e bill ∷ history in
-    let new : Party = newEntry s (bill .applicant .person) (bill .applicant .capacity) (bill .reconciliation .x) in
-    set-next n (partyIn history) (partyIn after) start new below
-    (opened-entry (suc n) s e bill history (omega arith) (fresh .no-entry (suc n) (omega arith)))
-    (λ other low high. same-entry (entry-kept other (opened s e bill) history (λ same. omega arith)))
-    ∙ ap (λ (count : ℕ). numbered count (partyIn after) ++ drop count start) (sym (add-one n))
+  entries-joined : numberedFrom 1 (isCredited s credits) (entriesOn (stateIn start h)) ++ (newParty s bill (paid .collected) ∷ [])
+      ≡ partiesIn after-joining
+  entries-joined =
+      shown-more (partyIn after-joining) j (h .entered) (numberedFrom 1 (isCredited s credits) (entriesOn (stateIn start h))) (newParty s bill (paid .collected))
+      (ap (numberedFrom 1 (isCredited s credits)) (entries-on start h)
+      ∙ shown-each (λ (e : Entering). e .entry) (isCredited s credits) (partyIn h) (partyIn after-joining) (sound .entries-counted)
+      (all-any (h .entered)
+      (λ e. party-credited (eqb s (e .scheme)) e j (enteringsOf (e .scheme) (h .entered)) (paymentsOf (e .scheme) (h .paid)) (h .handed))))
+      (party-new (h .nextScheme) j h sound refl joiner-new)
 
--- the credits go to the first records
-credit-front : (parties rest : List Party) (credits : List ℕ) → length credits ≤ length parties →
-    creditEach (parties ++ rest) credits ≡ creditEach parties credits ++ rest
-unfolding creditEach
-credit-front [] rest [] within = credit-none rest
-credit-front [] rest (credit ∷ credits) within = absurd (not-suc-le-zero within)
-credit-front (party ∷ parties) rest [] within = refl
-credit-front (party ∷ parties) rest (credit ∷ credits) within =
-    ap (λ others. creditedMore party credit ∷ others) (credit-front parties rest credits (le-of-suc-le-suc within))
+  pub shows-joined : joined (Pays paid) credits bill (stateIn start h) ≡ stateIn start after-joining
+  shows-joined = λ i. record {
+    ledger = record {
+      month = h .month;
+      connections = connections h;
+      charged = charged h;
+      borne = borne h;
+      entries = add-one (length (h .entered)) i;
+      count = length (openings (h .entered));
+      schemes = places-again h after-joining (numberedFrom 1 (takesFee s (paid .fee)) (schemesOn (stateIn start h))) (omega arith) fees-taken i;
+    };
+    table =
+        table-again start h after-joining
+        (numberedFrom 1 (isCredited s credits) (entriesOn (stateIn start h)) ++ (newParty s bill (paid .collected) ∷ [])) (omega arith) entries-joined i;
+  }
 
-credit-numbered : (n : ℕ) (each : ℕ → Party) (credits : List ℕ) →
-    creditEach (numbered n each) credits ≡ numbered n (λ e. creditedMore (each e) (getD credits (e - 1) 0))
-credit-numbered n each credits =
-    let credited : ℕ → Party = λ e. creditedMore (each e) (getD credits (e - 1) 0) in
-    let many : length (creditEach (numbered n each) credits) ≡ n = length-credit-each (numbered n each) credits ∙ length-numbered n each in
-    ext-getD noParty (creditEach (numbered n each) credits) (numbered n credited) (many ∙ sym (length-numbered n credited))
-    (λ i below.
-    let within : i < n = omega arith in
-    let place : i ≡ suc i - 1 = omega arith in
-    credited-at (numbered n each) credits i (omega (arith, length-numbered n each))
-    ∙ ap₂ (λ (party : Party) (at : ℕ). creditedMore party (getD credits at 0)) (numbered-at n each i noParty within) place
-    ∙ sym (numbered-at n credited i noParty within))
+-- ---- an opening
 
-joined-table : (s e : ℕ) (bill : Bill) (G : ℕ) (credits : List ℕ) (history : List Event) (start : List Party) → Fresh history →
-    e ≡ entries history + 1 → length credits ≤ entries history → entries history < length start →
-    set (creditEach (tableIn history start) credits) (entries history) (newEntry s (bill .applicant .person) (bill .applicant .capacity) G)
-    ≡ tableIn (joined s e bill G credits ∷ history) start
-unfolding tableIn
-joined-table s e bill G credits history start fresh next few below =
-    let n : ℕ = entries history in
-    let after : List Event = joined s e bill G credits ∷ history in
-    let new : Party = newEntry s (bill .applicant .person) (bill .applicant .capacity) G in
-    let credited : ℕ → Party = λ other. creditedMore (partyIn history other) (getD credits (other - 1) 0) in
-    ap (λ table. set table n new)
-    (credit-front (numbered n (partyIn history)) (drop n start) credits (omega (arith, length-numbered n (partyIn history)))
-    ∙ ap (λ parties. parties ++ drop n start) (credit-numbered n (partyIn history) credits))
-    ∙ set-next n credited (partyIn after) start new below
-    (joined-entry (suc n) s e bill history (omega arith) (fresh .no-entry (suc n) (omega arith)) G credits
-    (List·getD-eq-default credits 0 (omega arith)))
-    (λ other low high. credited-entry other s e bill G credits history (λ same. omega arith))
-    ∙ ap (λ (count : ℕ). numbered count (partyIn after) ++ drop count start) (sym (add-one n))
+module _ (start : List Party) (bill : Bill) (h : History) (sound : SoundHistory h) where
+  abbrev o : Entering
+  o = opener bill (h .nextScheme) (h .nextEntry)
 
--- an event that changes one entry's record
-changed-table : (event : Event) (e : ℕ) (new : Party) (history : List Event) (start : List Party) → Made history e →
-    entries (event ∷ history) ≡ entries history → partyIn (event ∷ history) e ≡ new → ((other : ℕ) → (e ≡ other → ⊥) → NotOfEntry other event) →
-    set (tableIn history start) (e - 1) new ≡ tableIn (event ∷ history) start
-unfolding tableIn
-changed-table event e new history start made count here not-of =
-    let n : ℕ = entries history in
-    let after : List Event = event ∷ history in
-    set-append-left (numbered n (partyIn history)) (drop n start) (e - 1) new (omega (arith, length-numbered n (partyIn history)))
-    ∙ ap (λ parties. parties ++ drop n start)
-    (set-by n (partyIn history) (partyIn after) e new (made .0) (made .1) here
-    (λ other one within differs. same-entry (entry-kept other event history (not-of other (λ same. differs (sym same))))))
-    ∙ ap (λ (n : ℕ). numbered n (partyIn after) ++ drop n start) (sym count)
+  abbrev after-opening : History
+  after-opening = entersIn (h .nextScheme + 1) o h
 
-module _ (e : ℕ) (history : List Event) (start : List Party) (made : Made history e) where
-  pub paid-table : (s amount : ℕ) →
-      set (tableIn history start) (e - 1) (paidMore (entryAt (tableIn history start) e) amount) ≡ tableIn (paid s e amount ∷ history) start
-  paid-table s amount =
-      changed-table (paid s e amount) e (paidMore (entryAt (tableIn history start) e) amount) history start made (add-zero (entries history))
-      (paid-entry s e amount history ∙ ap (λ party. paidMore party amount) (sym (entry-in history start e made)))
-      (λ other differs. differs)
+  -- it is none of theirs
+  not-theirs : (e : Entering) → e .scheme < h .nextScheme → enteringsOf (e .scheme) (h .entered) ≡ enteringsOf (e .scheme) (o ∷ h .entered)
+  not-theirs e below =
+      ap (λ (t : Bool). consIf t o (enteringsOf (e .scheme) (h .entered))) (sym (ne-eqb (h .nextScheme) (e .scheme) (λ same. omega (arith, same, below))))
 
-  pub handed-table : (to : ℕ) →
-      set (tableIn history start) (e - 1) (handedTo (entryAt (tableIn history start) e) to) ≡ tableIn (handed e to ∷ history) start
-  handed-table to =
-      changed-table (handed e to) e (handedTo (entryAt (tableIn history start) e) to) history start made (add-zero (entries history))
-      (handed-entry e to history ∙ ap (λ party. handedTo party to) (sym (entry-in history start e made)))
-      (λ other differs. differs)
+  alone : enteringsOf (h .nextScheme) (o ∷ h .entered) ≡ o ∷ []
+  alone = own-entering o (h .entered) ∙ ap (λ (c : List Entering). o ∷ c) (no-enterings h sound)
 
--- ---- what the rules read
+  schemes-opened : Opens o → schemesOn (stateIn start h) ++ (newScheme bill ∷ []) ≡ schemesIn after-opening
+  schemes-opened is =
+      shown-more (schemeIn after-opening) o (openings (h .entered)) (schemesOn (stateIn start h)) (newScheme bill)
+      (schemes-on start h
+      ∙ map-same (schemeIn h) (schemeIn after-opening)
+      (all-inOrder (all-keep (λ e. e .opens)
+      (all-map
+      (λ (e : Entering) (below : e .scheme < h .nextScheme). ap (λ (c : List Entering). withFees (fees c) (schemeIn h e)) (not-theirs e below))
+      (sound .schemes-made)))))
+      (ap (λ (x : ℕ). withFees x (newScheme bill)) (sym (ap fees alone ∙ fees-none o is)))
 
-module _ (history : List Event) (start : List Party) where
-  pub shown-entries : take (entries history) (tableIn history start) ≡ numbered (entries history) (partyIn history)
-  unfolding tableIn
-  shown-entries =
-      take-at (numbered (entries history) (partyIn history)) (drop (entries history) start) (entries history)
-      (length-numbered (entries history) (partyIn history))
+  opened-number : booksOn (stateIn start h) .nextScheme ≡ h .nextScheme
+  opened-number = sym (sound .next-scheme)
 
-  pub shown-column : (figure : Party → ℕ) → map figure (take (entries history) (tableIn history start)) ≡
-      numbered (entries history) (λ e. figure (partyIn history e))
-  shown-column figure = ap (map figure) shown-entries ∙ map-numbered figure (entries history) (partyIn history)
+  entries-opened : Opens o →
+      entriesOn (stateIn start h) ++ (newParty (booksOn (stateIn start h) .nextScheme) bill (bill .reconciliation .x) ∷ []) ≡ partiesIn after-opening
+  entries-opened is =
+      shown-more (partyIn after-opening) o (h .entered) (entriesOn (stateIn start h))
+      (newParty (booksOn (stateIn start h) .nextScheme) bill (bill .reconciliation .x))
+      (entries-on start h
+      ∙ map-same (partyIn h) (partyIn after-opening)
+      (all-inOrder
+      (all-map
+      (λ (e : Entering) (below : e .scheme < h .nextScheme).
+      ap (λ (c : List Entering). partyBy (record { entered = c; paid = paymentsOf (e .scheme) (h .paid) }) (h .handed) e) (not-theirs e below))
+      (sound .schemes-made))))
+      (ap (λ (n : ℕ). newParty n bill (bill .reconciliation .x)) opened-number
+      ∙ party-new (h .nextScheme + 1) o h sound refl (ap (creditedTo (h .nextEntry)) alone ∙ opener-uncredited o is (h .nextEntry)))
 
-  pub columns-shown : schemes history ≤ 64 → columnsOf (ledgerIn history) (tableIn history start) ≡ columnsIn history
-  unfolding ledgerIn columnsIn
-  columns-shown few =
-      let terms-same : map termsOf (take (schemes history) (numbered 64 (schemeIn history))) ≡ numbered (schemes history) (termsIn history) =
-      ap (map termsOf) (take-numbered (schemes history) 64 (schemeIn history) few) ∙ map-numbered termsOf (schemes history) (schemeIn history) in
-      λ i. record {
-        connections = connections history;
-        month = month history;
-        count = schemes history;
-        entries = entries history;
-        terms = terms-same i;
-        schemes = shown-column (λ party. party .scheme) i;
-        capacities = shown-column (λ party. party .capacity) i;
-      }
+  pub shows-opened : Opens o → opened true bill (stateIn start h) ≡ stateIn start after-opening
+  shows-opened is = λ i. record {
+    ledger = record {
+      month = h .month;
+      connections = connections h;
+      charged = charged h;
+      borne = borne h;
+      entries = add-one (length (h .entered)) i;
+      count = add-one (length (openings (h .entered))) i;
+      schemes = places-again h after-opening (schemesOn (stateIn start h) ++ (newScheme bill ∷ [])) (omega arith) (schemes-opened is) i;
+    };
+    table =
+        table-again start h after-opening
+        (entriesOn (stateIn start h) ++ (newParty (booksOn (stateIn start h) .nextScheme) bill (bill .reconciliation .x) ∷ [])) (omega arith)
+        (entries-opened is) i;
+  }
 
--- ---- one more bill
+-- ---- a pay-out, a hand-over
 
-module _ (history : List Event) (start : List Party) (fresh : Fresh history) where
-  connected-fresh : (bill : Bill) → Fresh (connected bill ∷ history)
-  connected-fresh bill = fresh-more history fresh (connected bill) tt
+paid-more : (t u : Bool) (n : ℕ) (p : Payment) (paid : List Payment) → eqb (p .entry) n ≡ t → (t ≡ true → u ≡ true) →
+    cond t (paidTo n paid + p .amount) (paidTo n paid) ≡ paidTo n (consIf u p paid)
+paid-more true true n p paid same own = omega (arith, ap (λ (t : Bool). cond t (p .amount) 0) same)
+paid-more true false n p paid same own = absurd (true≢false (sym (own refl)))
+paid-more false true n p paid same own = omega (arith, ap (λ (t : Bool). cond t (p .amount) 0) same)
+paid-more false false n p paid same own = refl
 
-  pub bill-ledger : (bill : Bill) (v : Verdict) → schemes history ≤ 64 → VerdictHas (columnsIn history) (length start) bill v →
-      ledgerAfter (ledgerIn history) bill v ≡ ledgerIn (withBill history bill v)
-  unfolding columnsIn
-  bill-ledger bill StaysPlain few has = connected-ledger bill history
-  bill-ledger bill Opens few has =
-      ap (λ ledger. accepting.opened ledger bill) (connected-ledger bill history)
-      ∙ opened-ledger (schemes history + 1) (entries history + 1) bill (connected bill ∷ history) (connected-fresh bill) (omega arith)
-      (omega (arith, has .schemes))
-  bill-ledger bill (Joins G) few has =
-      ap (λ ledger. accepting.joined ledger (bill .applicant .scheme)) (connected-ledger bill history)
-      ∙ joined-ledger (bill .applicant .scheme) (entries history + 1) bill G (joiningCredits (columnsIn history) bill G) (connected bill ∷ history)
-      (has .numbered) (omega (arith, has .opened))
-  bill-ledger bill IsSmall few has = connected-ledger bill history
-  bill-ledger bill HasEnded few has = connected-ledger bill history
-  bill-ledger bill (Refuses number) few has = refl
+party-paid : (t : Bool) (party : Party) (x : ℕ) → cond t (withPaidOut x party) party ≡ withPaidOut (cond t x (party .«paid_out»)) party
+party-paid true party x = refl
+party-paid false party x = refl
 
-  pub bill-table : (bill : Bill) (v : Verdict) → schemes history ≤ 64 → VerdictHas (columnsIn history) (length start) bill v →
-      tableAfter (ledgerIn history) (tableIn history start) bill v ≡ tableIn (withBill history bill v) start
-  unfolding ledgerIn columnsIn
-  bill-table bill StaysPlain few has = sym (connected-table bill history start)
-  bill-table bill Opens few has =
-      ap₂ (λ (table : List Party) (place : ℕ). set table place (firstEntry (ledgerIn history) bill))
-      (sym (connected-table bill history start)) (sym (add-zero (entries history)))
-      ∙ opened-table (schemes history + 1) (entries history + 1) bill (connected bill ∷ history) start (connected-fresh bill) (omega arith)
-      (omega (arith, has .left .in-table))
-  bill-table bill (Joins G) few has =
-      let credits : List ℕ = joiningCredits (columnsIn history) bill G in
-      ap (λ columns. set (creditEach (tableIn history start) (joiningCredits columns bill G)) (entries history) (joinerEntry bill G))
-      (columns-shown history start few)
-      ∙ ap₂ (λ (table : List Party) (place : ℕ). set (creditEach table credits) place (joinerEntry bill G))
-      (sym (connected-table bill history start)) (sym (add-zero (entries history)))
-      ∙ joined-table (bill .applicant .scheme) (entries history + 1) bill G credits (connected bill ∷ history) start (connected-fresh bill)
-      (omega arith) (omega (arith, length-joining-credits history bill G)) (omega (arith, has .left .in-table))
-  bill-table bill IsSmall few has = sym (connected-table bill history start)
-  bill-table bill HasEnded few has = sym (connected-table bill history start)
-  bill-table bill (Refuses number) few has = refl
+party-handed : (t : Bool) (party : Party) (person : ℕ) → cond t (withPerson person party) party ≡ withPerson (cond t person (party .person)) party
+party-handed true party person = refl
+party-handed false party person = refl
 
--- a pay-out and a hand-over leave the ledger as it was
-handed-ledger : (e to : ℕ) (history : List Event) → ledgerIn (handed e to ∷ history) ≡ ledgerIn history
-unfolding ledgerIn
-handed-ledger e to history =
-    let same : numbered 64 (schemeIn (handed e to ∷ history)) ≡ numbered 64 (schemeIn history) =
-    numbered-same 64 (schemeIn (handed e to ∷ history)) (schemeIn history) (λ s low high. same-scheme (scheme-kept s (handed e to) history tt)) in
-    λ i. record {
-      month = month history;
-      connections = add-zero (connections history) i;
-      charged = add-zero (charged history) i;
-      borne = add-zero (borne history) i;
-      entries = add-zero (entries history) i;
-      count = add-zero (schemes history) i;
-      schemes = same i;
-    }
+-- entries changed each by its number, where none is added
+shows-changed : (start : List Party) (h after : History) (change : ℕ → Party → Party) → SoundHistory h → after .entered ≡ h .entered →
+    All (λ e. change (e .entry) (partyIn h e) ≡ partyIn after e) (h .entered) →
+    atStart (numberedFrom 1 change (entriesOn (stateIn start h))) (stateIn start h .table) ≡ atStart (partiesIn after) start
+shows-changed start h after change sound kept same =
+    table-again start h after (numberedFrom 1 change (entriesOn (stateIn start h))) (omega (arith, ap length kept))
+    (ap (numberedFrom 1 change) (entries-on start h)
+    ∙ shown-each (λ (e : Entering). e .entry) change (partyIn h) (partyIn after) (sound .entries-counted) same
+    ∙ ap (λ (l : List Entering). map (partyIn after) (inOrder l)) (sym kept))
 
-paid-ledger : (s e amount : ℕ) (history : List Event) → ledgerIn (paid s e amount ∷ history) ≡ ledgerIn history
-unfolding ledgerIn
-paid-ledger s e amount history = handed-ledger e 0 history
+module _ (start : List Party) (h : History) (sound : SoundHistory h) where
+  pub shows-paid : (p : Payment) → All (λ e. eqb (p .entry) (e .entry) ≡ true → p .scheme ≡ e .scheme) (h .entered) →
+      withTable (numberedFrom 1 (isPaid (p .entry) (p .amount)) (entriesOn (stateIn start h))) (stateIn start h) ≡ stateIn start (paidIn p h)
+  shows-paid p known =
+      ap (stateOf (ledgerIn h))
+      (shows-changed start h (paidIn p h) (isPaid (p .entry) (p .amount)) sound refl
+      (all-map
+      (λ (e : Entering) (own : eqb (p .entry) (e .entry) ≡ true → p .scheme ≡ e .scheme).
+      party-paid (eqb (p .entry) (e .entry)) (partyIn h e) (partyIn h e .«paid_out» + p .amount)
+      ∙ ap (λ (x : ℕ). withPaidOut x (partyIn h e))
+      (paid-more (eqb (p .entry) (e .entry)) (eqb (p .scheme) (e .scheme)) (e .entry) p (paymentsOf (e .scheme) (h .paid)) refl
+      (λ here. eq-eqb (p .scheme) (e .scheme) (own here))))
+      known))
 
--- what is asked of an entry, only where it was made
-same-where-made : (made : Bool) (one other missing : Answer) → (made ≡ true → one ≡ other) → cond made one missing ≡ cond made other missing
-same-where-made true one other missing same = same refl
-same-where-made false one other missing same = refl
-
-answer-kept : (answer : Answer) (party : Party) → changeOf answer party .answer ≡ answer
-answer-kept Done party = refl
-answer-kept (Refused r) party = refl
-
--- ---- one more call, on the ledger and the table that show the history
-
-abbrev pub shown : List Party → List Event → State
-shown start history = record { ledger = ledgerIn history; table = tableIn history start }
-
-module _ (start : List Party) (history : List Event) (fresh : Fresh history)
-    (stands : sound (ledgerIn history) (tableIn history start) (length start) ≡ true) where
-  few-schemes : schemes history ≤ 64
-  unfolding ledgerIn
-  few-schemes = sound-means (ledgerIn history) (tableIn history start) (length start) stands .schemes
-
-  same-length : length (tableIn history start) ≡ length start
-  unfolding ledgerIn
-  same-length = length-table history start (sound-means (ledgerIn history) (tableIn history start) (length start) stands .in-table)
-
-  stands-here : sound (ledgerIn history) (tableIn history start) (length (tableIn history start)) ≡ true
-  stands-here = rw same-length stands
-
-  priced-shown : (pricing : Pricing) →
-      acceptPriced (ledgerIn history) (tableIn history start) pricing
-      ≡ record {
-        answer = pricingAnswer (length start) history pricing;
-        ledger = ledgerIn (withPricing (length start) history pricing);
-        table = tableIn (withPricing (length start) history pricing) start;
-      }
-  unfolding ledgerIn
-  priced-shown (Priced bill) =
-      let v : Verdict = verdict (columnsIn history) (length start) bill in
-      let read : verdict (columnsOf (ledgerIn history) (tableIn history start)) (length (tableIn history start)) bill ≡ v =
-      ap₂ (λ (columns : Columns) (room : ℕ). verdict columns room bill) (columns-shown history start few-schemes) same-length in
-      let has : VerdictHas (columnsIn history) (length start) bill v = verdict-has (columnsIn history) (length start) bill in
-      ap (acceptedBy (ledgerIn history) (tableIn history start) bill) read
-      ∙ (λ i. record {
-        answer = answerOf (schemes history) (entries history) bill v;
-        ledger = bill-ledger history start fresh bill v few-schemes has i;
-        table = bill-table history start fresh bill v few-schemes has i;
-      })
-  priced-shown (NotPriced r) = refl
-
-  accept-shown : (pricing : Pricing) →
-      acceptOf (ledgerIn history) (tableIn history start) pricing
-      ≡ record {
-        answer = pricingAnswer (length start) history pricing;
-        ledger = ledgerIn (withPricing (length start) history pricing);
-        table = tableIn (withPricing (length start) history pricing) start;
-      }
-  unfolding acceptOf
-  accept-shown pricing = rw stands-here (priced-shown pricing)
-
-  -- the calls on an entry
-  module _ (e : ℕ) where
-    pay-out-change : (amount : ℕ) →
-        payOutChange (ledgerIn history) (tableIn history start) (length (tableIn history start)) e amount
-        ≡ changeOf (payOutAnswer history e amount) (paidMore (entryAt (tableIn history start) e) amount)
-    unfolding ledgerIn payOutChange
-    pay-out-change amount =
-        let table : List Party = tableIn history start in
-        let told : entryCalls.payOutAnswer (ledgerIn history) table (length table) e amount ≡ payOutAnswer history e amount =
-        rw stands-here
-        (same-where-made (entryMade history e) _ _ _
-        (λ made. rw (entry-in history start e (entry-made history e made)))) in
-        ap (λ answer. changeOf answer (paidMore (entryAt table e) amount)) told
-
-    hand-over-change : (to : ℕ) →
-        handOverChange (ledgerIn history) (tableIn history start) (length (tableIn history start)) e to
-        ≡ changeOf (handOverAnswer history e) (handedTo (entryAt (tableIn history start) e) to)
-    unfolding ledgerIn handOverChange
-    hand-over-change to = rw stands-here
-
-    -- the state after it, where it replaces the entry's record by `new`
-    entry-shown : (event : Event) (new : Party) (answer : Answer) → ledgerIn (event ∷ history) ≡ ledgerIn history →
-        (answer ≡ Done → set (tableIn history start) (e - 1) new ≡ tableIn (event ∷ history) start) →
-        _≡_ {A = State}
-        (record { ledger = ledgerIn history; table = withEntry (tableIn history start) e (changeOf answer new) })
-        (shown start (ifDone answer event history))
-    entry-shown event new Done same changed = λ i. record { ledger = sym same i; table = changed refl i }
-    entry-shown event new (Refused r) same changed = refl
-
-  answered-shown : (call : Call) → answered (shown start history) call ≡ answerBy (length start) history call
-  answered-shown (accept book request) = ap (λ after. ofAccept (after .answer)) (accept-shown (priceOf book request))
-  answered-shown (payOut e amount) =
-      ap (λ change. ofEntry (change .answer)) (pay-out-change e amount) ∙ ap ofEntry (answer-kept (payOutAnswer history e amount) _)
-  answered-shown (handOver e to) =
-      ap (λ change. ofEntry (change .answer)) (hand-over-change e to) ∙ ap ofEntry (answer-kept (handOverAnswer history e) _)
-
-  leaves-shown : (call : Call) → leaves (shown start history) call ≡ shown start (withCall (length start) history call)
-  leaves-shown (accept book request) = ap (λ after. record { ledger = after .ledger; table = after .table }) (accept-shown (priceOf book request))
-  leaves-shown (payOut e amount) =
-      let event : Event = paid (schemeOf e history) e amount in
-      ap (λ change. record { ledger = ledgerIn history; table = withEntry (tableIn history start) e change }) (pay-out-change e amount)
-      ∙ entry-shown e event (paidMore (entryAt (tableIn history start) e) amount) (payOutAnswer history e amount)
-      (paid-ledger (schemeOf e history) e amount history)
-      (λ done. paid-table e history start (pay-out-made history e amount done) (schemeOf e history) amount)
-  leaves-shown (handOver e to) =
-      ap (λ change. record { ledger = ledgerIn history; table = withEntry (tableIn history start) e change }) (hand-over-change e to)
-      ∙ entry-shown e (handed e to) (handedTo (entryAt (tableIn history start) e) to) (handOverAnswer history e) (handed-ledger e to history)
-      (λ done. handed-table e history start (hand-over-made history e done) to)
-
--- ---- one more call
-
-module _ (start : List Party) (history : List Event) (state : State) (shows : Shows start history state) (fresh : Fresh history)
-    (stands : sound (state .ledger) (state .table) (length start) ≡ true) where
-  state-shown : state ≡ shown start history
-  state-shown = λ i. record { ledger = shows .ledger i; table = shows .table i }
-
-  stands-shown : sound (ledgerIn history) (tableIn history start) (length start) ≡ true
-  stands-shown = sym (ap (λ (there : State). sound (there .ledger) (there .table) (length start)) state-shown) ∙ stands
-
-  pub answer-step : (call : Call) → answered state call ≡ answerBy (length start) history call
-  answer-step call = ap (λ (there : State). answered there call) state-shown ∙ answered-shown start history fresh stands-shown call
-
-  pub shows-step : (call : Call) → Shows start (withCall (length start) history call) (leaves state call)
-  shows-step call =
-      let after : leaves state call ≡ shown start (withCall (length start) history call) =
-      ap (λ (there : State). leaves there call) state-shown ∙ leaves-shown start history fresh stands-shown call in
-      record { ledger = ap (λ (there : State). there .ledger) after; table = ap (λ (there : State). there .table) after }
+  pub shows-handed : (x : HandOver) →
+      withTable (numberedFrom 1 (isHanded (x .entry) (x .person)) (entriesOn (stateIn start h))) (stateIn start h) ≡ stateIn start (handedIn x h)
+  shows-handed x =
+      ap (stateOf (ledgerIn h))
+      (shows-changed start h (handedIn x h) (isHanded (x .entry) (x .person)) sound refl
+      (all-any (h .entered) (λ e. party-handed (eqb (x .entry) (e .entry)) (partyIn h e) (x .person))))

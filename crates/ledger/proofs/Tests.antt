@@ -1,6 +1,6 @@
 -- What an answer that is tested says of the definition that it equals, and bounds of a scheme's sums.
 use Prim.Native.Nat.{ℕ, _*_, _-_, _≤_}
-use mathlib.Core.Path.{_≡_, refl, sym, _∙_}
+use mathlib.Core.Path.{_≡_, refl, sym, ap, _∙_}
 use mathlib.Core.Bool.{Bool, true, false, not, cond}
 use native.Mathlib.Nat.{mul-le-mul}
 use native.Mathlib.Omega.{arith}
@@ -11,6 +11,13 @@ passes e t = sym e ∙ not-false _ t
 
 pub fails : {answer defined : Bool} → answer ≡ defined → not answer ≡ true → defined ≡ false
 fails e t = sym e ∙ not-true _ t
+
+-- one turn of a loop that tests records one after the other
+pub stops : {defined : Bool} → defined ≡ false → (next : Bool) → cond defined next false ≡ false
+stops failed next = ap (λ test. cond test next false) failed
+
+pub goes-on : {defined next : Bool} → defined ≡ true → cond defined next false ≡ next
+goes-on {defined} {next} passed = ap (λ test. cond test next false) passed
 
 -- the last test of a list of conditions
 pub last-holds : (condition : Bool) → condition ≡ cond condition true false

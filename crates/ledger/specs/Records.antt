@@ -1,4 +1,4 @@
--- Document 01, 'Ledger calls': "a new one holds zeros only".
+-- The records field by field, and those of a new ledger: "a new one holds zeros only" (document 01, 'Ledger calls').
 use Prim.Native.Nat.{ℕ}
 use mathlib.Core.List.{List}
 use lib.ListN.{replicate}
@@ -6,15 +6,26 @@ use Rattle.ledger.specs.declared.records.Scheme.{Scheme}
 use Rattle.ledger.specs.declared.records.Party.{Party}
 use Rattle.ledger.specs.declared.records.Ledger.{Ledger}
 
+abbrev pub schemeOf : ℕ → ℕ → ℕ → ℕ → ℕ → ℕ → Scheme
+schemeOf cost fee minimum opening term fees = record { cost = cost; fee = fee; minimum = minimum; opening = opening; term = term; fees = fees }
+
+abbrev pub partyOf : ℕ → ℕ → ℕ → ℕ → ℕ → ℕ → Party
+partyOf scheme person capacity putIn credited paidOut =
+    record { scheme = scheme; person = person; capacity = capacity; «put_in» = putIn; credited = credited; «paid_out» = paidOut }
+
+abbrev pub ledgerOf : ℕ → ℕ → ℕ → ℕ → ℕ → ℕ → List Scheme → Ledger
+ledgerOf month connections charged borne entries count schemes =
+    record { month = month; connections = connections; charged = charged; borne = borne; entries = entries; count = count; schemes = schemes }
+
 abbrev pub noScheme : Scheme
-noScheme = record { cost = 0; fee = 0; minimum = 0; opening = 0; term = 0; fees = 0 }
+noScheme = schemeOf 0 0 0 0 0 0
 
 abbrev pub noParty : Party
-noParty = record { scheme = 0; person = 0; capacity = 0; «put_in» = 0; credited = 0; «paid_out» = 0 }
+noParty = partyOf 0 0 0 0 0 0
 
 -- the records where there is no entry
 unfoldable pub noParties : List Party
 noParties = replicate 512 noParty
 
 abbrev pub newLedger : Ledger
-newLedger = record { month = 0; connections = 0; charged = 0; borne = 0; entries = 0; count = 0; schemes = replicate 64 noScheme }
+newLedger = ledgerOf 0 0 0 0 0 0 (replicate 64 noScheme)

@@ -8,9 +8,13 @@ use mathlib.Core.Bool.{Bool, true, false, cond}
 use lib.ListN.{take, drop}
 use lib.Dec.{leb, eqb}
 use Rattle.ledger.specs.Columns.{schemeColumn, putInColumn, creditedColumn, sumOver, entriesOf, firstPutIn}
+use Rattle.ledger.specs.Lookup.{schemePlace}
+use Rattle.ledger.specs.declared.lookup.SchemeAt.{SchemeAt}
+use Rattle.ledger.specs.declared.lookup.SchemeAt.the-variants as SchemeAt
 use Rattle.ledger.specs.declared.records.Scheme.{Scheme}
 use Rattle.ledger.specs.declared.records.Party.{Party}
 use Rattle.ledger.specs.declared.records.Ledger.{Ledger}
+use Rattle.ledger.specs.declared.sound.Tally.{Tally}
 
 -- every condition holds
 abbrev pub allHold : List Bool → Bool
@@ -29,47 +33,55 @@ sumsSound ledger =
     leb (ledger .borne) (1100000000000 * ledger .connections) ∷
     [])
 
--- an entry, where there are so many schemes
-abbrev pub partySound : ℕ → Party → Bool
-partySound count party =
-    allHold
-    (leb 1 (party .scheme) ∷
-    leb (party .scheme) count ∷
+-- "each entry's scheme exists"
+abbrev pub hasPlace : SchemeAt → Bool
+hasPlace (SchemeAt.Place k) = true
+hasPlace SchemeAt.NeverOpened = false
+
+-- an entry's capacity and amounts
+abbrev pub figuresWithin : Party → List Bool
+figuresWithin party =
     leb 1 (party .capacity) ∷
     leb (party .capacity) 1000000 ∷
     leb (party .«put_in») 2000000000 ∷
     leb (party .credited) 2000000000000 ∷
     leb (party .«paid_out») (party .credited) ∷
-    [])
+    []
+
+-- an entry, where there are so many schemes
+abbrev pub partySound : ℕ → Party → Bool
+partySound count party = allHold (hasPlace (schemePlace count (party .scheme)) ∷ figuresWithin party)
 
 unfoldable pub partiesSound : ℕ → List Party → Bool
 partiesSound count [] = true
 partiesSound count (party ∷ parties) = cond (partySound count party) (partiesSound count parties) false
 
--- a scheme's terms, and its accounts where its entries are so many, the first put in `first`, and all were credited `credited` and put in `putIn`; no
--- subtraction, since a party's credited can exceed what it put in
-abbrev pub accountsSound : ℕ → Scheme → ℕ → ℕ → ℕ → ℕ → Bool
-accountsSound month scheme entries first credited putIn =
+-- what the entries of scheme s come to
+abbrev pub tallyOf : ℕ → List Party → Tally
+tallyOf s parties =
+    record {
+      entries = entriesOf s parties;
+      first = firstPutIn s (schemeColumn parties) (putInColumn parties);
+      credited = sumOver s (schemeColumn parties) (creditedColumn parties);
+      «put_in» = sumOver s (schemeColumn parties) (putInColumn parties);
+    }
+
+-- a scheme's terms and accounts; no subtraction, since a party's credited can exceed what it put in
+abbrev pub accountsSound : ℕ → Scheme → Tally → Bool
+accountsSound month scheme tally =
     allHold
     (leb (scheme .fee) (scheme .minimum) ∷
     leb (scheme .minimum) 1000000000 ∷
     leb 84 (scheme .term) ∷
     leb (scheme .opening) month ∷
-    leb 1 entries ∷
-    eqb first (scheme .cost) ∷
-    eqb (scheme .fees) (scheme .fee * (entries - 1)) ∷
-    eqb (scheme .cost + scheme .fees + credited) putIn ∷
+    leb 1 (tally .entries) ∷
+    eqb (tally .first) (scheme .cost) ∷
+    eqb (scheme .fees) (scheme .fee * (tally .entries - 1)) ∷
+    eqb (scheme .cost + scheme .fees + tally .credited) (tally .«put_in») ∷
     [])
 
 abbrev pub schemeSound : ℕ → List Party → ℕ → Scheme → Bool
-schemeSound month parties s scheme =
-    accountsSound
-    month
-    scheme
-    (entriesOf s parties)
-    (firstPutIn s (schemeColumn parties) (putInColumn parties))
-    (sumOver s (schemeColumn parties) (creditedColumn parties))
-    (sumOver s (schemeColumn parties) (putInColumn parties))
+schemeSound month parties s scheme = accountsSound month scheme (tallyOf s parties)
 
 -- the schemes from number s on
 unfoldable pub schemesSound : ℕ → List Party → ℕ → List Scheme → Bool

@@ -2,17 +2,20 @@
 use Prim.Native.Nat.{ℕ, zero, suc, _+_, _*_, _-_, _<_, _≤_, min, zero-le}
 use mathlib.Core.Path.{_≡_, refl, sym, subst, _∙_}
 use mathlib.Core.List.{List, [], _∷_, map}
-use mathlib.Core.Bool.{Bool, true, false, cond}
+use mathlib.Core.Bool.{Bool, true, false, cond, false≢true}
 use native.Mathlib.Nat.{not-suc-le-zero, mul-le-mul, mul-le-mul-left}
 use native.Mathlib.Omega.{arith}
 use lib.ListN.{length, take, drop, getD, length-take, length-map}
 use lib.Dec.{leb, eqb}
 use lib.Seq.{getD-take, getD-drop}
 use borrow.Author.Tests.{leb-true, eqb-true, le-leb, eq-eqb}
-use Rattle.ledger.specs.Records.{noScheme, noParty, newLedger}
+use Rattle.ledger.specs.Records.{schemeOf, noScheme, noParty, newLedger}
 use Rattle.ledger.specs.Columns.{schemeColumn, capacityColumn, putInColumn, creditedColumn, onesColumn, sumOver, entriesOf, firstPutIn, capacityOf}
 use Rattle.ledger.specs.ColumnsLaws.{column-at, sum-le, sum-at-most, first-at-most}
-use Rattle.ledger.specs.Sound.{allHold, countsSound, sumsSound, partySound, partiesSound, schemeSound, schemesSound, isZero, allZero, sound}
+use Rattle.ledger.specs.Lookup.{schemePlace}
+use Rattle.ledger.specs.LookupLaws.{Placed, by-number, scheme-placed, placed-scheme}
+use Rattle.ledger.specs.Sound.{allHold, hasPlace, figuresWithin, countsSound, sumsSound, partySound, partiesSound, schemeSound, schemesSound, isZero, allZero, sound}
+use Rattle.ledger.specs.declared.lookup.SchemeAt.the-variants as SchemeAt
 use Rattle.ledger.specs.declared.records.Scheme.{Scheme}
 use Rattle.ledger.specs.declared.records.Party.{Party}
 use Rattle.ledger.specs.declared.records.Ledger.{Ledger}
@@ -54,46 +57,47 @@ pub record SoundLedger (ledger : Ledger) (parties : List Party) (room : ℕ) : T
   pub charged : ledger .charged ≤ 1100000000000 * ledger .connections
   pub borne : ledger .borne ≤ 1100000000000 * ledger .connections
   pub each-party : (i : ℕ) → i < length (take (ledger .entries) parties) → SoundParty (ledger .count) (getD (take (ledger .entries) parties) i noParty)
-  pub each-scheme : (s : ℕ) → 1 ≤ s → s ≤ ledger .count → s ≤ length (ledger .schemes) →
-      SoundScheme (ledger .month) (take (ledger .entries) parties) s (getD (ledger .schemes) (s - 1) noScheme)
+  pub each-scheme : (s k : ℕ) → schemePlace (ledger .count) s ≡ SchemeAt.Place k → k < length (ledger .schemes) →
+      SoundScheme (ledger .month) (take (ledger .entries) parties) s (getD (ledger .schemes) k noScheme)
   pub rest-zero : (i : ℕ) → ledger .count ≤ i → getD (ledger .schemes) i noScheme ≡ noScheme
 
 -- ---- tests that all hold
 
 -- past the last there is none that fails
-held : (conditions : List Bool) → allHold conditions ≡ true → (i : ℕ) → getD conditions i true ≡ true
+pub held : (conditions : List Bool) → allHold conditions ≡ true → (i : ℕ) → getD conditions i true ≡ true
 held [] all i = refl
 held (condition ∷ others) all zero = both-true condition (allHold others) all .0
 held (condition ∷ others) all (suc i) = held others (both-true condition (allHold others) all .1) i
 
+exists-means : (count s : ℕ) → hasPlace (schemePlace count s) ≡ true → (1 ≤ s) × (s ≤ count)
+unfolding schemePlace
+exists-means count s =
+    by-number SchemeAt.NeverOpened SchemeAt.Place count s (λ found. hasPlace found ≡ true → (1 ≤ s) × (s ≤ count))
+    (λ k placed h. (placed .numbered, placed .kept)) (λ missing h. absurd (false≢true h))
+
+means-exists : (count s : ℕ) → 1 ≤ s → s ≤ count → hasPlace (schemePlace count s) ≡ true
+unfolding schemePlace
+means-exists count s numbered opened =
+    by-number SchemeAt.NeverOpened SchemeAt.Place count s (λ found. hasPlace found ≡ true) (λ k placed. refl) (λ missing. absurd (missing numbered opened))
+
 pub party-means : (count : ℕ) (party : Party) → partySound count party ≡ true → SoundParty count party
 party-means count party h =
-    let each =
-    held
-    (leb 1 (party .scheme) ∷
-    leb (party .scheme) count ∷
-    leb 1 (party .capacity) ∷
-    leb (party .capacity) 1000000 ∷
-    leb (party .«put_in») 2000000000 ∷
-    leb (party .credited) 2000000000000 ∷
-    leb (party .«paid_out») (party .credited) ∷
-    [])
-    h in
+    let each = held (hasPlace (schemePlace count (party .scheme)) ∷ figuresWithin party) h in
+    let exists = exists-means count (party .scheme) (each 0) in
     record {
-      numbered = leb-true _ _ (each 0);
-      opened = leb-true _ _ (each 1);
-      some-capacity = leb-true _ _ (each 2);
-      capacity = leb-true _ _ (each 3);
-      put-in = leb-true _ _ (each 4);
-      credited = leb-true _ _ (each 5);
-      paid-out = leb-true _ _ (each 6);
+      numbered = exists .0;
+      opened = exists .1;
+      some-capacity = leb-true _ _ (each 1);
+      capacity = leb-true _ _ (each 2);
+      put-in = leb-true _ _ (each 3);
+      credited = leb-true _ _ (each 4);
+      paid-out = leb-true _ _ (each 5);
     }
 
 pub means-party : (count : ℕ) (party : Party) → SoundParty count party → partySound count party ≡ true
 means-party count party h =
     rw (
-      le-leb _ _ (h .numbered),
-      le-leb _ _ (h .opened),
+      means-exists count (party .scheme) (h .numbered) (h .opened),
       le-leb _ _ (h .some-capacity),
       le-leb _ _ (h .capacity),
       le-leb _ _ (h .put-in),
@@ -159,7 +163,7 @@ zero-means scheme h =
     (eqb-true _ _ (each 5))
   where
     assembled : {cost fee minimum opening term fees : ℕ} → cost ≡ 0 → fee ≡ 0 → minimum ≡ 0 → opening ≡ 0 → term ≡ 0 → fees ≡ 0 →
-        _≡_ {A = Scheme} (record { cost = cost; fee = fee; minimum = minimum; opening = opening; term = term; fees = fees }) noScheme
+        schemeOf cost fee minimum opening term fees ≡ noScheme
     assembled a b c d e f = rw (a, b, c, d, e, f)
 
 -- ---- each of a list's records
@@ -251,13 +255,14 @@ module _ (ledger : Ledger) (parties : List Party) (room : ℕ) where
         borne = leb-true _ _ (sums 2);
         each-party = parties-mean (ledger .count) kept (each 1);
         each-scheme =
-            λ s numbered opened within.
-            let below : s - 1 < length schemes = omega (arith, length-take (ledger .count) (ledger .schemes)) in
-            let number : 1 + (s - 1) ≡ s = omega arith in
-            let before : s - 1 < ledger .count = omega arith in
-            let told : SoundScheme (ledger .month) kept (1 + (s - 1)) (getD schemes (s - 1) noScheme) =
-            schemes-mean (ledger .month) kept 1 schemes (each 2) (s - 1) below in
-            rw (number, getD-take (ledger .count) (ledger .schemes) (s - 1) noScheme) at told;
+            λ s k place within.
+            let placed = scheme-placed (ledger .count) s k place in
+            let number : 1 + k ≡ s = omega (arith, placed .next) in
+            let before : k < ledger .count = omega (arith, placed .kept) in
+            let below : k < length schemes = omega (arith, length-take (ledger .count) (ledger .schemes)) in
+            let told : SoundScheme (ledger .month) kept (1 + k) (getD schemes k noScheme) =
+            schemes-mean (ledger .month) kept 1 schemes (each 2) k below in
+            rw (number, getD-take (ledger .count) (ledger .schemes) k noScheme before) at told;
         rest-zero =
             λ i past.
             let place : ledger .count + (i - ledger .count) ≡ i = omega arith in
@@ -276,9 +281,9 @@ module _ (ledger : Ledger) (parties : List Party) (room : ℕ) where
       mean-schemes (ledger .month) kept 1 schemes
       (λ i below.
       let within : i < min (ledger .count) (length (ledger .schemes)) = omega (arith, length-take (ledger .count) (ledger .schemes)) in
-      let told = h .each-scheme (1 + i) (omega arith) (omega arith) (omega arith) in
-      let place : 1 + i - 1 ≡ i = omega arith in
-      rw (getD-take (ledger .count) (ledger .schemes) i noScheme (omega arith)) (rw place at told)) in
+      let placed : Placed (ledger .count) (1 + i) i = record { numbered = omega arith; kept = omega arith; next = omega arith } in
+      rw (getD-take (ledger .count) (ledger .schemes) i noScheme (omega arith))
+      (h .each-scheme (1 + i) i (placed-scheme (ledger .count) (1 + i) i placed) (omega arith))) in
       let zeros : allZero (drop (ledger .count) (ledger .schemes)) ≡ true =
       mean-zeros (drop (ledger .count) (ledger .schemes)) (λ i. rw getD-drop (h .rest-zero (ledger .count + i) (omega arith))) in
       rw (
@@ -309,15 +314,15 @@ module _ (ledger : Ledger) (parties : List Party) (room : ℕ) where
         )
 
     -- K is at least 1 and at most 512,000,000
-    pub some-capacity : 1 ≤ s → s ≤ ledger .count → s ≤ length (ledger .schemes) →
+    pub some-capacity : (k : ℕ) → schemePlace (ledger .count) s ≡ SchemeAt.Place k → k < length (ledger .schemes) →
         1 ≤ capacityOf s (schemeColumn (take (ledger .entries) parties)) (capacityColumn (take (ledger .entries) parties))
-    some-capacity numbered opened kept =
+    some-capacity k place kept =
         let entries : List Party = take (ledger .entries) parties in
         let ones : length (onesColumn entries) ≡ length entries = length-map entries (λ party. 1) in
         let same : length (onesColumn entries) ≡ length (capacityColumn entries) = ones ∙ sym (length-map entries (λ party. party .capacity)) in
         omega (
           arith,
-          h .each-scheme s numbered opened kept .some-entry,
+          h .each-scheme s k place kept .some-entry,
           sum-le s (schemeColumn entries) (onesColumn entries) (capacityColumn entries) same
               (λ e below.
               let within : e < length (capacityColumn entries) = omega arith in
@@ -332,22 +337,22 @@ module _ (ledger : Ledger) (parties : List Party) (room : ℕ) where
     put-in-at-most = sum-within (λ party. party .«put_in») 2000000000 (λ party sound. sound .put-in)
 
     -- a scheme's cost is what its first entry put in
-    pub cost-at-most : 1 ≤ s → s ≤ ledger .count → s ≤ length (ledger .schemes) → getD (ledger .schemes) (s - 1) noScheme .cost ≤ 2000000000
-    cost-at-most numbered opened kept =
+    pub cost-at-most : (k : ℕ) → schemePlace (ledger .count) s ≡ SchemeAt.Place k → k < length (ledger .schemes) → getD (ledger .schemes) k noScheme .cost ≤ 2000000000
+    cost-at-most k place kept =
         let entries : List Party = take (ledger .entries) parties in
         let same : length (putInColumn entries) ≡ length entries = length-map entries (λ party. party .«put_in») in
         omega (
           arith,
-          h .each-scheme s numbered opened kept .first,
+          h .each-scheme s k place kept .first,
           first-at-most s 2000000000 (schemeColumn entries) (putInColumn entries)
               (λ e below. rw (column-at (λ party. party .«put_in») entries e noParty below) (h .each-party e (omega arith) .put-in)),
         )
 
-    pub fees-at-most : 1 ≤ s → s ≤ ledger .count → s ≤ length (ledger .schemes) → getD (ledger .schemes) (s - 1) noScheme .fees ≤ 511000000000
-    fees-at-most numbered opened kept =
+    pub fees-at-most : (k : ℕ) → schemePlace (ledger .count) s ≡ SchemeAt.Place k → k < length (ledger .schemes) → getD (ledger .schemes) k noScheme .fees ≤ 511000000000
+    fees-at-most k place kept =
         let many : entriesOf s (take (ledger .entries) parties) ≤ 1 * 512 = sum-within (λ party. 1) 1 (λ party sound. omega arith) in
-        let scheme = h .each-scheme s numbered opened kept in
-        let fee : getD (ledger .schemes) (s - 1) noScheme .fee ≤ 1000000000 = omega (arith, scheme .fee, scheme .minimum) in
+        let scheme = h .each-scheme s k place kept in
+        let fee : getD (ledger .schemes) k noScheme .fee ≤ 1000000000 = omega (arith, scheme .fee, scheme .minimum) in
         let joinings : entriesOf s (take (ledger .entries) parties) - 1 ≤ 511 = omega arith in
         omega (arith, scheme .fees, mul-le-mul fee joinings)
 

@@ -4,28 +4,25 @@ use mathlib.Core.Path.{_≡_, refl}
 use mathlib.Core.List.{List, [], _∷_, _++_, map}
 use mathlib.Core.Bool.{Bool, true, false}
 use lib.ListN.{replicate}
-use Rattle.ledger.specs.Records.{noScheme, newLedger}
+use Rattle.ledger.specs.Records.{schemeOf, partyOf, ledgerOf, noScheme, newLedger}
 use Rattle.ledger.specs.Columns.{sumOver, firstPutIn}
+use Rattle.ledger.specs.Lookup.{schemePlace}
 use Rattle.ledger.specs.Sound.{partiesSound, schemesSound, allZero, sound}
 use Rattle.ledger.specs.declared.records.Scheme.{Scheme}
 use Rattle.ledger.specs.declared.records.Party.{Party}
 use Rattle.ledger.specs.declared.records.Ledger.{Ledger}
 
-abbrev scheme : ℕ → ℕ → ℕ → ℕ → ℕ → ℕ → Scheme
-scheme cost fee minimum opening term fees = record { cost = cost; fee = fee; minimum = minimum; opening = opening; term = term; fees = fees }
-
+-- an entry of person 7
 abbrev party : ℕ → ℕ → ℕ → ℕ → ℕ → Party
-party number capacity putIn credited paidOut =
-    record { scheme = number; person = 7; capacity = capacity; «put_in» = putIn; credited = credited; «paid_out» = paidOut }
+party scheme capacity putIn credited paidOut = partyOf scheme 7 capacity putIn credited paidOut
 
 -- month 12; connections, charged and borne; counts of entries and schemes; the first places, and the others zeros
 abbrev ledger : ℕ → ℕ → ℕ → ℕ → ℕ → List Scheme → Ledger
-ledger connections charged borne entries count schemes =
-    record { month = 12; connections = connections; charged = charged; borne = borne; entries = entries; count = count; schemes = schemes ++ replicate 60 noScheme }
+ledger connections charged borne entries count schemes = ledgerOf 12 connections charged borne entries count (schemes ++ replicate 60 noScheme)
 
 -- one scheme, its first party and a joiner that paid 1,000, of which 100 are fees
 abbrev joined : Scheme
-joined = scheme 3000 100 500 6 84 100
+joined = schemeOf 3000 100 500 6 84 100
 
 abbrev two : List Party
 two = party 1 20 3000 900 300 ∷ party 1 10 1000 0 0 ∷ []
@@ -52,37 +49,37 @@ soundRows =
     ((ledger 2 2200000000001 0 2 1 (joined ∷ []), two, 2), false) ∷
     ((ledger 2 0 2200000000001 2 1 (joined ∷ []), two, 2), false) ∷
     -- put in, which is the cost; capacity
-    (alone (scheme 2000000000 0 0 0 84 0) (party 1 1 2000000000 0 0), true) ∷
-    (alone (scheme 2000000001 0 0 0 84 0) (party 1 1 2000000001 0 0), false) ∷
-    (alone (scheme 5 0 0 0 84 0) (party 1 0 5 0 0), false) ∷
-    (alone (scheme 5 0 0 0 84 0) (party 1 1000000 5 0 0), true) ∷
-    (alone (scheme 5 0 0 0 84 0) (party 1 1000001 5 0 0), false) ∷
+    (alone (schemeOf 2000000000 0 0 0 84 0) (party 1 1 2000000000 0 0), true) ∷
+    (alone (schemeOf 2000000001 0 0 0 84 0) (party 1 1 2000000001 0 0), false) ∷
+    (alone (schemeOf 5 0 0 0 84 0) (party 1 0 5 0 0), false) ∷
+    (alone (schemeOf 5 0 0 0 84 0) (party 1 1000000 5 0 0), true) ∷
+    (alone (schemeOf 5 0 0 0 84 0) (party 1 1000001 5 0 0), false) ∷
     -- fee, minimum, term and opening
-    (alone (scheme 5 500 500 0 84 0) (party 1 1 5 0 0), true) ∷
-    (alone (scheme 5 501 500 0 84 0) (party 1 1 5 0 0), false) ∷
-    (alone (scheme 5 0 1000000000 0 84 0) (party 1 1 5 0 0), true) ∷
-    (alone (scheme 5 0 1000000001 0 84 0) (party 1 1 5 0 0), false) ∷
-    (alone (scheme 5 0 0 0 83 0) (party 1 1 5 0 0), false) ∷
-    (alone (scheme 5 0 0 12 84 0) (party 1 1 5 0 0), true) ∷
-    (alone (scheme 5 0 0 13 84 0) (party 1 1 5 0 0), false) ∷
-    -- an entry of no scheme, a scheme of no entry, a place past the last scheme
-    (alone (scheme 5 0 0 0 84 0) (party 0 1 5 0 0), false) ∷
-    (alone (scheme 5 0 0 0 84 0) (party 2 1 5 0 0), false) ∷
-    ((ledger 1 0 0 1 2 (scheme 5 0 0 0 84 0 ∷ scheme 0 0 0 0 84 0 ∷ []), party 1 1 5 0 0 ∷ [], 1), false) ∷
-    ((ledger 1 0 0 1 1 (scheme 5 0 0 0 84 0 ∷ scheme 0 0 0 0 0 1 ∷ []), party 1 1 5 0 0 ∷ [], 1), false) ∷
+    (alone (schemeOf 5 500 500 0 84 0) (party 1 1 5 0 0), true) ∷
+    (alone (schemeOf 5 501 500 0 84 0) (party 1 1 5 0 0), false) ∷
+    (alone (schemeOf 5 0 1000000000 0 84 0) (party 1 1 5 0 0), true) ∷
+    (alone (schemeOf 5 0 1000000001 0 84 0) (party 1 1 5 0 0), false) ∷
+    (alone (schemeOf 5 0 0 0 83 0) (party 1 1 5 0 0), false) ∷
+    (alone (schemeOf 5 0 0 12 84 0) (party 1 1 5 0 0), true) ∷
+    (alone (schemeOf 5 0 0 13 84 0) (party 1 1 5 0 0), false) ∷
+    -- beside the first party an entry of scheme 0, and of the scheme after the last; a scheme of no entry; a place past the last scheme
+    (with-two (schemeOf 5 0 0 0 84 0) (party 1 1 5 0 0 ∷ party 0 1 5 0 0 ∷ []), false) ∷
+    (with-two (schemeOf 5 0 0 0 84 0) (party 1 1 5 0 0 ∷ party 2 1 5 0 0 ∷ []), false) ∷
+    ((ledger 1 0 0 1 2 (schemeOf 5 0 0 0 84 0 ∷ schemeOf 0 0 0 0 84 0 ∷ []), party 1 1 5 0 0 ∷ [], 1), false) ∷
+    ((ledger 1 0 0 1 1 (schemeOf 5 0 0 0 84 0 ∷ schemeOf 0 0 0 0 0 1 ∷ []), party 1 1 5 0 0 ∷ [], 1), false) ∷
     -- the first entry put in the cost
-    (alone (scheme 4 0 0 0 84 0) (party 1 1 5 0 0), false) ∷
+    (alone (schemeOf 4 0 0 0 84 0) (party 1 1 5 0 0), false) ∷
     -- paid out at most credited
     (with-two joined (party 1 20 3000 900 900 ∷ party 1 10 1000 0 0 ∷ []), true) ∷
     (with-two joined (party 1 20 3000 900 901 ∷ party 1 10 1000 0 0 ∷ []), false) ∷
     -- fees, and the account
-    (with-two (scheme 3000 100 500 6 84 99) two, false) ∷
+    (with-two (schemeOf 3000 100 500 6 84 99) two, false) ∷
     (with-two joined (party 1 20 3000 899 300 ∷ party 1 10 1000 0 0 ∷ []), false) ∷
     (with-two joined (party 1 20 3000 900 300 ∷ party 1 10 1001 0 0 ∷ []), false) ∷
     -- credited may exceed put in by cents: cost 5, capacities 7, 3, 1,000,000
-    ((ledger 3 0 0 3 1 (scheme 5 0 0 0 84 0 ∷ []), party 1 7 5 3 0 ∷ party 1 3 1 2 0 ∷ party 1 1000000 4 0 0 ∷ [], 3), true) ∷
+    ((ledger 3 0 0 3 1 (schemeOf 5 0 0 0 84 0 ∷ []), party 1 7 5 3 0 ∷ party 1 3 1 2 0 ∷ party 1 1000000 4 0 0 ∷ [], 3), true) ∷
     []
 
 pub sound-rows-hold : map (λ row. sound (row .0 .0) (row .0 .1) (row .0 .2)) soundRows ≡ map (λ row. row .1) soundRows
-unfolding sound partiesSound schemesSound allZero sumOver firstPutIn
+unfolding sound partiesSound schemesSound allZero sumOver firstPutIn schemePlace
 sound-rows-hold = refl

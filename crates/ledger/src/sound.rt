@@ -1,28 +1,30 @@
 // Whether a ledger is sound: one pass over the entries, with sums for each scheme.
+use crate::lookup::SchemeAt;
+use crate::lookup::scheme_at;
 use crate::records::Ledger;
 use crate::records::Party;
 use crate::records::Scheme;
 ghost use mathlib.Core.Path.{_≡_};
-ghost use mathlib.Core.Bool.{true, cond};
+ghost use mathlib.Core.Bool.{true, false, cond};
 ghost use mathlib.Core.List.{List};
-ghost use Prim.Native.Nat.{_*_, _≤_};
+ghost use Prim.Native.Nat.{_≤_};
 ghost use lib.Dec.{eqb};
 ghost use lib.ListN.{take, drop};
 ghost use Rattle.ledger.specs.declared.records.Party.{Party};
-ghost use Rattle.ledger.specs.Sound.{countsSound, sumsSound, partySound, partiesSound, accountsSound, schemesSound, isZero, allZero, sound};
-ghost use Rattle.ledger.specs.Tallied.{noTallies, Tallied, Bounded};
+ghost use Rattle.ledger.specs.Sound.{allHold, countsSound, sumsSound, figuresWithin, partiesSound, accountsSound, schemesSound, isZero, allZero, sound};
+ghost use Rattle.ledger.specs.Tallied.{noTallies, tallyWith, Tallied, Within, Bounded};
 
-// What the entries of each scheme come to: how many, put in, credited, and what the first put in.
-pub struct Tallies {
-    pub entries: [u64; 64],
-    pub put_in: [u64; 64],
-    pub credited: [u64; 64],
-    pub first: [u64; 64],
+// What a scheme's entries come to: how many, what the first put in, what all were credited and put in.
+pub struct Tally {
+    pub entries: u64,
+    pub first: u64,
+    pub credited: u64,
+    pub put_in: u64,
 }
 
 pub struct EntriesTally {
     pub sound: bool,
-    pub tallies: Tallies,
+    pub tallies: [Tally; 64],
 }
 
 fn counts_sound(ledger: Ledger, room: usize) -> bool
@@ -50,15 +52,9 @@ fn sums_sound(ledger: Ledger) -> bool
     ledger.borne <= most
 }
 
-fn party_sound(count: u32, party: Party) -> bool
-    ensures { λ r. ⌜ r ≡ partySound count party ⌝ }
+fn figures_sound(party: Party) -> bool
+    ensures { λ r. ⌜ r ≡ allHold (figuresWithin party) ⌝ }
 {
-    if party.scheme < 1 {
-        return false;
-    }
-    if count < party.scheme as u32 {
-        return false;
-    }
     if party.capacity < 1 {
         return false;
     }
@@ -95,18 +91,18 @@ fn is_zero(scheme: Scheme) -> bool
     scheme.fees == 0
 }
 
-fn no_tallies() -> Tallies
+fn no_tallies() -> [Tally; 64]
     ensures { λ r. ⌜ r ≡ noTallies ⌝ }
 {
-    Tallies {
-        entries: [0u64; 64],
-        put_in: [0u64; 64],
-        credited: [0u64; 64],
-        first: [0u64; 64],
-    }
+    let none = Tally {
+        entries: 0,
+        first: 0,
+        credited: 0,
+        put_in: 0,
+    };
+    [none; 64]
 }
 
-// What a scheme's first entry put in, where it had so many entries before this one.
 fn first_of(entries: u64, first: u64, put_in: u64) -> u64
     ensures { λ r. ⌜ r ≡ cond (eqb entries 0) put_in first ⌝ }
 {
@@ -116,53 +112,56 @@ fn first_of(entries: u64, first: u64, put_in: u64) -> u64
     first
 }
 
-fn tally(parties: [Party; 512], entries: u32, count: u32) -> EntriesTally
+// With one entry more.
+fn tally_with(tally: Tally, party: Party) -> Tally
+    requires { ⌜ Within 511 tally × (party .credited ≤ 2000000000000) ⌝ }
+    ensures { λ r. ⌜ r ≡ tallyWith tally party ⌝ }
+{
+    Tally {
+        entries: tally.entries + 1,
+        first: first_of(tally.entries, tally.first, party.put_in as u64),
+        credited: tally.credited + party.credited,
+        put_in: tally.put_in + party.put_in as u64,
+    }
+}
+
+fn unsound_entries() -> EntriesTally
+    ensures { λ r. ⌜ r .sound ≡ false ⌝ }
+{
+    EntriesTally {
+        sound: false,
+        tallies: no_tallies(),
+    }
+}
+
+fn tally_entries(parties: [Party; 512], entries: u32, count: u32) -> EntriesTally
     requires { ⌜ (entries ≤ 512) × (count ≤ 64) ⌝ }
     ensures { λ r. ⌜ r .sound ≡ partiesSound count (take entries parties) ⌝ }
-    ensures { λ r. ⌜ (r .sound ≡ true → Tallied (r .tallies) (take entries parties) × Bounded 512 (r .tallies)) ⌝ }
+    ensures { λ r. ⌜ (r .sound ≡ true → Tallied count (r .tallies) (take entries parties) × Bounded 512 (r .tallies)) ⌝ }
 {
-    let mut entries_of = [0u64; 64];
-    let mut put_in = [0u64; 64];
-    let mut credited = [0u64; 64];
-    let mut first = [0u64; 64];
+    let mut tallies = no_tallies();
     let mut i = 0;
     while i < entries as usize {
         let party = parties[i];
-        if !party_sound(count, party) {
-            return EntriesTally {
-                sound: false,
-                tallies: no_tallies(),
-            };
+        let SchemeAt::Place(k) = scheme_at(count, party.scheme) else {
+            return unsound_entries();
+        };
+        if !figures_sound(party) {
+            return unsound_entries();
         }
-        let k = party.scheme as usize - 1;
-        first[k] = first_of(entries_of[k], first[k], party.put_in as u64);
-        entries_of[k] = entries_of[k] + 1;
-        put_in[k] = put_in[k] + party.put_in as u64;
-        credited[k] = credited[k] + party.credited;
+        tallies[k] = tally_with(tallies[k], party);
         i += 1;
     }
     EntriesTally {
         sound: true,
-        tallies: Tallies {
-            entries: entries_of,
-            put_in: put_in,
-            credited: credited,
-            first: first,
-        },
+        tallies,
     }
 }
 
 // A scheme's terms and accounts, by what its entries come to.
-fn scheme_sound(
-    month: u16,
-    scheme: Scheme,
-    entries: u64,
-    first: u64,
-    credited: u64,
-    put_in: u64,
-) -> bool
-    requires { ⌜ (entries ≤ 512) × (credited ≤ 2000000000000 * 512) ⌝ }
-    ensures { λ r. ⌜ r ≡ accountsSound month scheme entries first credited put_in ⌝ }
+fn scheme_sound(month: u16, scheme: Scheme, tally: Tally) -> bool
+    requires { ⌜ Within 512 tally ⌝ }
+    ensures { λ r. ⌜ r ≡ accountsSound month scheme tally ⌝ }
 {
     if scheme.minimum < scheme.fee {
         return false;
@@ -176,34 +175,27 @@ fn scheme_sound(
     if month < scheme.opening {
         return false;
     }
-    if entries < 1 {
+    if tally.entries < 1 {
         return false;
     }
-    if first != scheme.cost as u64 {
+    if tally.first != scheme.cost as u64 {
         return false;
     }
-    let fees = scheme.fee as u64 * (entries - 1);
+    let fees = scheme.fee as u64 * (tally.entries - 1);
     if scheme.fees != fees {
         return false;
     }
-    let told = scheme.cost as u64 + scheme.fees + credited;
-    told == put_in
+    let told = scheme.cost as u64 + scheme.fees + tally.credited;
+    told == tally.put_in
 }
 
-fn schemes_sound(month: u16, schemes: [Scheme; 64], count: u32, tallies: Tallies) -> bool
+fn schemes_sound(month: u16, schemes: [Scheme; 64], count: u32, tallies: [Tally; 64]) -> bool
     requires { ⌜ (count ≤ 64) × Bounded 512 tallies ⌝ }
-    ensures { λ r. ⌜ ((parties : List Party) → Tallied tallies parties → r ≡ schemesSound month parties 1 (take count schemes)) ⌝ }
+    ensures { λ r. ⌜ ((parties : List Party) → Tallied count tallies parties → r ≡ schemesSound month parties 1 (take count schemes)) ⌝ }
 {
     let mut i = 0;
     while i < count as usize {
-        if !scheme_sound(
-            month,
-            schemes[i],
-            tallies.entries[i],
-            tallies.first[i],
-            tallies.credited[i],
-            tallies.put_in[i],
-        ) {
+        if !scheme_sound(month, schemes[i], tallies[i]) {
             return false;
         }
         i += 1;
@@ -236,7 +228,7 @@ pub fn sound(ledger: Ledger, parties: [Party; 512], room: usize) -> bool
         return false;
     }
     let schemes = ledger.schemes;
-    let entries = tally(parties, ledger.entries, ledger.count);
+    let entries = tally_entries(parties, ledger.entries, ledger.count);
     if !entries.sound {
         return false;
     }

@@ -1,5 +1,5 @@
 pub mod Copying
-pub mod Crediting
 pub mod Lending
+pub mod Putting
 pub mod Rows
 pub mod Turns

@@ -1,4 +1,4 @@
--- What the walks cite of a party, and of an array of 512 parties or of 512 credits: its machine value, and that an array in a local is a row of its
+-- What the walks cite of a party, and of an array of parties or of credits: its machine value, and that an array in a local is a row of its
 -- elements, which can be read and written one by one.
 use mathlib.Core.List.{List, [], _∷_}
 use Prim.Native.Nat.{ℕ, _<_, _^_, _*_}
@@ -61,37 +61,37 @@ module _ {M : Type 1} (𝓤 : URA M) (H : Heap 𝓤) (A : Atoms 𝓤) (W : Given
   pub party-typed : (party : Party) (v : Val) → Is PartyRow party (v ∷ []) → T (hasTy party-type v) × WT v
   party-typed party v is = party-lawful .typed party _ is .0
 
--- ---- an array of 512
-module _ (E : RattleType) where
+-- ---- an array of n
+module _ (E : RattleType) (n : ℕ) where
   abbrev pub ArrayRow : RattleType
-  ArrayRow = Array E 512
+  ArrayRow = Array E n
 
   abbrev pub array-type : Ty
-  array-type = tyArray (lone (E .mir)) 512
+  array-type = tyArray (lone (E .mir)) n
 
   module _ {M : Type 1} (𝓤 : URA M) (H : Heap 𝓤) (A : Atoms 𝓤) (W : Given 𝓤 H A) where
     pub array-typed : Lawful 𝓤 H A E → (xs : List (E .Denot)) (v : Val) → Is ArrayRow xs (v ∷ []) → T (hasTy array-type v) × WT v
-    array-typed lawful xs v is = array-lawful 𝓤 H A W E lawful 512 .typed xs _ is .0
+    array-typed lawful xs v is = array-lawful 𝓤 H A W E lawful n .typed xs _ is .0
 
     -- an array in a local is a row of its elements, and back
     pub to-row : Single (E .mir) → (xs : List (E .Denot)) (v : Val) (l : ℕ) →
         ent 𝓤 (sep 𝓤 (H .at fullShare array-type l 0 v) (sem 𝓤 H A (ArrayRow .own xs (v ∷ []))))
-        (sem 𝓤 H A (fsep (feq ℕ (length xs) 512) (row E fullShare xs l 0)))
+        (sem 𝓤 H A (fsep (feq ℕ (length xs) n) (row E fullShare xs l 0)))
     unfolding partOf
     to-row single xs v l =
         qed W (‵ (fat fullShare array-type l 0 v) ∷ ‵ (ArrayRow .own xs (v ∷ [])) ∷ []) ∵
         use1 W (‵ (cellAt fullShare (ArrayRow .mir) (v ∷ []) l 0)) (W .laws .at-raw fullShare array-type l 0 v) $ fjoin ! $
         fpack ! (List Val) (λ vs. fsep (cellAt fullShare (ArrayRow .mir) vs l 0) (ArrayRow .own xs vs)) (v ∷ []) $
-        use1 W (‵ (arr-parts (shares E) 512 .part fullShare xs l 0)) (array-apart 𝓤 H A W E fullShare single 512 xs l 0) $ done !
+        use1 W (‵ (arr-parts (shares E) n .part fullShare xs l 0)) (array-apart 𝓤 H A W E fullShare single n xs l 0) $ done !
 
     pub from-row : (values : E .Denot → List Val) → Tells E (Is E) values → (xs : List (E .Denot)) (l : ℕ) →
-        ent 𝓤 (sem 𝓤 H A (fsep (feq ℕ (length xs) 512) (row E fullShare xs l 0)))
+        ent 𝓤 (sem 𝓤 H A (fsep (feq ℕ (length xs) n) (row E fullShare xs l 0)))
         (sep 𝓤 (H .at fullShare array-type l 0 (only (array-vals values xs))) (sem 𝓤 H A (ArrayRow .own xs (array-vals values xs))))
     unfolding partOf
     from-row values tells xs l =
-        qed W (‵ (fsep (feq ℕ (length xs) 512) (row E fullShare xs l 0)) ∷ []) ∵
-        use1 W (‵ (partAt ArrayRow fullShare xs l 0)) (array-whole 𝓤 H A W E fullShare 512 xs l 0) $
+        qed W (‵ (fsep (feq ℕ (length xs) n) (row E fullShare xs l 0)) ∷ []) ∵
+        use1 W (‵ (partAt ArrayRow fullShare xs l 0)) (array-whole 𝓤 H A W E fullShare n xs l 0) $
         fpick ! (λ vs. fsplit ! $
-        spelt ! ArrayRow (Is ArrayRow) (shows 𝓤 H A ArrayRow) (array-vals values) (array-tells E values tells 512) fullShare xs vs l 0 $
+        spelt ! ArrayRow (Is ArrayRow) (shows 𝓤 H A ArrayRow) (array-vals values) (array-tells E values tells n) fullShare xs vs l 0 $
         use1 W (‵ (fat fullShare array-type l 0 (only (array-vals values xs))))
         (W .laws .raw-at fullShare array-type l 0 (only (array-vals values xs))) $ done !)

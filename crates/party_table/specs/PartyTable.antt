@@ -1,14 +1,11 @@
--- What the functions over a lent party table ask and leave, beside the ledger's own definitions (Table, Entries).
-use Prim.Native.Nat.{ℕ, _+_, _-_, _<_, _^_, min}
+-- What the functions over a lent party table ask and leave, beside the ledger's own definitions (Table, Updates).
+use Prim.Native.Nat.{ℕ, _-_, min}
 use mathlib.Core.List.{List, _++_}
-use lib.ListN.{length, take, replicate, getD}
+use lib.ListN.{length, take, replicate}
 use Rattle.ledger.specs.Records.{noParty}
+pub use Rattle.ledger.specs.Table.{CreditsFit}
 use Rattle.ledger.specs.declared.records.Party.{Party}
 
 -- the entries by value: the first records of the table, as many as there are entries and at most 512, and zeros past them
 unfoldable pub snapshotOf : ℕ → List Party → List Party
 snapshotOf entries table = let kept = take (min entries 512) table in kept ++ replicate (512 - length kept) noParty
-
--- each entry can take its credit
-abbrev pub CreditsFit : ℕ → List Party → List ℕ → Type 0
-CreditsFit entries table credits = (i : ℕ) → i < entries → getD table i noParty .credited + getD credits i 0 < 2 ^ 64

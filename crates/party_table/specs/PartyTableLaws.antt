@@ -3,8 +3,10 @@ use Prim.Native.Nat.{ℕ, _-_, _≤_, min}
 use mathlib.Core.Path.{_≡_, _∙_}
 use mathlib.Core.List.{List}
 use native.Mathlib.Nat.{le-min}
-use lib.ListN.{length, take, length-take}
+use native.Mathlib.Omega.{arith}
+use lib.ListN.{length, take, replicate, length-take, length-append, length-replicate}
 use lib.Seq.{take-append-le, take-take}
+use Rattle.ledger.specs.Records.{noParty}
 use Rattle.ledger.specs.declared.records.Party.{Party}
 use Rattle.party_table.specs.PartyTable.{snapshotOf}
 
@@ -15,3 +17,14 @@ snapshot-take n entries table h l k =
     let most : n ≤ min entries 512 = le-min h l in
     let within : n ≤ length (take (min entries 512) table) = rw (length-take (min entries 512) table) (le-min most k) in
     take-append-le n (take (min entries 512) table) _ within ∙ take-take n (min entries 512) table most
+
+pub snapshot-length : (entries : ℕ) (table : List Party) → length (snapshotOf entries table) ≡ 512
+unfolding snapshotOf
+snapshot-length entries table =
+    let kept = take (min entries 512) table in
+    omega (
+      arith,
+      length-append kept (replicate (512 - length kept) noParty),
+      length-replicate (512 - length kept) noParty,
+      length-take (min entries 512) table,
+    )

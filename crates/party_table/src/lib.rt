@@ -5,8 +5,9 @@ ghost use mathlib.Core.Path.{_≡_};
 ghost use mathlib.Core.List.{_++_};
 ghost use Prim.Native.Nat.{_+_, _≤_, _<_, _^_, min};
 ghost use lib.ListN.{length, set, getD, take, drop};
+ghost use lib.Seq.{sets};
 ghost use Rattle.ledger.specs.Records.{noParty};
-ghost use Rattle.ledger.specs.Entries.{paidMore, handedTo};
+ghost use Rattle.ledger.specs.Updates.{withPaidOut, withPerson};
 ghost use Rattle.ledger.specs.Table.{creditedMore, creditEach};
 ghost use Rattle.party_table.specs.PartyTable.{snapshotOf, CreditsFit};
 
@@ -47,7 +48,7 @@ fn credited(party: Party, credit: u64) -> Party
 
 fn paid(party: Party, amount: u64) -> Party
     requires { ⌜ party .«paid_out» + amount < 2 ^ 64 ⌝ }
-    ensures { λ r. ⌜ r ≡ paidMore party amount ⌝ }
+    ensures { λ r. ⌜ r ≡ withPaidOut (party .«paid_out» + amount) party ⌝ }
 {
     let mut changed = party;
     changed.paid_out = party.paid_out + amount;
@@ -55,7 +56,7 @@ fn paid(party: Party, amount: u64) -> Party
 }
 
 fn handed(party: Party, person: u32) -> Party
-    ensures { λ r. ⌜ r ≡ handedTo party person ⌝ }
+    ensures { λ r. ⌜ r ≡ withPerson person party ⌝ }
 {
     let mut changed = party;
     changed.person = person;
@@ -78,14 +79,14 @@ pub fn credit_one(table: &mut [Party], at: usize, credit: u64)
 
 pub fn pay_one(table: &mut [Party], at: usize, amount: u64)
     requires { ⌜ (at < length (now table)) × (getD (now table) at noParty .«paid_out» + amount < 2 ^ 64) ⌝ }
-    ensures { λ _. ⌜ now (table .exit) ≡ set (now (table .entry)) at (paidMore (getD (now (table .entry)) at noParty) amount) ⌝ }
+    ensures { λ _. ⌜ now (table .exit) ≡ set (now (table .entry)) at (withPaidOut (getD (now (table .entry)) at noParty .«paid_out» + amount) (getD (now (table .entry)) at noParty)) ⌝ }
 {
     table[at] = paid(table[at], amount);
 }
 
 pub fn hand_one(table: &mut [Party], at: usize, person: u32)
     requires { ⌜ at < length (now table) ⌝ }
-    ensures { λ _. ⌜ now (table .exit) ≡ set (now (table .entry)) at (handedTo (getD (now (table .entry)) at noParty) person) ⌝ }
+    ensures { λ _. ⌜ now (table .exit) ≡ set (now (table .entry)) at (withPerson person (getD (now (table .entry)) at noParty)) ⌝ }
 {
     table[at] = handed(table[at], person);
 }
@@ -112,6 +113,20 @@ pub fn store_each(table: &mut [Party], entries: u32, parties: [Party; 512])
     let mut i: usize = 0;
     while i < count {
         put_one(table, i, parties[i]);
+        i += 1;
+    }
+}
+
+// Entries are added: the first `count` of these, from `at` on.
+pub fn put_each(table: &mut [Party], at: u32, added: [Party; 2], count: u32)
+    requires { ⌜ (count ≤ 2) × (at + count ≤ length (now table)) ⌝ }
+    ensures { λ _. ⌜ now (table .exit) ≡ sets (now (table .entry)) at (take count added) ⌝ }
+{
+    let first = at as usize;
+    let limit = count as usize;
+    let mut i: usize = 0;
+    while i < limit {
+        put_one(table, first + i, added[i]);
         i += 1;
     }
 }

@@ -1,87 +1,148 @@
--- What pay-out and hand-over leave of the table, by what was decided.
-use Prim.Native.Nat.{ℕ, _+_, _-_, _<_, _≤_}
+-- What pay-out and hand-over promise and leave of the table, by what was decided on the snapshot: on a sound ledger it has the table's entries.
+use Prim.Native.Nat.{ℕ, _+_, _<_}
 use mathlib.Core.Path.{_≡_, refl, sym, _∙_, ap, subst}
 use mathlib.Core.List.{List}
-use mathlib.Core.Bool.{true, false, not, true≢false}
-use mathlib.Core.Logic.{⊎-elim}
-use mathlib.Mathlib.Data.Bool.Basic.{dichotomy}
+use mathlib.Core.Bool.{true, false, not}
 use native.Mathlib.Omega.{arith}
-use lib.ListN.{length, set, length-set}
-use lib.Dec.{T, leb}
-use borrow.Author.Tests.{leb-true, leb-false}
-use Rattle.ledger.specs.Entries.{entryExists, entryAt, paidMore, handedTo, changeOf, payOutChange, handOverChange, withEntry}
-use Rattle.ledger.specs.EntriesFacts.{Exists, exists-true, true-exists, refusedWith}
-use Rattle.ledger.specs.EntriesFacts.{pay-out-refused-13, pay-out-refused-11, pay-out-refused-12, pay-out-done}
-use Rattle.ledger.specs.EntriesFacts.{hand-over-refused-13, hand-over-refused-11, hand-over-done}
+use lib.ListN.{length, take, set, getD, length-set, length-take}
+use lib.Seq.{getD-take}
+use lib.Dec.{T}
+use Rattle.ledger.specs.Records.{noParty}
 use Rattle.ledger.specs.Sound.{sound}
-use Rattle.ledger.specs.SoundFacts.{sound-means}
+use Rattle.ledger.specs.Updates.{withPaidOut, withPerson}
 use Rattle.ledger.specs.declared.records.Party.{Party}
 use Rattle.ledger.specs.declared.records.Ledger.{Ledger}
-use Rattle.ledger.specs.declared.entries.Answer.{Answer}
-use Rattle.ledger.specs.declared.entries.Answer.the-variants.{Done, Refused}
-use Rattle.ledger.specs.declared.entries.EntryChange.{EntryChange}
-use Rattle.pioneer.specs.Calls.{isRefused}
-use Rattle.pioneer.specs.Snapshots.{Looks, unsound, missing, found, looks}
+use Rattle.calls.specs.ListsLaws.{by-test}
+use Rattle.calls.specs.Decision.{Call, payOut, handOver, ofEntryCall}
+use Rattle.calls.specs.CallsLaws.{unsound-promised}
+use Rattle.calls.specs.Calls.{stateOf, answered, leaves, Promised}
+use Rattle.calls.specs.declared.answers.Answer.{Answer}
+use Rattle.calls.specs.declared.answers.Answer.the-variants.{Done, Refused}
+use Rattle.entry_calls.specs.EntryCalls.{refusedChange, payOutChange, handOverChange, changedTable}
+use Rattle.entry_calls.specs.Changed.{Changed, IfDone, pay-out-changed, hand-over-changed}
+use Rattle.entry_calls.specs.IsCall.{pay-out-is-call, hand-over-is-call}
+use Rattle.entry_calls.specs.declared.EntryChange.{EntryChange}
+use Rattle.party_table.specs.PartyTable.{snapshotOf}
+use Rattle.pioneer.specs.Calls.{notDone}
+use Rattle.pioneer.specs.Snapshots.{snapshot-sound, snapshot-entries}
 
-module _ (table : List Party) (entry : ℕ) where
-  pub changed-length : (change : EntryChange) → length (withEntry table entry change) ≡ length table
-  changed-length change = by-answer (change .answer) (change .party)
+module _ (table : List Party) where
+  -- the table that a change leaves, by its answer
+  data ChangeLeaves (change : EntryChange) : Type 0 where
+    kept : notDone (change .answer) ≡ true → changedTable table change ≡ table → ChangeLeaves change
+    changed : notDone (change .answer) ≡ false → changedTable table change ≡ set table (change .place) (change .party) → ChangeLeaves change
+
+  change-leaves : (change : EntryChange) → ChangeLeaves change
+  change-leaves change = by-answer (change .answer)
     where
-      by-answer : (answer : Answer) (party : Party) → length (withEntry table entry (record { answer = answer; party = party })) ≡ length table
-      by-answer Done party = length-set table (entry - 1) party
-      by-answer (Refused r) party = refl
+      by-answer : (answer : Answer) → ChangeLeaves (record { answer = answer; place = change .place; party = change .party })
+      by-answer Done = changed refl refl
+      by-answer (Refused r) = kept refl refl
 
-  pub refused-leaves : (change : EntryChange) → T (isRefused (change .answer)) → table ≡ withEntry table entry change
-  refused-leaves change = by-answer (change .answer) (change .party)
+  pub changed-length : (change : EntryChange) → length (changedTable table change) ≡ length table
+  changed-length change = by-leaves (change-leaves change)
     where
-      by-answer : (answer : Answer) (party : Party) → T (isRefused answer) → table ≡ withEntry table entry (record { answer = answer; party = party })
-      by-answer Done party refused = absurd refused
-      by-answer (Refused r) party refused = refl
+      by-leaves : ChangeLeaves change → length (changedTable table change) ≡ length table
+      by-leaves (kept h e) = ap length e
+      by-leaves (changed h e) = ap length e ∙ length-set table (change .place) (change .party)
 
-  -- the entry is there, and its record becomes the party
+  pub refused-leaves : (change : EntryChange) → T (notDone (change .answer)) → table ≡ changedTable table change
+  refused-leaves change refused = by-leaves (change-leaves change)
+    where
+      by-leaves : ChangeLeaves change → table ≡ changedTable table change
+      by-leaves (kept h e) = sym e
+      by-leaves (changed h e) = absurd (subst T h refused)
+
+  -- the record at the change's place becomes the party
   pub record Changes (change : EntryChange) (party : Party) : Type 0 where
-    pub numbered : 1 ≤ entry
-    pub within : entry - 1 < length table
-    pub done : change ≡ changeOf Done party
+    pub within : change .place < length table
+    pub writes : change .party ≡ party
 
-  pub done-leaves : {change : EntryChange} {party : Party} → Changes change party → set table (entry - 1) party ≡ withEntry table entry change
-  done-leaves {change} {party} h = ap (withEntry table entry) (sym (h .done))
-
-not-refused : {change : EntryChange} {number : ℕ} → change ≡ refusedWith number → T (not (isRefused (change .answer))) → ⊥
-not-refused e h = subst (λ (change : EntryChange). T (not (isRefused (change .answer)))) e h
-
-module _ (ledger : Ledger) (table : List Party) (entry : ℕ) where
-  missed : entryExists ledger entry ≡ false → Exists ledger entry → ⊥
-  missed m there = true≢false (sym (exists-true ledger entry there) ∙ m)
-
-  changes : (change : EntryChange) (party : Party) → sound ledger table (length table) ≡ true → Exists ledger entry →
-      change ≡ changeOf Done party → Changes table entry change party
-  changes change party stands there done =
-      let room : ledger .entries ≤ length table = sound-means ledger table (length table) stands .in-table in
-      record { numbered = there .numbered; within = omega (arith, there .numbered, there .kept, room); done = done }
-
-  pub pay-out-changes : (amount : ℕ) → T (not (isRefused (payOutChange ledger table (length table) entry amount .answer))) →
-      Changes table entry (payOutChange ledger table (length table) entry amount) (paidMore (entryAt table entry) amount)
-  pay-out-changes amount = by-looks (looks ledger table entry)
+  pub done-leaves : (change : EntryChange) {party : Party} → T (not (notDone (change .answer))) → Changes change party →
+      set table (change .place) party ≡ changedTable table change
+  done-leaves change {party} done changes = by-leaves (change-leaves change)
     where
-      by-looks : Looks ledger table entry → T (not (isRefused (payOutChange ledger table (length table) entry amount .answer))) →
-          Changes table entry (payOutChange ledger table (length table) entry amount) (paidMore (entryAt table entry) amount)
-      by-looks (unsound u) h = absurd (not-refused (pay-out-refused-13 ledger table (length table) entry amount u) h)
-      by-looks (missing s m) h = absurd (not-refused (pay-out-refused-11 ledger table (length table) entry s amount (missed m)) h)
-      by-looks (found s e) h =
-          let there : Exists ledger entry = true-exists ledger entry e in
-          ⊎-elim (λ above. absurd (not-refused (pay-out-refused-12 ledger table (length table) entry s there amount (leb-false _ _ above)) h))
-          (λ within. changes _ _ s there (pay-out-done ledger table (length table) entry s there amount (leb-true _ _ within)))
-          (dichotomy (leb (entryAt table entry .«paid_out» + amount) (entryAt table entry .credited)))
+      by-leaves : ChangeLeaves change → set table (change .place) party ≡ changedTable table change
+      by-leaves (kept h e) = absurd (subst (λ t. T (not t)) h done)
+      by-leaves (changed h e) = ap (set table (change .place)) (sym (changes .writes)) ∙ sym e
 
-  pub hand-over-changes : (person : ℕ) → T (not (isRefused (handOverChange ledger table (length table) entry person .answer))) →
-      Changes table entry (handOverChange ledger table (length table) entry person) (handedTo (entryAt table entry) person)
-  hand-over-changes person = by-looks (looks ledger table entry)
-    where
-      by-looks : Looks ledger table entry → T (not (isRefused (handOverChange ledger table (length table) entry person .answer))) →
-          Changes table entry (handOverChange ledger table (length table) entry person) (handedTo (entryAt table entry) person)
-      by-looks (unsound u) h = absurd (not-refused (hand-over-refused-13 ledger table (length table) entry person u) h)
-      by-looks (missing s m) h = absurd (not-refused (hand-over-refused-11 ledger table (length table) entry s person (missed m)) h)
-      by-looks (found s e) h =
-          let there : Exists ledger entry = true-exists ledger entry e in
-          changes _ _ s there (hand-over-done ledger table (length table) entry s there person)
+done-answer : (answer : Answer) → T (not (notDone answer)) → answer ≡ Done
+done-answer Done done = refl
+done-answer (Refused r) done = absurd done
+
+module _ (ledger : Ledger) (table : List Party) where
+  abbrev snapshot : List Party
+  snapshot = snapshotOf (ledger .entries) table
+
+  -- a change that was decided on the snapshot
+  module _ (change : EntryChange) (refuses : sound ledger snapshot (length table) ≡ false → change ≡ refusedChange 13) where
+    unsound-refused : sound ledger table (length table) ≡ false → change ≡ refusedChange 13
+    unsound-refused unsound = refuses (snapshot-sound ledger table ∙ unsound)
+
+    changes : (update : Party → Party) → IfDone (take (ledger .entries) snapshot) update change → T (not (notDone (change .answer))) →
+        Changes table change (update (getD table (change .place) noParty))
+    changes update if-done done = by-test (sound ledger table (length table)) standing refused
+      where
+        standing : sound ledger table (length table) ≡ true → Changes table change (update (getD table (change .place) noParty))
+        standing stands =
+            let entry : Changed (take (ledger .entries) table) update change =
+            subst (λ (entries : List Party). Changed entries update change) (snapshot-entries ledger table stands)
+            (if-done (done-answer (change .answer) done)) in
+            let count = length-take (ledger .entries) table in
+            let kept : change .place < ledger .entries = omega (arith, entry .below) in
+            record {
+              within = omega (arith, entry .below);
+              writes = entry .updated ∙ ap update (getD-take (ledger .entries) table (change .place) noParty kept);
+            }
+
+        refused : sound ledger table (length table) ≡ false → Changes table change (update (getD table (change .place) noParty))
+        refused unsound = absurd (subst (λ (c : EntryChange). T (not (notDone (c .answer)))) (unsound-refused unsound) done)
+
+    promised : (call : Call) →
+        (take (ledger .entries) snapshot ≡ take (ledger .entries) table →
+        (ofEntryCall (change .answer) ≡ answered (stateOf ledger table) call)
+        × (stateOf ledger (changedTable table change) ≡ leaves (stateOf ledger table) call)) →
+        Promised (stateOf ledger table) call (ofEntryCall (change .answer)) (stateOf ledger (changedTable table change))
+    promised call is-call = by-test (sound ledger table (length table)) standing refused
+      where
+        Kept : EntryChange → Type 0
+        Kept c = Promised (stateOf ledger table) call (ofEntryCall (c .answer)) (stateOf ledger (changedTable table c))
+
+        standing : sound ledger table (length table) ≡ true → Kept change
+        standing stands = let told = is-call (snapshot-entries ledger table stands) in record { answers = told .0; leaving = told .1 }
+
+        refused : sound ledger table (length table) ≡ false → Kept change
+        refused unsound = subst Kept (sym (unsound-refused unsound)) (unsound-promised (stateOf ledger table) call unsound)
+
+  module _ (entry amount : ℕ) where
+    abbrev paying : EntryChange
+    paying = payOutChange ledger snapshot (length table) entry amount
+
+    pay-out-unsound : sound ledger snapshot (length table) ≡ false → paying ≡ refusedChange 13
+    unfolding payOutChange
+    pay-out-unsound unsound = rw unsound
+
+    pub pay-out-changes : T (not (notDone (paying .answer))) →
+        let old = getD table (paying .place) noParty in
+        Changes table paying (withPaidOut (old .«paid_out» + amount) old)
+    pay-out-changes =
+        changes paying pay-out-unsound (λ party. withPaidOut (party .«paid_out» + amount) party)
+        (pay-out-changed ledger snapshot entry amount (length table))
+
+    pub pay-out-promised : Promised (stateOf ledger table) (payOut entry amount) (ofEntryCall (paying .answer)) (stateOf ledger (changedTable table paying))
+    pay-out-promised = promised paying pay-out-unsound (payOut entry amount) (pay-out-is-call ledger table snapshot entry amount)
+
+  module _ (entry person : ℕ) where
+    abbrev handing : EntryChange
+    handing = handOverChange ledger snapshot (length table) entry person
+
+    hand-over-unsound : sound ledger snapshot (length table) ≡ false → handing ≡ refusedChange 13
+    unfolding handOverChange
+    hand-over-unsound unsound = rw unsound
+
+    pub hand-over-changes : T (not (notDone (handing .answer))) → Changes table handing (withPerson person (getD table (handing .place) noParty))
+    hand-over-changes = changes handing hand-over-unsound (withPerson person) (hand-over-changed ledger snapshot entry person (length table))
+
+    pub hand-over-promised :
+        Promised (stateOf ledger table) (handOver entry person) (ofEntryCall (handing .answer)) (stateOf ledger (changedTable table handing))
+    hand-over-promised = promised handing hand-over-unsound (handOver entry person) (hand-over-is-call ledger table snapshot entry person)

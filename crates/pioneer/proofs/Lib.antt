@@ -1,6 +1,5 @@
 pub mod Changes
 pub mod Plans
-pub mod Prefixes
 pub mod Readings
 pub mod Records
 pub mod Writings

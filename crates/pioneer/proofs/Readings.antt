@@ -1,6 +1,6 @@
 -- What a reading leaves of the table, by its answer.
 use Prim.Native.Nat.{ℕ, _≤_}
-use mathlib.Core.Path.{_≡_, refl, ap, subst}
+use mathlib.Core.Path.{_≡_, refl, ap}
 use mathlib.Core.List.{List, _++_}
 use mathlib.Core.Bool.{not}
 use lib.ListN.{length, take, drop}
@@ -13,15 +13,12 @@ use Rattle.ledger.specs.SoundFacts.{SoundLedger, sound-means}
 use Rattle.ledger.specs.declared.records.Party.{Party}
 use Rattle.ledger.specs.declared.records.Ledger.{Ledger}
 use Rattle.stored.specs.Layout.{placed}
-use Rattle.stored.specs.LayoutLaws.{length-placed, take-placed}
+use Rattle.stored.specs.LayoutLaws.{take-placed}
 use Rattle.stored.specs.Form.{entriesIn, storedLedger}
 use Rattle.stored.specs.Reading.{readAnswer, readBy, readBack, tableBy, readOf}
 use Rattle.stored.specs.Accepted.{accepted-means}
+use Rattle.stored.specs.ReadFacts.{entries-count}
 use Rattle.pioneer.specs.Calls.{readRefused, readResult}
-
-pub entries-count : (s : List ℕ) → storedLedger s .entries ≡ length (entriesIn s)
-unfolding storedLedger
-entries-count s = refl
 
 module _ (ledger : Ledger) (table : List Party) (file : List ℕ) where
   abbrev s : List ℕ
@@ -46,13 +43,6 @@ module _ (ledger : Ledger) (table : List Party) (file : List ℕ) where
 
   stands-means : readAnswer (length table) file ≡ Stands → SoundLedger (storedLedger s) (entriesIn s) (length table)
   stands-means e = sound-means (storedLedger s) (entriesIn s) (length table) (accepted-means (length table) file e .holds)
-
-  pub read-length : length (readOf ledger table file .table) ≡ length table
-  read-length = by-answer (readAnswer (length table) file) refl
-    where
-      by-answer : (answer : Standing) → readAnswer (length table) file ≡ answer → length (tableBy answer ledger table s .table) ≡ length table
-      by-answer Stands e = length-placed (entriesIn s) table (subst (λ (n : ℕ). n ≤ length table) (entries-count s) (stands-means e .in-table))
-      by-answer (Refused r) e = refl
 
   -- what storing the entries needs and leaves
   pub record Stores (entries : ℕ) (parties : List Party) : Type 0 where

@@ -17,17 +17,17 @@ use denote.Struct.Laws as struct-laws
 use denote.Enum.Laws as enum-laws
 use Rattle.ledger.specs.declared.records.Ledger.{Ledger}
 use Rattle.acceptance.specs.declared.accept.Plan.{Plan}
-use Rattle.ledger.specs.declared.entries.Answer.{Answer}
-use Rattle.ledger.specs.declared.entries.EntryChange.{EntryChange}
+use Rattle.calls.specs.declared.answers.Answer.{Answer}
+use Rattle.entry_calls.specs.declared.EntryChange.{EntryChange}
 use Rattle.ledger.proofs.records.Ledger as ledger
 use Rattle.ledger.proofs.records.Ledger.Laws as ledger-laws
 use Rattle.ledger.proofs.records.Scheme as scheme
 use Rattle.acceptance.proofs.accept.Plan as plan
 use Rattle.acceptance.proofs.accept.Plan.Laws as plan-laws
-use Rattle.ledger.proofs.entries.Answer as answer
-use Rattle.ledger.proofs.entries.Answer.Laws as answer-laws
-use Rattle.ledger.proofs.entries.EntryChange as change
-use Rattle.ledger.proofs.entries.EntryChange.Laws as change-laws
+use Rattle.calls.proofs.answers.Answer as answer
+use Rattle.calls.proofs.answers.Answer.Laws as answer-laws
+use Rattle.entry_calls.proofs.EntryChange as change
+use Rattle.entry_calls.proofs.EntryChange.Laws as change-laws
 use Rattle.stored.specs.declared.writing.Written.{Written}
 use Rattle.stored.specs.declared.reading.ReadBack.{ReadBack}
 use Rattle.stored.proofs.writing.Written as written
@@ -36,16 +36,10 @@ use Rattle.stored.proofs.reading.ReadBack as read-back
 use Rattle.stored.proofs.reading.ReadBack.Laws as read-back-laws
 use Rattle.pioneer.specs.declared.AcceptResult.{AcceptResult}
 use Rattle.pioneer.specs.declared.ReadResult.{ReadResult}
-use Rattle.pioneer.specs.declared.AcceptedTable.{AcceptedTable}
-use Rattle.pioneer.specs.declared.ChangedTable.{ChangedTable}
 use Rattle.pioneer.proofs.AcceptResult as accept-result
 use Rattle.pioneer.proofs.AcceptResult.Laws as accept-result-laws
 use Rattle.pioneer.proofs.ReadResult as read-result
 use Rattle.pioneer.proofs.ReadResult.Laws as read-result-laws
-use Rattle.pioneer.proofs.AcceptedTable as accepted-table
-use Rattle.pioneer.proofs.AcceptedTable.Laws as accepted-table-laws
-use Rattle.pioneer.proofs.ChangedTable as changed-table
-use Rattle.pioneer.proofs.ChangedTable.Laws as changed-table-laws
 
 abbrev pub LedgerRow : RattleType
 LedgerRow = ledger.the-row
@@ -115,18 +109,6 @@ ReadResultRow = read-result.the-row
 abbrev pub read-result-type : Ty
 read-result-type = read-result-laws.mir
 
-abbrev pub AcceptedTableRow : RattleType
-AcceptedTableRow = accepted-table.the-row
-
-abbrev pub accepted-table-type : Ty
-accepted-table-type = accepted-table-laws.mir
-
-abbrev pub ChangedTableRow : RattleType
-ChangedTableRow = changed-table.the-row
-
-abbrev pub changed-table-type : Ty
-changed-table-type = changed-table-laws.mir
-
 module _ {M : Type 1} (𝓤 : URA M) (H : Heap 𝓤) (A : Atoms 𝓤) where
   pub ledger-makes : Makes 𝓤 H A LedgerRow (Is LedgerRow)
   ledger-makes = struct-laws.makes ledger.the-type ledger-laws.the-plain 𝓤 H A
@@ -171,18 +153,12 @@ module _ {M : Type 1} (𝓤 : URA M) (H : Heap 𝓤) (A : Atoms 𝓤) where
     pub read-result-typed : (x : ReadResult) (v : Val) → Is ReadResultRow x (v ∷ []) → T (hasTy read-result-type v) × WT v
     read-result-typed x v is = struct-laws.lawful read-result.the-type read-result-laws.the-laws 𝓤 H A W .typed x _ is .0
 
-    pub accepted-table-typed : (x : AcceptedTable) (v : Val) → Is AcceptedTableRow x (v ∷ []) → T (hasTy accepted-table-type v) × WT v
-    accepted-table-typed x v is = struct-laws.lawful accepted-table.the-type accepted-table-laws.the-laws 𝓤 H A W .typed x _ is .0
-
-    pub changed-table-typed : (x : ChangedTable) (v : Val) → Is ChangedTableRow x (v ∷ []) → T (hasTy changed-table-type v) × WT v
-    changed-table-typed x v is = struct-laws.lawful changed-table.the-type changed-table-laws.the-laws 𝓤 H A W .typed x _ is .0
-
 -- a field of a record that a call was handed or returned
 pub entries-fits : (x : Ledger) (vs : List Val) → Is LedgerRow x vs → x .entries < 2 ^ 32
 entries-fits x vs is = is .1 .1 .1 .1 .1 .1 .0 .1
 
 pub paid-out-fits : (x : EntryChange) (vs : List Val) → Is ChangeRow x vs → x .party .«paid_out» < 2 ^ 64
-paid-out-fits x vs is = is .1 .1 .1 .0 .1 .1 .1 .1 .1 .1 .1 .0 .1
+paid-out-fits x vs is = is .1 .1 .1 .1 .0 .1 .1 .1 .1 .1 .1 .1 .0 .1
 
 pub schemes-length : (x : Ledger) (vs : List Val) → Is LedgerRow x vs → length (x .schemes) ≡ 64
 schemes-length x vs is = sym (length-map (x .schemes) (scheme.the-field .into)) ∙ is .1 .1 .1 .1 .1 .1 .1 .1 .0 .1 .0 .1

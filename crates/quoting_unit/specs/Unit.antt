@@ -11,13 +11,12 @@ use Rattle.charge.specs.declared.Pricing.the-variants.{Priced, NotPriced}
 use Rattle.slip_text.specs.Slip.{slipWritten, slipBuffer}
 use Rattle.slip_text.specs.declared.SlipWritten.{SlipWritten}
 use Rattle.slip_text.specs.declared.SlipWritten.the-variants.{Written, Refused}
-use Rattle.acceptance.specs.declared.accept.SchemeAnswer.{SchemeAnswer}
-use Rattle.acceptance.specs.declared.accept.SchemeAnswer.the-variants.{Plain, Opened, Joined, Small, Ended}
-use Rattle.stored_calls.specs.StoredCalls.{CallEnd, newStoredOf, acceptStoredOf, payOutStoredOf, handOverStoredOf, checkStoredOf}
-use Rattle.stored_calls.specs.declared.StoredAccept.{StoredAccept}
-use Rattle.stored_calls.specs.declared.StoredAccept.the-variants as StoredAccept
-use Rattle.stored_calls.specs.declared.StoredAnswer.{StoredAnswer}
-use Rattle.stored_calls.specs.declared.StoredAnswer.the-variants as StoredAnswer
+use Rattle.calls.specs.Decision.{accept, payOut, handOver}
+use Rattle.calls.specs.declared.answers.JoiningAnswer.{JoiningAnswer}
+use Rattle.calls.specs.declared.answers.JoiningAnswer.the-variants.{NotAsked, Ended, Small, Joined}
+use Rattle.calls.specs.declared.answers.OpeningAnswer.{OpeningAnswer}
+use Rattle.calls.specs.declared.answers.OpeningAnswer.the-variants.{NotOpened, Opened}
+use Rattle.stored_calls.specs.StoredCalls.{StoredCallAnswer, notRead, notMade, madeAccepted, madeDone, CallEnd, newStoredOf, storedCallOf, checkStoredOf}
 use Rattle.stored_calls.specs.declared.StoredCheck.{StoredCheck}
 use Rattle.stored_calls.specs.declared.StoredCheck.the-variants as StoredCheck
 use Rattle.quoting_unit.specs.Interface.{done, refused, answerAfter, figuresAfter, answerShort, anyShort}
@@ -73,56 +72,58 @@ slipTextCall book request text answer =
     let pricing = priceOf book request in
     outputCall (slipOutcome (slipWritten pricing text)) text (slipBuffer pricing text) answer
 
--- ---- a new ledger's stored form
+-- ---- a call on a stored ledger
+
+-- 1 plain, 2 opened and the scheme's number, 3 joined and the entry's number and G, 4 small, 5 ended; the new form's length. A request that asks for a
+-- joining opens no scheme.
+abbrev pub acceptanceTold : JoiningAnswer → OpeningAnswer → ℕ → List ℕ
+acceptanceTold NotAsked NotOpened size = 1 ∷ 0 ∷ 0 ∷ size ∷ []
+acceptanceTold NotAsked (Opened number) size = 2 ∷ number ∷ 0 ∷ size ∷ []
+acceptanceTold (Joined collected) opening size = 3 ∷ collected .entry ∷ collected .contribution ∷ size ∷ []
+acceptanceTold Small opening size = 4 ∷ 0 ∷ 0 ∷ size ∷ []
+acceptanceTold Ended opening size = 5 ∷ 0 ∷ 0 ∷ size ∷ []
 
 -- pay-out and hand-over tell the new form's length too
-abbrev pub callOutcome : StoredAnswer → Outcome
-callOutcome (StoredAnswer.NotRead r) = refused r 1
-callOutcome (StoredAnswer.Refused r) = refused r 0
-callOutcome (StoredAnswer.Done size) = done (0 ∷ 0 ∷ 0 ∷ size ∷ [])
+abbrev pub callOutcome : StoredCallAnswer → Outcome
+callOutcome (notRead r) = refused r 1
+callOutcome (notMade r) = refused r 0
+callOutcome (madeAccepted acceptance size) = done (acceptanceTold (acceptance .joining) (acceptance .opening) size)
+callOutcome (madeDone size) = done (0 ∷ 0 ∷ 0 ∷ size ∷ [])
 
-abbrev pub storedCall : CallEnd StoredAnswer → List ℕ → List ℕ → OutputEnd
+abbrev pub storedCall : CallEnd → List ℕ → List ℕ → OutputEnd
 storedCall called out answer = outputCall (callOutcome (called .answer)) out (called .output) answer
 
 abbrev pub newLedgerCall : List ℕ → List ℕ → OutputEnd
 newLedgerCall out answer = storedCall (newStoredOf out) out answer
 
--- ---- accept on a stored ledger
+abbrev pub payOutCall : List ℕ → ℕ → ℕ → ℕ → List ℕ → List ℕ → OutputEnd
+payOutCall stored tableSize entry amount out answer = storedCall (storedCallOf stored tableSize (payOut entry amount) out) out answer
 
--- 1 plain, 2 opened and the scheme's number, 3 joined and the entry's number and G, 4 small, 5 ended; the new form's length
-abbrev pub schemeTold : SchemeAnswer → ℕ → List ℕ
-schemeTold Plain size = 1 ∷ 0 ∷ 0 ∷ size ∷ []
-schemeTold (Opened number) size = 2 ∷ number ∷ 0 ∷ size ∷ []
-schemeTold (Joined joining) size = 3 ∷ joining .entry ∷ joining .collected ∷ size ∷ []
-schemeTold Small size = 4 ∷ 0 ∷ 0 ∷ size ∷ []
-schemeTold Ended size = 5 ∷ 0 ∷ 0 ∷ size ∷ []
+abbrev pub handOverCall : List ℕ → ℕ → ℕ → ℕ → List ℕ → List ℕ → OutputEnd
+handOverCall stored tableSize entry person out answer = storedCall (storedCallOf stored tableSize (handOver entry person) out) out answer
 
-abbrev pub acceptEnd : StoredAccept → List ℕ → List ℤ → List ℕ → AcceptEnd
-acceptEnd (StoredAccept.NotRead r) output figures answer =
-    record { result = r .number; output = output; figures = figures; answer = answerAfter (refused r 1) answer }
-acceptEnd (StoredAccept.NotAccepted r) output figures answer =
-    record { result = r .number; output = output; figures = figures; answer = answerAfter (refused r 0) answer }
-acceptEnd (StoredAccept.Accepted accepted) output figures answer =
+-- ---- accept on a stored ledger: figures are written only where it is accepted
+
+abbrev pub figuresBy : StoredCallAnswer → List ℤ → List ℤ
+figuresBy (notRead r) figures = figures
+figuresBy (notMade r) figures = figures
+figuresBy (madeAccepted acceptance size) figures = figuresAfter (acceptance .reconciliation) figures
+figuresBy (madeDone size) figures = figures
+
+abbrev pub acceptEnd : StoredCallAnswer → List ℕ → List ℤ → List ℕ → AcceptEnd
+acceptEnd called output figures answer =
     record {
-      result = 0;
+      result = callOutcome called .refusal .number;
       output = output;
-      figures = figuresAfter (accepted .acceptance .reconciliation) figures;
-      answer = answerAfter (done (schemeTold (accepted .acceptance .scheme) (accepted .length))) answer;
+      figures = figuresBy called figures;
+      answer = answerAfter (callOutcome called) answer;
     }
 
 abbrev pub acceptCall : List ℕ → ℕ → List ℕ → List ℕ → List ℕ → List ℤ → List ℕ → AcceptEnd
 acceptCall stored tableSize book request out figures answer =
-    let called = acceptStoredOf stored tableSize book request out in
+    let called = storedCallOf stored tableSize (accept book request) out in
     cond (anyShort figures answer) (record { result = 14; output = out; figures = figures; answer = answer })
     (acceptEnd (called .answer) (called .output) figures answer)
-
--- ---- pay-out and hand-over on a stored ledger
-
-abbrev pub payOutCall : List ℕ → ℕ → ℕ → ℕ → List ℕ → List ℕ → OutputEnd
-payOutCall stored tableSize entry amount out answer = storedCall (payOutStoredOf stored tableSize entry amount out) out answer
-
-abbrev pub handOverCall : List ℕ → ℕ → ℕ → ℕ → List ℕ → List ℕ → OutputEnd
-handOverCall stored tableSize entry person out answer = storedCall (handOverStoredOf stored tableSize entry person out) out answer
 
 -- ---- the check of a stored ledger: schemes, entries, connections, the last accepted month
 

@@ -8,7 +8,8 @@ use borrow.Author.Tests.{lt-ltb, le-ltb}
 use lib.IntN.{ℤ}
 use lib.ListN.{length}
 use Rattle.charge.specs.Price.{priceOf}
-use Rattle.stored_calls.specs.StoredCalls.{acceptStoredOf, checkStoredOf}
+use Rattle.stored_calls.specs.StoredCalls.{storedCallOf, checkStoredOf}
+use Rattle.calls.specs.Decision.{accept}
 use Rattle.quoting_unit.specs.Interface.{answerShort, anyShort, answerAfter}
 use Rattle.quoting_unit.specs.Unit.{priceEnd, priceCall, outputCall, acceptEnd, acceptCall, checkOutcome, checkLedgerCall}
 use Rattle.quoting_unit.specs.declared.Outcome.{Outcome}
@@ -38,7 +39,7 @@ module _ (stored : List ℕ) (tableSize : ℕ) (book request out : List ℕ) (fi
   accept-too-short short = rw (one-short figures answer short)
 
   pub accept-called : 8 ≤ length answer → 21 ≤ length figures →
-      let called = acceptStoredOf stored tableSize book request out in
+      let called = storedCallOf stored tableSize (accept book request) out in
       acceptCall stored tableSize book request out figures answer ≡ acceptEnd (called .answer) (called .output) figures answer
   accept-called long longer = rw (both-long figures answer long longer)
 

@@ -1,5 +1,5 @@
 -- The reconciliation of an acceptance is that of a priced bill, so each of its figures has its place.
-use mathlib.Core.Path.{_≡_, refl, sym, ap, subst}
+use mathlib.Core.Path.{_≡_, refl, sym, ap, subst, _∙_}
 use mathlib.Core.Bool.{Bool, true, false, cond}
 use mathlib.Core.List.{List}
 use Prim.Native.Nat.{ℕ}
@@ -15,24 +15,20 @@ use Rattle.charge.specs.PriceFacts.{priced-within}
 use Rattle.charge.specs.declared.Bill.{Bill}
 use Rattle.charge.specs.declared.Pricing.{Pricing}
 use Rattle.charge.specs.declared.Pricing.the-variants.{Priced, NotPriced}
+use Rattle.ledger.specs.Books.{Books}
 use Rattle.ledger.specs.Sound.{sound}
-use Rattle.acceptance.specs.Accept.{accepted, answerOf, AfterAccept, notAccepted, acceptPriced, acceptOf}
-use Rattle.acceptance.specs.Verdict.{columnsOf, verdict}
-use Rattle.ledger.specs.declared.records.Ledger.{Ledger}
-use Rattle.ledger.specs.declared.records.Party.{Party}
-use Rattle.acceptance.specs.declared.verdict.Verdict.{Verdict}
-use Rattle.acceptance.specs.declared.verdict.Verdict.the-variants.{StaysPlain, Opens, Joins, IsSmall, HasEnded, Refuses}
-use Rattle.acceptance.specs.declared.accept.SchemeAnswer.{SchemeAnswer}
-use Rattle.acceptance.specs.declared.accept.Acceptance.{Acceptance}
-use Rattle.acceptance.specs.declared.accept.AcceptAnswer.{AcceptAnswer}
-use Rattle.acceptance.specs.declared.accept.AcceptAnswer.the-variants as AcceptAnswer
+use Rattle.calls.specs.Verdict.{verdict}
+use Rattle.calls.specs.Decision.{Call, accept, Decision, refused, decided, decidedBy, acceptBy, CallAnswer, isAccepted, isDone, isRefused, acceptanceOf, answerTo}
+use Rattle.calls.specs.Carried.{State, booksOn}
+use Rattle.calls.specs.Calls.{answered, leaves}
+use Rattle.calls.specs.declared.answers.Acceptance.{Acceptance}
+use Rattle.calls.specs.declared.courses.Verdict.{Verdict}
+use Rattle.calls.specs.declared.courses.Verdict.the-variants.{Accepts, Refuses}
 use Rattle.stored.specs.Writing.{WriteEnd, writeOf}
 use Rattle.stored.specs.declared.writing.Written.{Written}
 use Rattle.stored.specs.declared.writing.Written.the-variants as Written
-use Rattle.stored_calls.specs.StoredCalls.{storedRead, onceRead, writtenAccept, acceptBy, acceptEnd, acceptStoredOf}
-use Rattle.stored_calls.specs.declared.StoredAcceptance.{StoredAcceptance}
-use Rattle.stored_calls.specs.declared.StoredAccept.{StoredAccept}
-use Rattle.stored_calls.specs.declared.StoredAccept.the-variants as StoredAccept
+use Rattle.stored_calls.specs.StoredCalls.{StoredCallAnswer, notRead, notMade, madeAccepted, madeDone, storedRead, writtenAnswer, endBy, onceRead, storedCallOf}
+use Rattle.stored_calls.specs.StoredCallsRefusals.{stateRead}
 
 -- the bill that an acceptance comes from
 pub record BilledBy (pricing : Pricing) (acceptance : Acceptance) : Type 0 where
@@ -40,68 +36,72 @@ pub record BilledBy (pricing : Pricing) (acceptance : Acceptance) : Type 0 where
   pub priced : pricing ≡ Priced bill
   pub same : acceptance .reconciliation ≡ bill .reconciliation
 
-module _ (ledger : Ledger) (table : List Party) (acceptance : Acceptance) where
-  of-answer : (bill : Bill) (answer : SchemeAnswer) → accepted bill answer ≡ AcceptAnswer.Accepted acceptance → acceptance .reconciliation ≡ bill .reconciliation
-  of-answer bill answer e =
-      let same : acceptance ≡ record { reconciliation = bill .reconciliation; scheme = answer } = cc in
-      ap (λ (a : Acceptance). a .reconciliation) same
+-- what is told apart
+other : {A : Type 0} → _≡_ {A = ℕ} 0 1 → A
+other e = absurd (omega (arith, e))
 
-  of-verdict : (count entries : ℕ) (bill : Bill) (verdict : Verdict) → answerOf count entries bill verdict ≡ AcceptAnswer.Accepted acceptance →
-      acceptance .reconciliation ≡ bill .reconciliation
-  of-verdict count entries bill StaysPlain e = of-answer bill _ e
-  of-verdict count entries bill Opens e = of-answer bill _ e
-  of-verdict count entries bill (Joins G) e = of-answer bill _ e
-  of-verdict count entries bill IsSmall e = of-answer bill _ e
-  of-verdict count entries bill HasEnded e = of-answer bill _ e
-  of-verdict count entries bill (Refuses number) e = let z : _≡_ {A = ℕ} 0 1 = cc in absurd (omega arith)
+abbrev acceptanceIn : Acceptance → CallAnswer → Acceptance
+acceptanceIn default (isAccepted acceptance) = acceptance
+acceptanceIn default isDone = default
+acceptanceIn default (isRefused r) = default
 
-  of-pricing : (pricing : Pricing) → acceptPriced ledger table pricing .answer ≡ AcceptAnswer.Accepted acceptance → BilledBy pricing acceptance
-  of-pricing (Priced bill) e =
-      record { bill = bill; priced = refl; same = of-verdict (ledger .count) (ledger .entries) bill (verdict (columnsOf ledger table) (length table) bill) e }
-  of-pricing (NotPriced r) e = let z : _≡_ {A = ℕ} 0 1 = cc in absurd (omega arith)
+module _ (books : Books) (acceptance : Acceptance) where
+  of-verdict : (bill : Bill) (v : Verdict) → answerTo books (decidedBy books bill v) ≡ isAccepted acceptance → acceptance .reconciliation ≡ bill .reconciliation
+  of-verdict bill (Accepts course) e = ap (λ told. acceptanceIn acceptance told .reconciliation) (sym e)
+  of-verdict bill (Refuses number) e = other cc
 
-  pub accepted-billed : (pricing : Pricing) → acceptOf ledger table pricing .answer ≡ AcceptAnswer.Accepted acceptance → BilledBy pricing acceptance
-  unfolding acceptOf
-  accepted-billed pricing e = by (sound ledger table (length table)) e
+  of-pricing : (pricing : Pricing) → answerTo books (acceptBy books pricing) ≡ isAccepted acceptance → BilledBy pricing acceptance
+  of-pricing (Priced bill) e = record { bill = bill; priced = refl; same = of-verdict bill (verdict books bill) e }
+  of-pricing (NotPriced r) e = other cc
+
+accepted-billed : (state : State) (book request : List ℕ) (acceptance : Acceptance) → answered state (accept book request) ≡ isAccepted acceptance →
+    BilledBy (priceOf book request) acceptance
+unfolding answered
+accepted-billed state book request acceptance = by (sound (state .ledger) (state .table) (length (state .table)))
+  where
+    by : (stands : Bool) → answerTo (booksOn state) (cond stands (decided (booksOn state) (accept book request)) (refused (refusal 13 0 0))) ≡ isAccepted acceptance →
+        BilledBy (priceOf book request) acceptance
+    by true e = of-pricing (booksOn state) acceptance (priceOf book request) e
+    by false e = other cc
+
+abbrev acceptedIn : Acceptance → StoredCallAnswer → Acceptance
+acceptedIn default (notRead r) = default
+acceptedIn default (notMade r) = default
+acceptedIn default (madeAccepted acceptance size) = acceptance
+acceptedIn default (madeDone size) = default
+
+module _ (file : List ℕ) (tableSize : ℕ) (book request out : List ℕ) (acceptance : Acceptance) (size : ℕ) where
+  stored-billed : storedCallOf file tableSize (accept book request) out .answer ≡ madeAccepted acceptance size → BilledBy (priceOf book request) acceptance
+  stored-billed = by-reading (storedRead file tableSize .answer)
     where
-      by : (stands : Bool) →
-          cond stands (acceptPriced ledger table pricing) (notAccepted ledger table (refusal 13 0 0)) .answer ≡ AcceptAnswer.Accepted acceptance →
-          BilledBy pricing acceptance
-      by true e = of-pricing pricing e
-      by false e = let z : _≡_ {A = ℕ} 0 1 = cc in absurd (omega arith)
-
-module _ (file : List ℕ) (tableSize : ℕ) (book request out : List ℕ) (accepted : StoredAcceptance) where
-  of-writing : (acceptance : Acceptance) (written : Written) → writtenAccept acceptance written ≡ StoredAccept.Accepted accepted →
-      accepted .acceptance ≡ acceptance
-  of-writing acceptance (Written.Length size) e =
-      let same : accepted ≡ record { acceptance = acceptance; length = size } = cc in
-      ap (λ (a : StoredAcceptance). a .acceptance) same
-  of-writing acceptance (Written.Refused r) e = let z : _≡_ {A = ℕ} 0 1 = cc in absurd (omega arith)
-
-  pub stored-billed : acceptStoredOf file tableSize book request out .answer ≡ StoredAccept.Accepted accepted → BilledBy (priceOf book request) (accepted .acceptance)
-  stored-billed e = by-reading (storedRead file tableSize .answer) e
-    where
-      after : AfterAccept
-      after = acceptOf (storedRead file tableSize .ledger) (storedRead file tableSize .table) (priceOf book request)
+      state : State
+      state = stateRead file tableSize
 
       written : WriteEnd
-      written = writeOf (after .ledger) (after .table) out
+      written = writeOf (leaves state (accept book request) .ledger) (leaves state (accept book request) .table) out
 
-      by-answer : (answer : AcceptAnswer) → after .answer ≡ answer → acceptBy answer written out .answer ≡ StoredAccept.Accepted accepted →
-          BilledBy (priceOf book request) (accepted .acceptance)
-      by-answer (AcceptAnswer.Accepted acceptance) q e =
-          subst (BilledBy (priceOf book request)) (sym (of-writing acceptance (written .answer) e))
-          (accepted-billed (storedRead file tableSize .ledger) (storedRead file tableSize .table) acceptance (priceOf book request) q)
-      by-answer (AcceptAnswer.NotAccepted r) q e = let z : _≡_ {A = ℕ} 0 1 = cc in absurd (omega arith)
+      by-written : (told : Acceptance) → answered state (accept book request) ≡ isAccepted told → (end : Written) →
+          writtenAnswer (madeAccepted told) end ≡ madeAccepted acceptance size → BilledBy (priceOf book request) acceptance
+      by-written told q (Written.Length other) e = accepted-billed state book request acceptance (q ∙ ap (λ end. isAccepted (acceptedIn told end)) e)
+      by-written told q (Written.Refused r) e = other cc
 
-      by-reading : (read : Standing) →
-          onceRead read StoredAccept.NotRead out (acceptEnd after out) .answer ≡ StoredAccept.Accepted accepted →
-          BilledBy (priceOf book request) (accepted .acceptance)
-      by-reading Standing.Stands e = by-answer (after .answer) refl e
-      by-reading (Standing.Refused r) e = let z : _≡_ {A = ℕ} 0 1 = cc in absurd (omega arith)
+      by-done : (end : Written) → writtenAnswer madeDone end ≡ madeAccepted acceptance size → BilledBy (priceOf book request) acceptance
+      by-done (Written.Length size) e = other cc
+      by-done (Written.Refused r) e = other cc
 
-  pub accepted-bounded : Bytes book → Bytes request → acceptStoredOf file tableSize book request out .answer ≡ StoredAccept.Accepted accepted →
-      Bounded (accepted .acceptance .reconciliation)
+      by-answer : (answer : CallAnswer) → answered state (accept book request) ≡ answer →
+          endBy answer written out .answer ≡ madeAccepted acceptance size → BilledBy (priceOf book request) acceptance
+      by-answer (isAccepted told) q e = by-written told q (written .answer) e
+      by-answer isDone q e = by-done (written .answer) e
+      by-answer (isRefused r) q e = other cc
+
+      by-reading : (read : Standing) → onceRead read state (accept book request) out .answer ≡ madeAccepted acceptance size →
+          BilledBy (priceOf book request) acceptance
+      by-reading Standing.Stands e = by-answer (answered state (accept book request)) refl e
+      by-reading (Standing.Refused r) e = other cc
+
+  pub accepted-bounded : Bytes book → Bytes request → storedCallOf file tableSize (accept book request) out .answer ≡ madeAccepted acceptance size →
+      Bounded (acceptance .reconciliation)
   accepted-bounded bytes bytes′ e =
       let by = stored-billed e in
       subst Bounded (sym (by .same)) (priced-within book request (by .bill) bytes bytes′ (by .priced) .figures)

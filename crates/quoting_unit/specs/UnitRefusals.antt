@@ -15,12 +15,9 @@ use Rattle.slip_text.specs.Slip.{slipWritten, slipBuffer}
 use Rattle.slip_text.specs.SlipFacts.{refused-changes-nothing}
 use Rattle.slip_text.specs.declared.SlipWritten.{SlipWritten}
 use Rattle.slip_text.specs.declared.SlipWritten.the-variants.{Written, Refused}
-use Rattle.stored_calls.specs.StoredCalls.{CallEnd, newStoredOf, acceptStoredOf, payOutStoredOf, handOverStoredOf, checkStoredOf}
-use Rattle.stored_calls.specs.StoredCallsFacts.{isAccepted, isDone, accept-refused-changes-nothing, pay-out-refused-changes-nothing, hand-over-refused-changes-nothing, new-refused-changes-nothing}
-use Rattle.stored_calls.specs.declared.StoredAccept.{StoredAccept}
-use Rattle.stored_calls.specs.declared.StoredAccept.the-variants as StoredAccept
-use Rattle.stored_calls.specs.declared.StoredAnswer.{StoredAnswer}
-use Rattle.stored_calls.specs.declared.StoredAnswer.the-variants as StoredAnswer
+use Rattle.calls.specs.Decision.{Call, accept, payOut, handOver}
+use Rattle.stored_calls.specs.StoredCalls.{StoredCallAnswer, notRead, notMade, madeAccepted, madeDone, CallEnd, newStoredOf, storedCallOf, checkStoredOf}
+use Rattle.stored_calls.specs.StoredCallsFacts.{isMade, stored-refused-changes-nothing, new-refused-changes-nothing}
 use Rattle.quoting_unit.specs.Interface.{refused, answerShort, anyShort, answerAfter}
 use Rattle.quoting_unit.specs.Unit.{PriceEnd, OutputEnd, AcceptEnd, priceEnd, priceCall, outputCall, slipOutcome, slipTextCall, acceptEnd, acceptCall, callOutcome, storedCall, newLedgerCall, payOutCall, handOverCall, CheckEnd, checkOutcome, checkLedgerCall}
 use Rattle.quoting_unit.specs.declared.Outcome.{Outcome}
@@ -65,60 +62,66 @@ module _ (book request text answer : List ℕ) where
       by (Written size) e refused = absurd (refused refl)
       by (Refused r) e refused = refused-changes-nothing pricing text r e
 
+-- a call on a stored ledger whose result isn't 0 was not made
+not-made : (told : StoredCallAnswer) → callOutcome told .refusal .number ≢ 0 → isMade told ≡ false
+not-made (notRead r) refused = refl
+not-made (notMade r) refused = refl
+not-made (madeAccepted acceptance size) refused = absurd (refused refl)
+not-made (madeDone size) refused = absurd (refused refl)
+
+module _ (out answer : List ℕ) where
+  stored-left : (called : CallEnd) → (isMade (called .answer) ≡ false → called .output ≡ out) → storedCall called out answer .result ≢ 0 →
+      storedCall called out answer .output ≡ out
+  stored-left called unchanged =
+      output-left (callOutcome (called .answer)) out (called .output) answer (λ refused. unchanged (not-made (called .answer) refused))
+
+  pub new-ledger-refused-leaves-output : newLedgerCall out answer .result ≢ 0 → newLedgerCall out answer .output ≡ out
+  new-ledger-refused-leaves-output = stored-left (newStoredOf out) (new-refused-changes-nothing out)
+
+  -- pay-out and hand-over
+  pub stored-refused-leaves-output : (stored : List ℕ) (tableSize : ℕ) (call : Call) →
+      let called = storedCallOf stored tableSize call out in
+      storedCall called out answer .result ≢ 0 → storedCall called out answer .output ≡ out
+  stored-refused-leaves-output stored tableSize call =
+      stored-left (storedCallOf stored tableSize call out) (stored-refused-changes-nothing stored tableSize call out)
+
+  pub pay-out-refused-leaves-output : (stored : List ℕ) (tableSize entry amount : ℕ) → payOutCall stored tableSize entry amount out answer .result ≢ 0 →
+      payOutCall stored tableSize entry amount out answer .output ≡ out
+  pay-out-refused-leaves-output stored tableSize entry amount = stored-refused-leaves-output stored tableSize (payOut entry amount)
+
+  pub hand-over-refused-leaves-output : (stored : List ℕ) (tableSize entry person : ℕ) → handOverCall stored tableSize entry person out answer .result ≢ 0 →
+      handOverCall stored tableSize entry person out answer .output ≡ out
+  hand-over-refused-leaves-output stored tableSize entry person = stored-refused-leaves-output stored tableSize (handOver entry person)
+
 module _ (stored : List ℕ) (tableSize : ℕ) (book request out : List ℕ) (figures : List ℤ) (answer : List ℕ) where
-  abbrev called : CallEnd StoredAccept
-  called = acceptStoredOf stored tableSize book request out
+  abbrev called : CallEnd
+  called = storedCallOf stored tableSize (accept book request) out
 
   abbrev short-end : AcceptEnd
   short-end = record { result = 14; output = out; figures = figures; answer = answer }
 
+  abbrev end : AcceptEnd
+  end = acceptEnd (called .answer) (called .output) figures answer
+
   pub accept-refused-leaves-output : acceptCall stored tableSize book request out figures answer .result ≢ 0 →
       acceptCall stored tableSize book request out figures answer .output ≡ out
-  accept-refused-leaves-output = by (anyShort figures answer) (called .answer) (accept-refused-changes-nothing stored tableSize book request out)
+  accept-refused-leaves-output = by (anyShort figures answer)
     where
-      by : (short : Bool) (accepted : StoredAccept) → (isAccepted accepted ≡ false → called .output ≡ out) →
-          cond short short-end (acceptEnd accepted (called .output) figures answer) .result ≢ 0 →
-          cond short short-end (acceptEnd accepted (called .output) figures answer) .output ≡ out
-      by true accepted unchanged refused = refl
-      by false (StoredAccept.NotRead r) unchanged refused = unchanged refl
-      by false (StoredAccept.NotAccepted r) unchanged refused = unchanged refl
-      by false (StoredAccept.Accepted accepted) unchanged refused = absurd (refused refl)
+      by : (short : Bool) → cond short short-end end .result ≢ 0 → cond short short-end end .output ≡ out
+      by true refused = refl
+      by false refused = stored-refused-changes-nothing stored tableSize (accept book request) out (not-made (called .answer) refused)
 
   pub accept-refused-leaves-figures : acceptCall stored tableSize book request out figures answer .result ≢ 0 →
       acceptCall stored tableSize book request out figures answer .figures ≡ figures
   accept-refused-leaves-figures = by (anyShort figures answer) (called .answer)
     where
-      by : (short : Bool) (accepted : StoredAccept) → cond short short-end (acceptEnd accepted (called .output) figures answer) .result ≢ 0 →
-          cond short short-end (acceptEnd accepted (called .output) figures answer) .figures ≡ figures
-      by true accepted refused = refl
-      by false (StoredAccept.NotRead r) refused = refl
-      by false (StoredAccept.NotAccepted r) refused = refl
-      by false (StoredAccept.Accepted accepted) refused = absurd (refused refl)
-
-module _ (out answer : List ℕ) where
-  call-not-done : (told : StoredAnswer) → callOutcome told .refusal .number ≢ 0 → isDone told ≡ false
-  call-not-done (StoredAnswer.NotRead r) refused = refl
-  call-not-done (StoredAnswer.Refused r) refused = refl
-  call-not-done (StoredAnswer.Done size) refused = absurd (refused refl)
-
-  stored-left : (called : CallEnd StoredAnswer) → (isDone (called .answer) ≡ false → called .output ≡ out) → storedCall called out answer .result ≢ 0 →
-      storedCall called out answer .output ≡ out
-  stored-left called unchanged =
-      output-left (callOutcome (called .answer)) out (called .output) answer (λ refused. unchanged (call-not-done (called .answer) refused))
-
-  pub new-ledger-refused-leaves-output : newLedgerCall out answer .result ≢ 0 → newLedgerCall out answer .output ≡ out
-  new-ledger-refused-leaves-output = stored-left (newStoredOf out) (new-refused-changes-nothing out)
-
-  module _ (stored : List ℕ) (tableSize entry : ℕ) where
-    pub pay-out-refused-leaves-output : (amount : ℕ) → payOutCall stored tableSize entry amount out answer .result ≢ 0 →
-        payOutCall stored tableSize entry amount out answer .output ≡ out
-    pay-out-refused-leaves-output amount =
-        stored-left (payOutStoredOf stored tableSize entry amount out) (pay-out-refused-changes-nothing stored tableSize entry amount out)
-
-    pub hand-over-refused-leaves-output : (person : ℕ) → handOverCall stored tableSize entry person out answer .result ≢ 0 →
-        handOverCall stored tableSize entry person out answer .output ≡ out
-    hand-over-refused-leaves-output person =
-        stored-left (handOverStoredOf stored tableSize entry person out) (hand-over-refused-changes-nothing stored tableSize entry person out)
+      by : (short : Bool) (told : StoredCallAnswer) → cond short short-end (acceptEnd told (called .output) figures answer) .result ≢ 0 →
+          cond short short-end (acceptEnd told (called .output) figures answer) .figures ≡ figures
+      by true told refused = refl
+      by false (notRead r) refused = refl
+      by false (notMade r) refused = refl
+      by false (madeAccepted acceptance size) refused = absurd (refused refl)
+      by false (madeDone size) refused = refl
 
 -- ---- 14 leaves the answer as it was
 
@@ -141,20 +144,13 @@ module _ (book request : List ℕ) (figures : List ℤ) (answer : List ℕ) wher
 module _ (stored : List ℕ) (tableSize : ℕ) (book request out : List ℕ) (figures : List ℤ) (answer : List ℕ) where
   pub accept-14-leaves-answer : acceptCall stored tableSize book request out figures answer .result ≡ 14 →
       acceptCall stored tableSize book request out figures answer .answer ≡ answer
-  accept-14-leaves-answer = by (anyShort figures answer) (called .answer)
+  accept-14-leaves-answer = by (anyShort figures answer)
     where
-      called : CallEnd StoredAccept
-      called = acceptStoredOf stored tableSize book request out
-
-      before : AcceptEnd
-      before = record { result = 14; output = out; figures = figures; answer = answer }
-
-      by : (short : Bool) (accepted : StoredAccept) → cond short before (acceptEnd accepted (called .output) figures answer) .result ≡ 14 →
-          cond short before (acceptEnd accepted (called .output) figures answer) .answer ≡ answer
-      by true accepted e = refl
-      by false (StoredAccept.NotRead r) e = answer-left (refused r 1) answer e
-      by false (StoredAccept.NotAccepted r) e = answer-left (refused r 0) answer e
-      by false (StoredAccept.Accepted accepted) e = absurd (omega arith)
+      by : (short : Bool) →
+          cond short (short-end stored tableSize book request out figures answer) (end stored tableSize book request out figures answer) .result ≡ 14 →
+          cond short (short-end stored tableSize book request out figures answer) (end stored tableSize book request out figures answer) .answer ≡ answer
+      by true e = refl
+      by false e = answer-left (callOutcome (called stored tableSize book request out figures answer .answer)) answer e
 
 -- the slip's text, the new ledger, pay-out and hand-over
 pub output-14-leaves-answer : (outcome : Outcome) (before after answer : List ℕ) → outputCall outcome before after answer .result ≡ 14 →

@@ -20,13 +20,10 @@ use Rattle.ledger.specs.RefusalNumbers.{oneOf, Among, oneTo, one-of-more, withi
 use Rattle.slip_text.specs.Slip.{slipOf, slipWritten, slipBuffer}
 use Rattle.slip_text.specs.declared.SlipWritten.the-variants.{Written, Refused}
 use Rattle.stored.specs.ReadingLaws.{readingNumbers}
-use Rattle.stored_calls.specs.StoredCalls.{CallEnd, newStoredOf, acceptStoredOf, payOutStoredOf, handOverStoredOf, checkStoredOf}
-use Rattle.stored_calls.specs.StoredCallsNumbers.{StoredAcceptRefuses, StoredCallRefuses, StoredCheckRefuses, accept-refusal-numbers, pay-out-refusal-numbers, hand-over-refusal-numbers, new-refusal-numbers, check-refusal-numbers}
-use Rattle.stored_calls.specs.declared.StoredAcceptance.{StoredAcceptance}
-use Rattle.stored_calls.specs.declared.StoredAccept.{StoredAccept}
-use Rattle.stored_calls.specs.declared.StoredAccept.the-variants as StoredAccept
-use Rattle.stored_calls.specs.declared.StoredAnswer.{StoredAnswer}
-use Rattle.stored_calls.specs.declared.StoredAnswer.the-variants as StoredAnswer
+use Rattle.calls.specs.Decision.{Call, accept, payOut, handOver}
+use Rattle.stored_calls.specs.StoredCalls.{StoredCallAnswer, notRead, notMade, madeAccepted, madeDone, CallEnd, newStoredOf, storedCallOf, checkStoredOf}
+use Rattle.stored_calls.specs.StoredCallsFacts.{isMade, storedNumbers, StoredRefuses, StoredCheckRefuses, stored-refusal-numbers, check-refusal-numbers}
+use Rattle.stored_calls.specs.StoredCallsRefusals.{new-refusal-numbers}
 use Rattle.stored_calls.specs.declared.StoredCounts.{StoredCounts}
 use Rattle.stored_calls.specs.declared.StoredCheck.{StoredCheck}
 use Rattle.stored_calls.specs.declared.StoredCheck.the-variants as StoredCheck
@@ -121,66 +118,64 @@ slip-text-results book request text answer =
     by true size = is-refused 14 refl (λ d. cc (d .1)) refl
     by false size = is-done (size, refl)
 
--- a call on a stored ledger: new, pay-out, hand-over
-stored-results : {refusals : List ℕ} (told : StoredAnswer) → InTable refusals → StoredCallRefuses refusals told →
-    Results ((size : ℕ) × (told ≡ StoredAnswer.Done size)) refusals (callOutcome told .refusal .number)
-stored-results (StoredAnswer.NotRead r) numbers h = is-refused (r .number) numbers (λ d. cc (d .1)) h
-stored-results (StoredAnswer.Refused r) numbers h = is-refused (r .number) numbers (λ d. cc (d .1)) h
-stored-results (StoredAnswer.Done size) numbers h = is-done (size, refl)
+-- a call on a stored ledger is done where it was made
+stored-results : {refusals : List ℕ} (told : StoredCallAnswer) → InTable refusals → StoredRefuses refusals told →
+    Results (isMade told ≡ true) refusals (callOutcome told .refusal .number)
+stored-results (notRead r) numbers h = is-refused (r .number) numbers (λ d. cc d) h
+stored-results (notMade r) numbers h = is-refused (r .number) numbers (λ d. cc d) h
+stored-results (madeAccepted acceptance size) numbers h = is-done refl
+stored-results (madeDone size) numbers h = is-done refl
+
+in-table-numbers : (call : Call) → InTable (storedNumbers call) × (oneOf (storedNumbers call) 14 ≡ true)
+in-table-numbers (accept book request) = (refl, refl)
+in-table-numbers (payOut e amount) = (refl, refl)
+in-table-numbers (handOver e person) = (refl, refl)
 
 module _ (out answer : List ℕ) where
-  called-results : {refusals : List ℕ} (called : CallEnd StoredAnswer) → InTable refusals → oneOf refusals 14 ≡ true →
-      StoredCallRefuses refusals (called .answer) →
-      Results ((answerShort answer ≡ false) × ((size : ℕ) × (called .answer ≡ StoredAnswer.Done size))) refusals (storedCall called out answer .result)
+  called-results : {refusals : List ℕ} (called : CallEnd) → InTable refusals → oneOf refusals 14 ≡ true → StoredRefuses refusals (called .answer) →
+      Results ((answerShort answer ≡ false) × (isMade (called .answer) ≡ true)) refusals (storedCall called out answer .result)
   called-results called numbers told h =
-      output-results (callOutcome (called .answer)) out (called .output) answer numbers told
-      (stored-results (called .answer) numbers h)
+      output-results (callOutcome (called .answer)) out (called .output) answer numbers told (stored-results (called .answer) numbers h)
 
   pub new-ledger-results :
-      Results ((answerShort answer ≡ false) × ((size : ℕ) × (newStoredOf out .answer ≡ StoredAnswer.Done size))) (14 ∷ [])
-      (newLedgerCall out answer .result)
+      Results ((answerShort answer ≡ false) × (isMade (newStoredOf out .answer) ≡ true)) (14 ∷ []) (newLedgerCall out answer .result)
   new-ledger-results = called-results (newStoredOf out) refl refl (new-refusal-numbers out)
 
-  module _ (stored : List ℕ) (tableSize entry : ℕ) where
-    pub pay-out-results : (amount : ℕ) →
-        Results ((answerShort answer ≡ false) × ((size : ℕ) × (payOutStoredOf stored tableSize entry amount out .answer ≡ StoredAnswer.Done size)))
-        (1 ∷ 2 ∷ 3 ∷ 9 ∷ 11 ∷ 12 ∷ 13 ∷ 14 ∷ [])
-        (payOutCall stored tableSize entry amount out answer .result)
-    pay-out-results amount =
-        called-results (payOutStoredOf stored tableSize entry amount out) refl refl
-        (pay-out-refusal-numbers stored tableSize entry amount out)
+  -- pay-out and hand-over
+  pub stored-call-results : (stored : List ℕ) (tableSize : ℕ) (call : Call) →
+      let called = storedCallOf stored tableSize call out in
+      Results ((answerShort answer ≡ false) × (isMade (called .answer) ≡ true)) (storedNumbers call) (storedCall called out answer .result)
+  stored-call-results stored tableSize call =
+      called-results (storedCallOf stored tableSize call out) (in-table-numbers call .0) (in-table-numbers call .1)
+      (stored-refusal-numbers stored tableSize call out)
 
-    pub hand-over-results : (person : ℕ) →
-        Results ((answerShort answer ≡ false) × ((size : ℕ) × (handOverStoredOf stored tableSize entry person out .answer ≡ StoredAnswer.Done size)))
-        (1 ∷ 2 ∷ 3 ∷ 9 ∷ 11 ∷ 13 ∷ 14 ∷ [])
-        (handOverCall stored tableSize entry person out answer .result)
-    hand-over-results person =
-        called-results (handOverStoredOf stored tableSize entry person out) refl refl
-        (hand-over-refusal-numbers stored tableSize entry person out)
+  pub pay-out-results : (stored : List ℕ) (tableSize entry amount : ℕ) →
+      Results ((answerShort answer ≡ false) × (isMade (storedCallOf stored tableSize (payOut entry amount) out .answer) ≡ true))
+      (1 ∷ 2 ∷ 3 ∷ 9 ∷ 11 ∷ 12 ∷ 13 ∷ 14 ∷ [])
+      (payOutCall stored tableSize entry amount out answer .result)
+  pay-out-results stored tableSize entry amount = stored-call-results stored tableSize (payOut entry amount)
+
+  pub hand-over-results : (stored : List ℕ) (tableSize entry person : ℕ) →
+      Results ((answerShort answer ≡ false) × (isMade (storedCallOf stored tableSize (handOver entry person) out .answer) ≡ true))
+      (1 ∷ 2 ∷ 3 ∷ 9 ∷ 11 ∷ 13 ∷ 14 ∷ [])
+      (handOverCall stored tableSize entry person out answer .result)
+  hand-over-results stored tableSize entry person = stored-call-results stored tableSize (handOver entry person)
 
 -- ---- accept on a stored ledger
 
-accepted-results : {refusals : List ℕ} (told : StoredAccept) (output : List ℕ) (figures : List ℤ) (answer : List ℕ) → InTable refusals →
-    StoredAcceptRefuses refusals told →
-    Results ((accepted : StoredAcceptance) × (told ≡ StoredAccept.Accepted accepted)) refusals (acceptEnd told output figures answer .result)
-accepted-results (StoredAccept.NotRead r) output figures answer numbers h = is-refused (r .number) numbers (λ d. cc (d .1)) h
-accepted-results (StoredAccept.NotAccepted r) output figures answer numbers h = is-refused (r .number) numbers (λ d. cc (d .1)) h
-accepted-results (StoredAccept.Accepted accepted) output figures answer numbers h = is-done (accepted, refl)
-
 pub accept-results : (stored : List ℕ) (tableSize : ℕ) (book request out : List ℕ) (figures : List ℤ) (answer : List ℕ) →
     Results
-    ((anyShort figures answer ≡ false)
-    × ((accepted : StoredAcceptance) × (acceptStoredOf stored tableSize book request out .answer ≡ StoredAccept.Accepted accepted)))
+    ((anyShort figures answer ≡ false) × (isMade (storedCallOf stored tableSize (accept book request) out .answer) ≡ true))
     (1 ∷ 2 ∷ 3 ∷ 4 ∷ 5 ∷ 6 ∷ 7 ∷ 8 ∷ 9 ∷ 10 ∷ 13 ∷ 14 ∷ [])
     (acceptCall stored tableSize book request out figures answer .result)
 accept-results stored tableSize book request out figures answer =
-    let called = acceptStoredOf stored tableSize book request out in
+    let called = storedCallOf stored tableSize (accept book request) out in
     unless-short
     (λ short.
     cond short (record { result = 14; output = out; figures = figures; answer = answer }) (acceptEnd (called .answer) (called .output) figures answer)
     .result)
     refl refl refl
-    (accepted-results (called .answer) (called .output) figures answer refl (accept-refusal-numbers stored tableSize book request out))
+    (stored-results (called .answer) refl (stored-refusal-numbers stored tableSize (accept book request) out))
     (anyShort figures answer)
 
 -- ---- the check of a stored ledger

@@ -10,9 +10,10 @@ use Rattle.reconciliation.specs.declared.Percent.the-variants.{Whole, None}
 use Rattle.charge.specs.MarkedFigures.{slipBook, slipRequest, bespokeRequest, schemeRequest, pricing-refusals, scheme-bills}
 use Rattle.stored.specs.StoredRows.{newForm, joinedForm}
 use Rattle.stored_calls.specs.StoredCallsRows.{new-rows-hold, hand-over-rows-hold, check-rows-hold}
-use Rattle.acceptance.specs.declared.accept.SchemeAnswer.the-variants.{Plain, Opened, Joined, Small, Ended}
+use Rattle.calls.specs.declared.answers.JoiningAnswer.the-variants.{NotAsked, Ended, Small, Joined}
+use Rattle.calls.specs.declared.answers.OpeningAnswer.the-variants.{NotOpened, Opened}
 use Rattle.quoting_unit.specs.Interface.{answerPlaces, figurePlaces, percentTold, percentFigure, done, refused, answerShort, anyShort, answerAfter}
-use Rattle.quoting_unit.specs.Unit.{priceCall, schemeTold, storedCall, newLedgerCall, handOverCall, checkLedgerCall}
+use Rattle.quoting_unit.specs.Unit.{priceCall, acceptanceTold, storedCall, newLedgerCall, handOverCall, checkLedgerCall}
 
 -- ME MC CE CC2 TW HR OL IC IR CC NIC NC X entered borne, then reliance, upfront and NC ratio
 pub slip-placed :
@@ -26,11 +27,11 @@ pub percentages-placed :
 percentages-placed = (refl, refl, refl, refl)
 
 pub answers-placed :
-    (answerPlaces (done (schemeTold Plain 32)) ≡ 0 ∷ 0 ∷ 0 ∷ 0 ∷ 1 ∷ 0 ∷ 0 ∷ 32 ∷ [])
-    × (answerPlaces (done (schemeTold (Opened 7) 32)) ≡ 0 ∷ 0 ∷ 0 ∷ 0 ∷ 2 ∷ 7 ∷ 0 ∷ 32 ∷ [])
-    × (answerPlaces (done (schemeTold (Joined (record { entry = 8; collected = 9 })) 32)) ≡ 0 ∷ 0 ∷ 0 ∷ 0 ∷ 3 ∷ 8 ∷ 9 ∷ 32 ∷ [])
-    × (answerPlaces (done (schemeTold Small 32)) ≡ 0 ∷ 0 ∷ 0 ∷ 0 ∷ 4 ∷ 0 ∷ 0 ∷ 32 ∷ [])
-    × (answerPlaces (done (schemeTold Ended 32)) ≡ 0 ∷ 0 ∷ 0 ∷ 0 ∷ 5 ∷ 0 ∷ 0 ∷ 32 ∷ [])
+    (answerPlaces (done (acceptanceTold NotAsked NotOpened 32)) ≡ 0 ∷ 0 ∷ 0 ∷ 0 ∷ 1 ∷ 0 ∷ 0 ∷ 32 ∷ [])
+    × (answerPlaces (done (acceptanceTold NotAsked (Opened 7) 32)) ≡ 0 ∷ 0 ∷ 0 ∷ 0 ∷ 2 ∷ 7 ∷ 0 ∷ 32 ∷ [])
+    × (answerPlaces (done (acceptanceTold (Joined (record { entry = 8; contribution = 9 })) NotOpened 32)) ≡ 0 ∷ 0 ∷ 0 ∷ 0 ∷ 3 ∷ 8 ∷ 9 ∷ 32 ∷ [])
+    × (answerPlaces (done (acceptanceTold Small NotOpened 32)) ≡ 0 ∷ 0 ∷ 0 ∷ 0 ∷ 4 ∷ 0 ∷ 0 ∷ 32 ∷ [])
+    × (answerPlaces (done (acceptanceTold Ended NotOpened 32)) ≡ 0 ∷ 0 ∷ 0 ∷ 0 ∷ 5 ∷ 0 ∷ 0 ∷ 32 ∷ [])
     × (answerPlaces (refused (refusal 3 1 87) 1) ≡ 3 ∷ 1 ∷ 87 ∷ 1 ∷ 0 ∷ 0 ∷ 0 ∷ 0 ∷ [])
 answers-placed = (refl, refl, refl, refl, refl, refl)
 

@@ -1,7 +1,8 @@
 // The static library for the firmware of quoting units: the calls of document 01 on numbers and lent buffers of numbers alone. Each
 // result is 0 where the call is done, otherwise the refusal's number. Short answer or figures are 14 before anything else.
 // `table_size` is the party table's length in records; more than 512 counts as 512.
-use acceptance::accept::SchemeAnswer;
+use calls::answers::JoiningAnswer;
+use calls::answers::OpeningAnswer;
 use charge::Pricing;
 use reconciliation::Percent;
 use reconciliation::Reconciliation;
@@ -17,8 +18,9 @@ ghost use Prim.Native.Nat.{_≤_};
 ghost use mathlib.Core.List.{_++_};
 ghost use lib.ListN.{length, drop};
 ghost use Rattle.reconciliation.specs.ReconciliationFacts.{Bounded};
+ghost use Rattle.stored_calls.specs.StoredCalls.{ofStoredAccept, ofStoredAnswer};
 ghost use Rattle.quoting_unit.specs.Interface.{answerPlaces, figurePlaces, percentTold, percentFigure, done, refused, answerAfter, figuresAfter};
-ghost use Rattle.quoting_unit.specs.Unit.{priceCall, slipOutcome, slipTextCall, schemeTold, acceptCall, callOutcome, newLedgerCall, payOutCall, handOverCall, checkOutcome, checkLedgerCall};
+ghost use Rattle.quoting_unit.specs.Unit.{priceCall, slipOutcome, slipTextCall, acceptanceTold, acceptCall, callOutcome, newLedgerCall, payOutCall, handOverCall, checkOutcome, checkLedgerCall};
 
 // How many places an answer and the figures have.
 const ANSWER: usize = 8;
@@ -226,7 +228,7 @@ pub extern "C" fn fikrem_slip_text(
 
 // What pay-out, hand-over and the new ledger tell: the new form's length.
 fn call_outcome(answer: StoredAnswer) -> Outcome
-    ensures { λ r. ⌜ r ≡ callOutcome answer ⌝ }
+    ensures { λ r. ⌜ r ≡ callOutcome (ofStoredAnswer answer) ⌝ }
 {
     match answer {
         StoredAnswer::NotRead(refusal) => refused(refusal, 1),
@@ -250,28 +252,36 @@ pub extern "C" fn fikrem_new_ledger(out: &mut [u8], answer: &mut [u64]) -> u32
     write_answer(call_outcome(called), answer)
 }
 
-// What accept answers: 1 plain, 2 opened, 3 joined, 4 small, 5 ended; the scheme's or the entry's number; G; the new form's length.
-fn scheme_told(scheme: SchemeAnswer, length: usize) -> [u64; 4]
-    ensures { λ r. ⌜ r ≡ schemeTold scheme length ⌝ }
+// What accept tells: 1 plain, 2 opened, 3 joined, 4 small, 5 ended; the scheme's or the entry's number; G; the new form's length.
+fn acceptance_told(joining: JoiningAnswer, opening: OpeningAnswer, length: usize) -> [u64; 4]
+    ensures { λ r. ⌜ r ≡ acceptanceTold joining opening length ⌝ }
 {
     let size = length as u64;
-    match scheme {
-        SchemeAnswer::Plain => [1, 0, 0, size],
-        SchemeAnswer::Opened(number) => [2, number as u64, 0, size],
-        SchemeAnswer::Joined(joining) => {
-            [3, joining.entry as u64, joining.collected as u64, size]
+    match joining {
+        JoiningAnswer::NotAsked => match opening {
+            OpeningAnswer::NotOpened => [1, 0, 0, size],
+            OpeningAnswer::Opened(number) => [2, number as u64, 0, size],
+        },
+        JoiningAnswer::Joined(collected) => {
+            [
+                3,
+                collected.entry as u64,
+                collected.contribution as u64,
+                size,
+            ]
         }
-        SchemeAnswer::Small => [4, 0, 0, size],
-        SchemeAnswer::Ended => [5, 0, 0, size],
+        JoiningAnswer::Small => [4, 0, 0, size],
+        JoiningAnswer::Ended => [5, 0, 0, size],
     }
 }
 
 fn acceptance_outcome(accepted: StoredAcceptance) -> Outcome
-    ensures { λ r. ⌜ r ≡ done (schemeTold (accepted .acceptance .scheme) (accepted .length)) ⌝ }
+    ensures { λ r. ⌜ r ≡ callOutcome (ofStoredAccept (StoredAccept.Accepted accepted)) ⌝ }
 {
     let acceptance = accepted.acceptance;
-    let scheme = acceptance.scheme;
-    done(scheme_told(scheme, accepted.length))
+    let joining = acceptance.joining;
+    let opening = acceptance.opening;
+    done(acceptance_told(joining, opening, accepted.length))
 }
 
 // Accept on a stored ledger: the new stored form into the lent output, and the reconciliation into the figures.

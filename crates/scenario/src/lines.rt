@@ -1,8 +1,9 @@
 // The lines of the program's text.
-use acceptance::accept::AcceptAnswer;
-use acceptance::accept::Acceptance;
-use acceptance::accept::SchemeAnswer;
-use ledger::entries::Answer;
+use calls::answers::AcceptAnswer;
+use calls::answers::Acceptance;
+use calls::answers::Answer;
+use calls::answers::JoiningAnswer;
+use calls::answers::OpeningAnswer;
 use ledger::records::Ledger;
 use ledger::records::Party;
 use ledger::records::Scheme;
@@ -33,16 +34,34 @@ pub fn write_refusal(refusal: Refusal) {
     write(b"\n");
 }
 
-fn write_scheme_answer(answer: SchemeAnswer) {
-    match answer {
-        SchemeAnswer::Plain => write(b"PLAIN"),
-        SchemeAnswer::Opened(number) => write_figure(b"OPENED ", number as u64),
-        SchemeAnswer::Joined(joining) => {
-            write_figure(b"JOINED ", joining.entry as u64);
-            write_figure(b" ", joining.collected as u64);
+// Where a scheme opened, after what stands before it; otherwise something else.
+fn write_opening(opening: OpeningAnswer, before: &[u8], otherwise: &[u8]) {
+    match opening {
+        OpeningAnswer::Opened(number) => {
+            write(before);
+            write_figure(b"OPENED ", number as u64);
         }
-        SchemeAnswer::Small => write(b"SMALL"),
-        SchemeAnswer::Ended => write(b"ENDED"),
+        OpeningAnswer::NotOpened => write(otherwise),
+    }
+}
+
+// Nothing where no joining was asked for.
+fn write_joining(joining: JoiningAnswer) {
+    match joining {
+        JoiningAnswer::NotAsked => {}
+        JoiningAnswer::Ended => write(b"ENDED"),
+        JoiningAnswer::Small => write(b"SMALL"),
+        JoiningAnswer::Joined(collected) => {
+            write_figure(b"JOINED ", collected.entry as u64);
+            write_figure(b" ", collected.contribution as u64);
+        }
+    }
+}
+
+fn is_asked(joining: JoiningAnswer) -> bool {
+    match joining {
+        JoiningAnswer::NotAsked => false,
+        _ => true,
     }
 }
 
@@ -53,9 +72,15 @@ fn write_charge(figures: Reconciliation) {
 }
 
 fn write_acceptance(acceptance: Acceptance) {
-    let scheme = acceptance.scheme;
+    let joining = acceptance.joining;
+    let opening = acceptance.opening;
     let figures = acceptance.reconciliation;
-    write_scheme_answer(scheme);
+    if is_asked(joining) {
+        write_joining(joining);
+        write_opening(opening, b", ", b"");
+    } else {
+        write_opening(opening, b"", b"PLAIN");
+    }
     write_charge(figures);
 }
 
@@ -78,23 +103,6 @@ pub fn write_standing(standing: Standing) {
         Standing::Stands => write(b"READ\n"),
         Standing::Refused(refusal) => write_refusal(refusal),
     }
-}
-
-// `accept REQUEST by BOOK: `
-pub fn start_accept(book: &[u8], request: &[u8]) {
-    write(b"accept ");
-    write(request);
-    write(b" by ");
-    write(book);
-    write(b": ");
-}
-
-// `CALL ENTRY VALUE: `
-pub fn start_entry_call(call: &[u8], entry: u32, value: u64) {
-    write(call);
-    write_figure(b" ", entry as u64);
-    write_figure(b" ", value);
-    write(b": ");
 }
 
 fn write_scheme(number: usize, scheme: Scheme) {

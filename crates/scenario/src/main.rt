@@ -1,15 +1,25 @@
-// Walks a pioneer ledger through its life over the public calls: document 01's M7 with plain, small and
-// ended connections in between, pay-outs, a hand-over, every refusal, and the stored form. A line for
-// each call and its answer; after each part the ledger's figures, schemes and entries.
+// Walks a pioneer ledger through its life by the lines of data/calls.txt: document 01's M7 with plain, small and ended connections
+// in between, pay-outs, a hand-over, every refusal, and the stored form. Each call is written with its answer; `show`, `figures`
+// and `entry` write what ledger and table hold.
 mod lines;
+mod text;
 
 use ledger::records::Ledger;
 use ledger::records::Party;
 use lines::write;
 use lines::write_number;
 use stored::writing::Written;
+use text::number;
 ghost use Prim.Native.Nat.{_≤_};
 ghost use Rattle.io.specs.Counts.{Counts};
+
+fn word<'a>(line: &'a [u8]) -> &'a [u8] {
+    text::head(line, b' ')
+}
+
+fn rest<'a>(line: &'a [u8]) -> &'a [u8] {
+    text::tail(line, b' ')
+}
 
 // The table is the first `room` records of the parties.
 struct State {
@@ -18,12 +28,12 @@ struct State {
     room: usize,
 }
 
-fn new_state(room: usize) -> State {
+fn new_state() -> State {
     let none = ledger::records::no_party();
     State {
         ledger: ledger::records::new_ledger(),
         parties: [none; 512],
-        room,
+        room: 512,
     }
 }
 
@@ -33,33 +43,24 @@ fn least(a: usize, b: usize) -> usize
     if a < b { a } else { b }
 }
 
-// A part's heading.
-fn part(name: &[u8]) {
-    write(b"-- ");
-    write(name);
-    write(b"\n");
-}
+// ---- the calls
 
-fn show_figures(state: State) {
-    let ledger = state.ledger;
-    lines::write_figures(ledger);
-}
-
-// The ledger's figures, its schemes and its entries.
-fn show(state: State) {
-    let ledger = state.ledger;
-    let schemes = ledger.schemes;
-    let parties = state.parties;
-    lines::write_figures(ledger);
-    lines::write_schemes(schemes, least(ledger.count as usize, 64));
-    lines::write_entries(parties, least(ledger.entries as usize, 512));
-}
-
-fn accepted(state: State, book: &[u8], request: &[u8]) -> State {
+// `REQUEST by BOOK`
+fn accept(state: State, names: &[u8]) -> State {
     let ledger = state.ledger;
     let parties = state.parties;
     let room = state.room;
-    let after = pioneer::accept_by_value(ledger, parties, room, book, request);
+    let mut book = io::buffer();
+    let mut request = io::buffer();
+    let book_size = files::read_file(rest(rest(names)), &mut book);
+    let request_size = files::read_file(word(names), &mut request);
+    let after = calls_by_value::accept(
+        ledger,
+        parties,
+        room,
+        &book[..book_size],
+        &request[..request_size],
+    );
     let answer = after.answer;
     lines::write_accept_answer(answer);
     let ledger = after.ledger;
@@ -71,25 +72,18 @@ fn accepted(state: State, book: &[u8], request: &[u8]) -> State {
     }
 }
 
-fn accept_by_book(state: State, book: &[u8], request_name: &[u8]) -> State {
-    let mut space = io::buffer();
-    let size = files::read_file(request_name, &mut space);
-    accepted(state, book, &space[..size])
-}
-
-fn accept(state: State, book_name: &[u8], request_name: &[u8]) -> State {
-    lines::start_accept(book_name, request_name);
-    let mut space = io::buffer();
-    let size = files::read_file(book_name, &mut space);
-    accept_by_book(state, &space[..size], request_name)
-}
-
-fn pay_out(state: State, entry: u32, amount: u64) -> State {
-    lines::start_entry_call(b"pay-out", entry, amount);
+// `ENTRY AMOUNT` or `ENTRY PERSON`
+fn change_entry(state: State, hands_over: bool, figures: &[u8]) -> State {
     let ledger = state.ledger;
     let parties = state.parties;
     let room = state.room;
-    let after = pioneer::pay_out_by_value(ledger, parties, room, entry, amount);
+    let entry = number(word(figures));
+    let value = number(rest(figures));
+    let after = if hands_over {
+        calls_by_value::hand_over(ledger, parties, room, entry, value)
+    } else {
+        calls_by_value::pay_out(ledger, parties, room, entry, value as u64)
+    };
     let answer = after.answer;
     lines::write_answer(answer);
     let parties = after.parties;
@@ -100,25 +94,9 @@ fn pay_out(state: State, entry: u32, amount: u64) -> State {
     }
 }
 
-fn hand_over(state: State, entry: u32, person: u32) -> State {
-    lines::start_entry_call(b"hand-over", entry, person as u64);
-    let ledger = state.ledger;
-    let parties = state.parties;
-    let room = state.room;
-    let after = pioneer::hand_over_by_value(ledger, parties, room, entry, person);
-    let answer = after.answer;
-    lines::write_answer(answer);
-    let parties = after.parties;
-    State {
-        ledger,
-        parties,
-        room,
-    }
-}
-
-// What is read; the given ledger with no entries where the reading is refused.
-fn read_bytes(ledger: Ledger, file: &[u8]) -> State {
-    let read = stored::reading::read(ledger, 512, file);
+// What is read; a new ledger with no entries where the reading is refused.
+fn read_bytes(file: &[u8]) -> State {
+    let read = stored::reading::read(ledger::records::new_ledger(), 512, file);
     let answer = read.answer;
     lines::write_standing(answer);
     let ledger = read.ledger;
@@ -131,12 +109,9 @@ fn read_bytes(ledger: Ledger, file: &[u8]) -> State {
 }
 
 fn read(name: &[u8]) -> State {
-    write(b"read ");
-    write(name);
-    write(b": ");
     let mut space = io::large_buffer();
     let size = files::read_file(name, &mut space);
-    read_bytes(ledger::records::new_ledger(), &space[..size])
+    read_bytes(&space[..size])
 }
 
 // How many bytes of the output the form takes; none where the writing is refused.
@@ -174,6 +149,13 @@ fn write_form(state: State, out: &mut [u8]) -> usize
     within(size, out)
 }
 
+// `to SIZE bytes`
+fn write_to(state: State, size: &[u8]) {
+    let mut space = io::large_buffer();
+    let most = within(number(word(rest(size))) as usize, &space);
+    write_form(state, &mut space[..most]);
+}
+
 fn say_whether(same: bool) {
     if same {
         write(b"the second writing gives the same bytes\n");
@@ -185,7 +167,7 @@ fn say_whether(same: bool) {
 // The written form read back and written again.
 fn write_again(form: &[u8]) {
     write(b"read what was written: ");
-    let state = read_bytes(ledger::records::new_ledger(), form);
+    let state = read_bytes(form);
     let mut space = io::large_buffer();
     let size = write_form(state, &mut space);
     say_whether(check::same(form, &space[..size]));
@@ -198,115 +180,80 @@ fn write_and_read_back(state: State) {
     write_again(&space[..size]);
 }
 
-// M7, the second joining by a book with another fee, minimum and term: the scheme's own count.
-fn marked_figures(start: State) -> State {
-    part(b"M7, with plain and small connections in between");
-    let state = accept(start, b"book.bin", b"at_threshold.bin");
-    let state = accept(state, b"book.bin", b"opening.bin");
-    let state = accept(state, b"book.bin", b"opted_out.bin");
-    let state = accept(state, b"book.bin", b"real_estate.bin");
-    let state = accept(state, b"book.bin", b"first_joining.bin");
-    let state = accept(state, b"book.bin", b"below_minimum.bin");
-    show(state);
-    let state = accept(state, b"other_book.bin", b"second_joining.bin");
-    show(state);
-    state
+// A call with its answer, by its first letter: accept, pay-out, hand-over, read.
+fn answered(state: State, line: &[u8]) -> State {
+    write(line);
+    write(b": ");
+    match text::letter(line) {
+        b'a' => accept(state, rest(line)),
+        b'p' => change_entry(state, false, rest(line)),
+        b'h' => change_entry(state, true, rest(line)),
+        _ => read(rest(line)),
+    }
 }
 
-fn pay_outs(start: State) -> State {
-    part(b"pay-outs: a part, one cent too many, all, nothing, no such entry");
-    let state = pay_out(start, 1, 500_000);
-    let state = pay_out(state, 1, 2_466_667);
-    let state = pay_out(state, 1, 2_466_666);
-    let state = pay_out(state, 1, 1);
-    let state = pay_out(state, 1, 0);
-    let state = pay_out(state, 3, 0);
-    let state = pay_out(state, 3, 1);
-    let state = pay_out(state, 0, 0);
-    let state = pay_out(state, 4, 0);
-    show(state);
-    state
-}
+// ---- what ledger and table hold
 
-fn hand_overs(start: State) -> State {
-    part(b"hand-overs");
-    let state = hand_over(start, 2, 8_001);
-    let state = hand_over(state, 0, 8_001);
-    let state = hand_over(state, 4, 8_001);
-    let state = pay_out(state, 2, 93_334);
-    show(state);
-    state
-}
-
-// M6, M8 and the end of the first scheme.
-fn more_schemes(start: State) -> State {
-    part(b"more schemes, at the minimum, at the end of the term");
-    let state = accept(start, b"book.bin", b"one_over_threshold.bin");
-    let state = accept(state, b"other_book.bin", b"other_opening.bin");
-    let state = accept(state, b"book.bin", b"one_below_minimum.bin");
-    let state = accept(state, b"book.bin", b"at_minimum.bin");
-    let state = accept(state, b"book.bin", b"last_month.bin");
-    let state = accept(state, b"book.bin", b"first_month_after.bin");
-    let state = accept(state, b"other_book.bin", b"first_month_after.bin");
-    show(state);
-    state
-}
-
-fn refused_files(start: State) -> State {
-    part(b"refused files");
-    let state = accept(start, b"missing.bin", b"plain.bin");
-    let state = accept(state, b"book_without_02.bin", b"plain.bin");
-    let state = accept(state, b"altered_book.bin", b"plain.bin");
-    let state = accept(state, b"book_term_83.bin", b"plain.bin");
-    let state = accept(state, b"book.bin", b"missing.bin");
-    let state = accept(state, b"book.bin", b"book.bin");
-    let state = accept(state, b"book.bin", b"altered_request.bin");
-    let state = accept(state, b"book.bin", b"request_capacity_0.bin");
-    let state = accept(state, b"book.bin", b"request_zone_2.bin");
-    let state = accept(state, b"book.bin", b"request_at_150_percent.bin");
-    show_figures(state);
-    state
-}
-
-fn refused_connections(start: State) -> State {
-    part(b"a scheme never opened, a month before the last");
-    let state = accept(start, b"book.bin", b"never_opened.bin");
-    let state = accept(state, b"book.bin", b"last_month.bin");
-    show_figures(state);
-    state
-}
-
-// The last scheme opens, then none; a connection that opens none is still taken.
-fn last_scheme() {
-    part(b"the last scheme");
-    let state = read(b"ledger_63_schemes.bin");
-    let state = accept(state, b"book.bin", b"late_opening.bin");
-    let state = accept(state, b"book.bin", b"late_opening.bin");
-    let state = accept(state, b"book.bin", b"plain.bin");
-    show_figures(state);
-}
-
-// The last entry is taken, then none; a connection that needs none is still taken.
-fn last_entry() {
-    part(b"the last entry");
-    let state = read(b"ledger_511_entries.bin");
-    let state = accept(state, b"book.bin", b"first_joining.bin");
-    let state = accept(state, b"book.bin", b"second_joining.bin");
-    let state = accept(state, b"book.bin", b"late_opening.bin");
-    let state = accept(state, b"book.bin", b"below_minimum.bin");
-    let state = accept(state, b"book.bin", b"first_month_after.bin");
-    show_figures(state);
-    let parties = state.parties;
-    lines::write_entry(1, parties[0]);
-    lines::write_entry(2, parties[1]);
-    lines::write_entry(511, parties[510]);
-    lines::write_entry(512, parties[511]);
-}
-
-// The same ledger on a table of so many records.
-fn on_table(state: State, room: usize) -> State {
+// The ledger's figures, its schemes and its entries.
+fn show(state: State) {
     let ledger = state.ledger;
+    let schemes = ledger.schemes;
     let parties = state.parties;
+    lines::write_figures(ledger);
+    lines::write_schemes(schemes, least(ledger.count as usize, 64));
+    lines::write_entries(parties, least(ledger.entries as usize, 512));
+}
+
+fn show_figures(state: State) {
+    let ledger = state.ledger;
+    lines::write_figures(ledger);
+}
+
+// The entry with this number.
+fn show_entry(state: State, entry: usize) {
+    let parties = state.parties;
+    if entry < 1 {
+        return;
+    }
+    if 512 < entry {
+        return;
+    }
+    lines::write_entry(entry, parties[entry - 1]);
+}
+
+// A line that changes nothing, by its first letter: a heading, show, figures, entry, write, or the stored form there and back.
+fn told(state: State, line: &[u8]) {
+    match text::letter(line) {
+        b'-' => {
+            write(line);
+            write(b"\n");
+        }
+        b's' => show(state),
+        b'f' => show_figures(state),
+        b'e' => show_entry(state, number(rest(line)) as usize),
+        b'w' => write_to(state, rest(line)),
+        _ => write_and_read_back(state),
+    }
+}
+
+// ---- the lines
+
+// A table of n records, or a ledger of month n or of n entries, by the first letter: table, month, count.
+fn altered(state: State, letter: u8, n: u32) -> State {
+    let parties = state.parties;
+    let mut ledger = state.ledger;
+    let mut room = state.room;
+    match letter {
+        b't' => {
+            room = n as usize;
+        }
+        b'm' => {
+            ledger.month = least(n as usize, 65535) as u16;
+        }
+        _ => {
+            ledger.entries = n;
+        }
+    }
     State {
         ledger,
         parties,
@@ -314,90 +261,44 @@ fn on_table(state: State, room: usize) -> State {
     }
 }
 
-// No record, one record; a connection that needs none is still taken; a table shorter than the entries.
-fn short_tables() {
-    part(b"short tables");
-    let state = accept(new_state(0), b"book.bin", b"opening.bin");
-    let state = accept(on_table(state, 1), b"book.bin", b"opening.bin");
-    let state = accept(state, b"book.bin", b"first_joining.bin");
-    let state = accept(state, b"book.bin", b"at_threshold.bin");
-    show(state);
-    let state = pay_out(on_table(state, 0), 1, 0);
-    let state = accept(on_table(state, 2), b"book.bin", b"first_joining.bin");
-    show(state);
-}
-
-fn last_connection() {
-    part(b"the last connection");
-    let state = read(b"ledger_999999.bin");
-    let state = accept(state, b"book.bin", b"plain.bin");
-    let state = accept(state, b"book.bin", b"plain.bin");
-    show_figures(state);
-}
-
-// Every call on a ledger that isn't sound, with something else to refuse besides: 13 comes first.
-fn refused_calls(unsound: State) {
-    let state = accept(unsound, b"missing.bin", b"missing.bin");
-    let state = pay_out(state, 0, 0);
-    let state = hand_over(state, 0, 8_001);
-    let mut none = [0u8; 1];
-    write_form(state, &mut none);
-    show_figures(state);
-}
-
-// The same ledger with its month before an opening.
-fn month_altered(state: State) -> State {
-    let mut ledger = state.ledger;
-    let parties = state.parties;
-    ledger.month = 24_314;
-    State {
-        ledger,
-        parties,
-        room: 512,
+// A call; a new ledger, a table of so many records, a ledger that isn't sound; or what changes nothing.
+fn carried_out(state: State, line: &[u8]) -> State {
+    match text::letter(line) {
+        b'a' | b'p' | b'h' | b'r' => answered(state, line),
+        b'n' => new_state(),
+        b't' | b'm' | b'c' => altered(state, text::letter(line), number(rest(line))),
+        _ => {
+            told(state, line);
+            state
+        }
     }
 }
 
-// The same ledger with one entry counted that its table has no record of.
-fn entries_altered(state: State) -> State {
-    let mut ledger = state.ledger;
-    let parties = state.parties;
-    ledger.entries = 513;
-    State {
-        ledger,
-        parties,
-        room: 512,
+// Line by line; `keep` keeps the ledger and its table, `back` goes back to them.
+fn run(script: &[u8]) {
+    let mut state = new_state();
+    let mut kept = state;
+    let mut left = script;
+    while 0 < left.len() {
+        let line = text::head(left, b'\n');
+        match text::letter(line) {
+            b'k' => {
+                kept = state;
+            }
+            b'b' => {
+                state = kept;
+            }
+            _ => {
+                state = carried_out(state, line);
+            }
+        }
+        let next = text::tail(left, b'\n');
+        left = next;
     }
-}
-
-fn unsound_ledgers(state: State) {
-    part(b"unsound ledgers");
-    read(b"ledger_unsound.bin");
-    refused_calls(month_altered(state));
-    refused_calls(entries_altered(state));
-}
-
-// The form of a new ledger takes 37 bytes.
-fn short_outputs() {
-    part(b"short outputs");
-    let mut short = [0u8; 36];
-    let mut enough = [0u8; 37];
-    write_form(new_state(512), &mut short);
-    write_form(new_state(512), &mut enough);
 }
 
 fn main() {
-    let state = marked_figures(new_state(512));
-    let state = pay_outs(state);
-    let state = hand_overs(state);
-    let state = more_schemes(state);
-    let state = refused_files(state);
-    let state = refused_connections(state);
-    last_scheme();
-    last_entry();
-    short_tables();
-    last_connection();
-    unsound_ledgers(state);
-    short_outputs();
-    part(b"the stored form");
-    write_and_read_back(state);
+    let mut space = io::buffer();
+    let size = files::read_file(b"calls.txt", &mut space);
+    run(&space[..size]);
 }

@@ -14,6 +14,7 @@ use Rattle.field_values.specs.Judged.{sameBytes}
 use Rattle.ledger.specs.Records.{noScheme, noParty, newLedger}
 use Rattle.ledger.specs.Columns.{sumOver, firstPutIn}
 use Rattle.ledger.specs.Sound.{partiesSound, schemesSound, allZero, sound}
+use Rattle.ledger.specs.Lookup.{schemePlace}
 use Rattle.ledger.specs.declared.records.Party.{Party}
 use Rattle.ledger.specs.declared.records.Ledger.{Ledger}
 use Rattle.stored.specs.Layout.{recordBytes, valuesAt, placed}
@@ -96,12 +97,12 @@ readRows =
     []
 
 pub read-rows-hold : map (λ row. readAnswer (row .0 .0) (row .0 .1)) readRows ≡ map (λ row. row .1) readRows
-unfolding readAnswer tableAnswer entriesIn schemesIn storedLedger placed noSchemes valuesAt number checkFrom dueFrom allHad frontOf walkFrom fieldsFrom firstWith fieldsWith sameBytes sound partiesSound schemesSound allZero sumOver firstPutIn
+unfolding readAnswer tableAnswer entriesIn schemesIn storedLedger placed noSchemes valuesAt number checkFrom dueFrom allHad frontOf walkFrom fieldsFrom firstWith fieldsWith sameBytes sound partiesSound schemePlace schemesSound allZero sumOver firstPutIn
 read-rows-hold = refl
 
 -- what is read, with a table of two records
 pub read-row-holds : readOf newLedger (noParty ∷ noParty ∷ []) oneForm ≡ record { answer = standing.Stands; ledger = oneScheme; table = oneParty ∷ noParty ∷ [] }
-unfolding readAnswer tableAnswer entriesIn schemesIn storedLedger placed noSchemes valuesAt number checkFrom dueFrom allHad frontOf walkFrom fieldsFrom firstWith fieldsWith sameBytes sound partiesSound schemesSound allZero sumOver firstPutIn
+unfolding readAnswer tableAnswer entriesIn schemesIn storedLedger placed noSchemes valuesAt number checkFrom dueFrom allHad frontOf walkFrom fieldsFrom firstWith fieldsWith sameBytes sound partiesSound schemePlace schemesSound allZero sumOver firstPutIn
 read-row-holds = refl
 
 -- an output as long as the form, one byte longer and one byte shorter; a table shorter than the entries
@@ -110,5 +111,5 @@ pub write-rows-hold :
     (writeOf oneScheme (oneParty ∷ []) (replicate 98 7) ≡ record { answer = written.Length 97; output = oneForm ++ (7 ∷ []) }) ×
     (writeOf oneScheme (oneParty ∷ []) (replicate 96 7) ≡ record { answer = written.Refused (refusal 14 0 0); output = replicate 96 7 }) ×
     (writeOf oneScheme [] (replicate 97 7) ≡ record { answer = written.Refused (refusal 13 0 0); output = replicate 97 7 })
-unfolding writtenAnswer storedForm schemeParts partyParts recordBytes bytesOf checkFrom flatMap placed sound partiesSound schemesSound allZero sumOver firstPutIn
+unfolding writtenAnswer storedForm schemeParts partyParts recordBytes bytesOf checkFrom flatMap placed sound partiesSound schemePlace schemesSound allZero sumOver firstPutIn
 write-rows-hold = (refl, refl, refl, refl)

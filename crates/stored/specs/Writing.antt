@@ -13,17 +13,22 @@ use Rattle.stored.specs.Form.{storedForm}
 use Rattle.stored.specs.declared.writing.Written.{Written}
 use Rattle.stored.specs.declared.writing.Written.the-variants.{Length, Refused}
 
+-- without the soundness test
+abbrev pub formAnswer : Ledger → List Party → List ℕ → Written
+formAnswer ledger parties out =
+    cond (leb (length (storedForm ledger parties)) (length out)) (Length (length (storedForm ledger parties))) (Refused (refusal 14 0 0))
+
 -- the answer, and the output afterwards; `room` is the table's length
 unfoldable pub writtenAnswer : Ledger → List Party → ℕ → List ℕ → Written
-writtenAnswer ledger parties room out =
-    cond (sound ledger parties room)
-    (cond (leb (length (storedForm ledger parties)) (length out)) (Length (length (storedForm ledger parties))) (Refused (refusal 14 0 0)))
-    (Refused (refusal 13 0 0))
+writtenAnswer ledger parties room out = cond (sound ledger parties room) (formAnswer ledger parties out) (Refused (refusal 13 0 0))
 
 -- by the answer: the form at the start of the output, or the output as it was
 abbrev pub outputBy : Written → List ℕ → List ℕ → List ℕ
 outputBy (Length size) form out = placed form out
 outputBy (Refused r) form out = out
+
+abbrev pub formOutput : Ledger → List Party → List ℕ → List ℕ
+formOutput ledger parties out = outputBy (formAnswer ledger parties out) (storedForm ledger parties) out
 
 abbrev pub writtenOutput : Ledger → List Party → ℕ → List ℕ → List ℕ
 writtenOutput ledger parties room out = outputBy (writtenAnswer ledger parties room out) (storedForm ledger parties) out
@@ -32,6 +37,10 @@ writtenOutput ledger parties room out = outputBy (writtenAnswer ledger parties r
 pub record WriteEnd : Type 0 where
   pub answer : Written
   pub output : List ℕ
+
+-- without the soundness test
+abbrev pub formEnd : Ledger → List Party → List ℕ → WriteEnd
+formEnd ledger parties out = record { answer = formAnswer ledger parties out; output = formOutput ledger parties out }
 
 abbrev pub writeOf : Ledger → List Party → List ℕ → WriteEnd
 writeOf ledger table out =

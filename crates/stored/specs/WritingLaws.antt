@@ -1,6 +1,6 @@
 -- The cases of writing, in document 01's order; what is written fits; what a refused one changes, and its numbers.
 use Prim.Native.Nat.{ℕ, _<_, _≤_}
-use mathlib.Core.Path.{_≡_, refl, ap}
+use mathlib.Core.Path.{_≡_, refl, ap, _∙_}
 use mathlib.Core.List.{List, [], _∷_}
 use mathlib.Core.Bool.{Bool, true, false, cond}
 use native.Mathlib.Omega.{arith}
@@ -15,24 +15,34 @@ use Rattle.ledger.specs.declared.records.Party.{Party}
 use Rattle.ledger.specs.declared.records.Ledger.{Ledger}
 use Rattle.stored.specs.Layout.{placed}
 use Rattle.stored.specs.Form.{storedForm}
-use Rattle.stored.specs.Writing.{writtenAnswer, outputBy, writtenOutput, writeOf}
+use Rattle.stored.specs.Writing.{formAnswer, writtenAnswer, outputBy, writtenOutput, writeOf}
 use Rattle.stored.specs.declared.writing.Written.{Written}
 use Rattle.stored.specs.declared.writing.Written.the-variants.{Length, Refused}
+
+-- without the soundness test
+module _ (ledger : Ledger) (parties : List Party) (out : List ℕ) where
+  pub form-refused-14 : length out < length (storedForm ledger parties) → formAnswer ledger parties out ≡ Refused (refusal 14 0 0)
+  form-refused-14 short = rw (lt-leb (length (storedForm ledger parties)) (length out) short)
+
+  pub form-done : length (storedForm ledger parties) ≤ length out → formAnswer ledger parties out ≡ Length (length (storedForm ledger parties))
+  form-done fits = rw (le-leb (length (storedForm ledger parties)) (length out) fits)
 
 module _ (ledger : Ledger) (parties : List Party) (room : ℕ) (out : List ℕ) where
   pub write-refused-13 : sound ledger parties room ≡ false → writtenAnswer ledger parties room out ≡ Refused (refusal 13 0 0)
   unfolding writtenAnswer
   write-refused-13 unsound = rw unsound
 
+  pub write-sound : sound ledger parties room ≡ true → writtenAnswer ledger parties room out ≡ formAnswer ledger parties out
+  unfolding writtenAnswer
+  write-sound holds = rw holds
+
   pub write-refused-14 : sound ledger parties room ≡ true → length out < length (storedForm ledger parties) →
       writtenAnswer ledger parties room out ≡ Refused (refusal 14 0 0)
-  unfolding writtenAnswer
-  write-refused-14 holds short = rw (holds, lt-leb (length (storedForm ledger parties)) (length out) short)
+  write-refused-14 holds short = write-sound holds ∙ form-refused-14 ledger parties out short
 
   pub write-done : sound ledger parties room ≡ true → length (storedForm ledger parties) ≤ length out →
       writtenAnswer ledger parties room out ≡ Length (length (storedForm ledger parties))
-  unfolding writtenAnswer
-  write-done holds fits = rw (holds, le-leb (length (storedForm ledger parties)) (length out) fits)
+  write-done holds fits = write-sound holds ∙ form-done ledger parties out fits
 
   -- what is written fits the output
   pub written-within : {size : ℕ} → writtenAnswer ledger parties room out ≡ Length size → size ≤ length out

@@ -16,7 +16,7 @@ ghost use Rattle.numbers.specs.Check.{check};
 ghost use Rattle.tagged.specs.File.{refusal};
 ghost use Rattle.tagged.specs.WalkFinds.{joined};
 ghost use Rattle.stored.specs.Form.{lettersPart, headPart, schemePart, partyPart, storedParts, formLength};
-ghost use Rattle.stored.specs.Writing.{writtenAnswer, writtenOutput};
+ghost use Rattle.stored.specs.Writing.{formAnswer, formOutput, writtenAnswer, writtenOutput};
 
 pub enum Written {
     // the form's length
@@ -151,14 +151,12 @@ fn write_check(out: &mut [u8], at: usize)
     write_u16(out, end, check as u16);
 }
 
-// The stored form at the start of a lent buffer; `room` is the table's length.
-pub fn write(ledger: Ledger, parties: [Party; 512], room: usize, out: &mut [u8]) -> Written
-    ensures { λ r. ⌜ r ≡ writtenAnswer ledger parties room (now (out .entry)) ⌝ }
-    ensures { λ _. ⌜ now (out .exit) ≡ writtenOutput ledger parties room (now (out .entry)) ⌝ }
+// The stored form at the start of a lent buffer, of a ledger that was tested already.
+pub fn write_form(ledger: Ledger, parties: [Party; 512], out: &mut [u8]) -> Written
+    requires { ⌜ (ledger .count ≤ 64) × (ledger .entries ≤ 512) ⌝ }
+    ensures { λ r. ⌜ r ≡ formAnswer ledger parties (now (out .entry)) ⌝ }
+    ensures { λ _. ⌜ now (out .exit) ≡ formOutput ledger parties (now (out .entry)) ⌝ }
 {
-    if !ledger::sound::sound(ledger, parties, room) {
-        return refused(13);
-    }
     let size = form_length(ledger.count, ledger.entries);
     if out.len() < size {
         return refused(14);
@@ -166,4 +164,15 @@ pub fn write(ledger: Ledger, parties: [Party; 512], room: usize, out: &mut [u8])
     write_fields(out, ledger, parties);
     write_check(out, size - 5);
     Written::Length(size)
+}
+
+// The same once the ledger is found to be sound; `room` is the table's length.
+pub fn write(ledger: Ledger, parties: [Party; 512], room: usize, out: &mut [u8]) -> Written
+    ensures { λ r. ⌜ r ≡ writtenAnswer ledger parties room (now (out .entry)) ⌝ }
+    ensures { λ _. ⌜ now (out .exit) ≡ writtenOutput ledger parties room (now (out .entry)) ⌝ }
+{
+    if !ledger::sound::sound(ledger, parties, room) {
+        return refused(13);
+    }
+    write_form(ledger, parties, out)
 }

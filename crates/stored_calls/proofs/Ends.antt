@@ -1,36 +1,40 @@
--- Reading, the calls and writing on the first records of an array by value end as they do on a table of them.
+-- Reading, the call and writing by value end as the call on stored bytes does: what was read is sound, and the call leaves it so, so that nothing is
+-- tested again.
 use Prim.Native.Nat.{ℕ, zero, suc, _≤_, min}
-use mathlib.Core.Path.{_≡_, refl, sym, ap, _∙_}
+use mathlib.Core.Path.{_≡_, refl, sym, ap, ap₂, subst, _∙_}
 use mathlib.Core.List.{List, [], _∷_}
+use mathlib.Core.Bool.{true}
 use native.Mathlib.Omega.{arith}
 use lib.ListN.{length, take, length-take}
-use lib.Seq.{take-all, take-take}
+use lib.Seq.{take-take}
 use Rattle.tagged.specs.File.{fieldsPart}
 use Rattle.tagged.specs.declared.file.Refusal.{Refusal}
 use Rattle.tagged.specs.declared.file.Standing.{Standing}
 use Rattle.tagged.specs.declared.file.Standing.the-variants.{Stands, Refused}
 use Rattle.ledger.specs.Records.{noParties, newLedger}
 use Rattle.ledger.specs.TableLaws.{length-no-parties}
-use Rattle.ledger.specs.SameEntries.{SameEntries}
-use Rattle.acceptance.specs.Accept.{AfterAccept}
-use Rattle.ledger.specs.Entries.{AfterEntryCall}
+use Rattle.ledger.specs.Sound.{sound}
+use Rattle.ledger.specs.SoundFacts.{sound-means, new-ledger-sound}
 use Rattle.ledger.specs.declared.records.Party.{Party}
 use Rattle.ledger.specs.declared.records.Ledger.{Ledger}
-use Rattle.acceptance.specs.declared.accept.Acceptance.{Acceptance}
-use Rattle.acceptance.specs.declared.accept.AcceptAnswer.the-variants.{Accepted, NotAccepted}
-use Rattle.ledger.specs.declared.entries.Answer.{Answer}
-use Rattle.ledger.specs.declared.entries.Answer.the-variants as Answer
+use Rattle.calls.specs.Decision.{Call, CallAnswer}
+use Rattle.calls.specs.Carried.{State}
+use Rattle.calls.specs.Calls.{stateOf, leaves, Fits}
+use Rattle.kept_sound.specs.KeptSound.{call-keeps-sound, leaves-length}
+use Rattle.calls_by_value.specs.ByValue.{SoundWithin, PromisedWithin}
 use Rattle.stored.specs.Layout.{placed}
-use Rattle.stored.specs.Form.{entriesIn, storedLedger}
+use Rattle.stored.specs.Form.{storedForm, entriesIn, storedLedger}
 use Rattle.stored.specs.Accepted.{accepted-means}
 use Rattle.stored.specs.Reading.{ReadEnd, readAnswer, readBy, readBack, tableBy}
-use Rattle.stored.specs.Writing.{writeOf}
-use Rattle.stored.specs.SameForm.{writeAt, same-writing}
+use Rattle.stored.specs.Writing.{outputBy, formEnd, writeOf}
+use Rattle.stored.specs.WritingLaws.{write-sound}
+use Rattle.stored.specs.SameForm.{same-form}
 use Rattle.stored.specs.declared.reading.ReadBack.{ReadBack}
-use Rattle.stored_calls.specs.StoredCalls.{CallEnd, storedRead, readEnd, acceptBy, acceptEnd, writtenEnd, entryCallBy, entryCallEnd}
+use Rattle.stored_calls.specs.StoredCalls.{notRead, storedRead, readEnd, endBy, onceRead, callOnRead, storedCallOf}
 use Rattle.stored_calls.specs.StoredCallsFacts.{length-room}
-use Rattle.stored_calls.specs.declared.StoredAccept.the-variants as StoredAccept
-use Rattle.stored_calls.specs.declared.StoredAnswer.the-variants as StoredAnswer
+use Rattle.stored_calls.specs.StoredCallsRefusals.{places-read, sound-read}
+
+-- ---- reading
 
 -- what is placed within the first records of a list
 placed-within : {A : Type 0} (elements others : List A) (room : ℕ) → length elements ≤ room → length elements ≤ length others →
@@ -42,7 +46,6 @@ placed-within (x ∷ elements) [] (suc room) fits few = absurd (omega (arith, fe
 placed-within (x ∷ elements) (y ∷ others) (suc room) fits few =
     ap (λ l. x ∷ l) (placed-within elements others room (omega (arith, fits)) (omega (arith, few)))
 
--- reading by value
 pub read-by-value : (file : List ℕ) (room : ℕ) → readEnd room (readBack newLedger (min room 512) file) ≡ storedRead file room
 unfolding storedRead
 read-by-value file room =
@@ -58,55 +61,59 @@ read-by-value file room =
         (placed-within (entriesIn s) noParties room (omega (arith, fits)) (omega (arith, fits, length-no-parties)))
     by-answer (Refused r) refused = refl
 
--- writing by value
-module _ (ledger : Ledger) (parties : List Party) (room : ℕ) where
-  abbrev table : List Party
-  table = take room parties
+-- ---- writing
 
-  same-entries : SameEntries ledger parties table (length table) (length table)
-  same-entries =
-      record {
-        fit = refl;
-        entries = λ limit fits. sym (take-take (ledger .entries) room parties (omega (arith, fits, length-take room parties)));
-      }
+-- a ledger that is sound with a table is written from any list with the same entries
+form-of-sound : (ledger : Ledger) (parties table : List Party) (out : List ℕ) → take (ledger .entries) parties ≡ take (ledger .entries) table →
+    sound ledger table (length table) ≡ true → formEnd ledger parties out ≡ writeOf ledger table out
+form-of-sound ledger parties table out entries holds =
+    let form : storedForm ledger parties ≡ storedForm ledger table = same-form parties table refl entries in
+    ap₂ (λ form answer. record { answer = answer; output = outputBy answer form out }) form (rw form (sym (write-sound ledger table (length table) out holds)))
 
-  pub write-by-value : (out : List ℕ) → length parties ≡ 512 → writeAt ledger parties (min room 512) out ≡ writeOf ledger table out
-  write-by-value out places =
-      ap (λ records. writeAt ledger parties records out) (ap (min room) (sym places) ∙ sym (length-take room parties)) ∙ same-writing same-entries out
+-- ---- a call once the ledger is read
+
+module _ (file : List ℕ) (room : ℕ) (call : Call) (read : ReadBack) (same : readEnd room read ≡ storedRead file room) where
+  abbrev before : State
+  before = stateOf (read .ledger) (take room (read .parties))
+
+  -- by reading's answer
+  answered-by : {answer : Standing} (out : List ℕ) → read .answer ≡ answer → onceRead answer before call out ≡ storedCallOf file room call out
+  answered-by out told = ap (λ answer. onceRead answer before call out) (sym told) ∙ ap (λ end. callOnRead end call out) same
+
+  pub not-read : {r : Refusal} (out : List ℕ) → read .answer ≡ Refused r → record { answer = notRead r; output = out } ≡ storedCallOf file room call out
+  not-read out told = answered-by out told
+
+  module _ (stands : read .answer ≡ Stands) where
+    pub sound-here : SoundWithin room (read .ledger) (read .parties)
+    sound-here =
+        subst (λ (end : ReadEnd). sound (end .ledger) (end .table) (length (end .table)) ≡ true) (sym same)
+        (sound-read file room (sym (ap (λ (end : ReadEnd). end .answer) same) ∙ stands))
+
+    module _ (fits : Fits call) {answer : CallAnswer} {after : Ledger} {left : List Party}
+        (promise : PromisedWithin room (read .ledger) (read .parties) call answer after left) where
+      places : length (read .ledger .schemes) ≡ 64
+      places = subst (λ (end : ReadEnd). length (end .ledger .schemes) ≡ 64) (sym same) (places-read file room)
+
+      kept : sound after (take room left) (length (take room left)) ≡ true
+      kept =
+          subst (λ (state : State). sound (state .ledger) (state .table) (length (state .table)) ≡ true) (sym (promise .promised .leaving))
+          (ap (sound (leaves before call .ledger) (leaves before call .table)) (leaves-length before call places)
+          ∙ call-keeps-sound before call places fits sound-here)
+
+      pub counts-kept : (after .count ≤ 64) × (after .entries ≤ 512)
+      counts-kept = let means = sound-means after (take room left) (length (take room left)) kept in (means .schemes, means .entries)
+
+      pub call-ends : (out : List ℕ) → endBy answer (formEnd after left out) out ≡ storedCallOf file room call out
+      call-ends out =
+          let means = sound-means after (take room left) (length (take room left)) kept in
+          let entries = take-take (after .entries) room left (omega (arith, means .in-table, length-take room left)) in
+          ap (λ written. endBy answer written out) (form-of-sound after left (take room left) out (sym entries) kept)
+          ∙ (λ i. endBy (promise .promised .answers i) (writeOf (promise .promised .leaving i .ledger) (promise .promised .leaving i .table) out) out)
+          ∙ answered-by out stands
 
 -- a new ledger and no entries
 pub new-written : {ledger : Ledger} {parties : List Party} (out : List ℕ) → ledger ≡ newLedger → parties ≡ noParties →
-    writeOf ledger (take 512 parties) out ≡ writeOf newLedger noParties out
+    formEnd ledger parties out ≡ writeOf newLedger noParties out
 new-written out fresh nothing =
-    (λ i. writeOf (fresh i) (take 512 (nothing i)) out)
-    ∙ ap (λ table. writeOf newLedger table out) (take-all 512 noParties (omega (arith, length-no-parties)))
-
--- ---- the ends, by the answers on the way
-
--- what a call comes to on a ledger that was read with this answer
-pub once-read : {A : Type 0} {answer : Standing} {whole : ReadEnd} (room : ℕ) (read : ReadBack) (end : ReadEnd → CallEnd A) → read .answer ≡ answer →
-    readEnd room read ≡ whole → end (record { answer = answer; ledger = read .ledger; table = take room (read .parties) }) ≡ end whole
-once-read room read end told same =
-    ap (λ answer. end (record { answer = answer; ledger = read .ledger; table = take room (read .parties) })) (sym told) ∙ ap end same
-
-pub accept-done : {after : AfterAccept} {acceptance : Acceptance} {ledger : Ledger} {parties : List Party} (out : List ℕ) →
-    Accepted acceptance ≡ after .answer → ledger ≡ after .ledger → parties ≡ after .table →
-    acceptBy (Accepted acceptance) (writeOf ledger parties out) out ≡ acceptEnd after out
-accept-done out answers books leaves = λ i. acceptBy (answers i) (writeOf (books i) (leaves i) out) out
-
-pub accept-refused : (after : AfterAccept) {r : Refusal} (out : List ℕ) → NotAccepted r ≡ after .answer →
-    record { answer = StoredAccept.NotAccepted r; output = out } ≡ acceptEnd after out
-accept-refused after out answers = ap (λ answer. acceptBy answer (writeOf (after .ledger) (after .table) out) out) answers
-
-pub call-done : (ledger : Ledger) (after : AfterEntryCall) (out : List ℕ) → after .answer ≡ Answer.Done →
-    writtenEnd (writeOf ledger (after .table) out) ≡ entryCallEnd ledger after out
-call-done ledger after out done = ap (λ answer. entryCallBy answer (writeOf ledger (after .table) out) out) (sym done)
-
-pub call-refused : (ledger : Ledger) (after : AfterEntryCall) {r : Refusal} (out : List ℕ) → after .answer ≡ Answer.Refused r →
-    record { answer = StoredAnswer.Refused r; output = out } ≡ entryCallEnd ledger after out
-call-refused ledger after out refused = ap (λ answer. entryCallBy answer (writeOf ledger (after .table) out) out) (sym refused)
-
-pub call-by-value : {answer : Answer} {parties : List Party} (ledger : Ledger) (after : AfterEntryCall) (out : List ℕ) →
-    answer ≡ after .answer → parties ≡ after .table →
-    entryCallEnd ledger (record { answer = answer; table = parties }) out ≡ entryCallEnd ledger after out
-call-by-value ledger after out answers leaves = λ i. entryCallEnd ledger (record { answer = answers i; table = leaves i }) out
+    (λ i. formEnd (fresh i) (nothing i) out)
+    ∙ form-of-sound newLedger noParties noParties out refl (new-ledger-sound noParties (length noParties))

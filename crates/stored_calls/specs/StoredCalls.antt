@@ -6,23 +6,17 @@ use lib.ListN.{take}
 use Rattle.tagged.specs.declared.file.Refusal.{Refusal}
 use Rattle.tagged.specs.declared.file.Standing.{Standing}
 use Rattle.tagged.specs.declared.file.Standing.the-variants as Standing
-use Rattle.charge.specs.Price.{priceOf}
 use Rattle.ledger.specs.Records.{noParties, newLedger}
-use Rattle.acceptance.specs.Accept.{AfterAccept, acceptOf}
-use Rattle.ledger.specs.Entries.{AfterEntryCall, payOutOf, handOverOf}
-use Rattle.ledger.specs.declared.records.Party.{Party}
 use Rattle.ledger.specs.declared.records.Ledger.{Ledger}
-use Rattle.acceptance.specs.declared.accept.Acceptance.{Acceptance}
-use Rattle.acceptance.specs.declared.accept.AcceptAnswer.{AcceptAnswer}
-use Rattle.acceptance.specs.declared.accept.AcceptAnswer.the-variants as AcceptAnswer
-use Rattle.ledger.specs.declared.entries.Answer.{Answer}
-use Rattle.ledger.specs.declared.entries.Answer.the-variants as Answer
+use Rattle.calls.specs.Decision.{Call, CallAnswer, isAccepted, isDone, isRefused}
+use Rattle.calls.specs.Carried.{State}
+use Rattle.calls.specs.Calls.{stateOf, answered, leaves}
+use Rattle.calls.specs.declared.answers.Acceptance.{Acceptance}
 use Rattle.stored.specs.Reading.{ReadEnd, readOf}
 use Rattle.stored.specs.Writing.{WriteEnd, writeOf}
 use Rattle.stored.specs.declared.reading.ReadBack.{ReadBack}
 use Rattle.stored.specs.declared.writing.Written.{Written}
 use Rattle.stored.specs.declared.writing.Written.the-variants as Written
-use Rattle.pioneer.specs.declared.ChangedTable.{ChangedTable}
 use Rattle.stored_calls.specs.declared.StoredAccept.{StoredAccept}
 use Rattle.stored_calls.specs.declared.StoredAccept.the-variants as StoredAccept
 use Rattle.stored_calls.specs.declared.StoredAnswer.{StoredAnswer}
@@ -31,9 +25,30 @@ use Rattle.stored_calls.specs.declared.StoredCounts.{StoredCounts}
 use Rattle.stored_calls.specs.declared.StoredCheck.{StoredCheck}
 use Rattle.stored_calls.specs.declared.StoredCheck.the-variants as StoredCheck
 
--- what a call answers, and the lent output after it
-pub record CallEnd (A : Type 0) : Type 0 where
-  pub answer : A
+-- ---- what a call answers
+
+pub data StoredCallAnswer : Type 0 where
+  -- reading's refusal: file 1 is the stored ledger
+  notRead : Refusal → StoredCallAnswer
+  -- the call's own or 14: file 1 is the rate book, 2 the request
+  notMade : Refusal → StoredCallAnswer
+  -- with the new form's length
+  madeAccepted : Acceptance → ℕ → StoredCallAnswer
+  madeDone : ℕ → StoredCallAnswer
+
+abbrev pub ofStoredAccept : StoredAccept → StoredCallAnswer
+ofStoredAccept (StoredAccept.NotRead r) = notRead r
+ofStoredAccept (StoredAccept.NotAccepted r) = notMade r
+ofStoredAccept (StoredAccept.Accepted done) = madeAccepted (done .acceptance) (done .length)
+
+abbrev pub ofStoredAnswer : StoredAnswer → StoredCallAnswer
+ofStoredAnswer (StoredAnswer.NotRead r) = notRead r
+ofStoredAnswer (StoredAnswer.Refused r) = notMade r
+ofStoredAnswer (StoredAnswer.Done size) = madeDone size
+
+-- the answer, and the lent output after it
+pub record CallEnd : Type 0 where
+  pub answer : StoredCallAnswer
   pub output : List ℕ
 
 -- ---- reading
@@ -46,66 +61,40 @@ storedRead file room = readOf newLedger (take room noParties) file
 abbrev pub readEnd : ℕ → ReadBack → ReadEnd
 readEnd room read = record { answer = read .answer; ledger = read .ledger; table = take room (read .parties) }
 
+-- ---- the call, and writing what it leaves
+
+-- an answer that tells the form's length, or 14
+abbrev pub writtenAnswer : (ℕ → StoredCallAnswer) → Written → StoredCallAnswer
+writtenAnswer told (Written.Length size) = told size
+writtenAnswer told (Written.Refused r) = notMade r
+
+abbrev pub writtenEnd : (ℕ → StoredCallAnswer) → WriteEnd → CallEnd
+writtenEnd told written = record { answer = writtenAnswer told (written .answer); output = written .output }
+
+-- by the call's answer: what was written, or the output as it was
+abbrev pub endBy : CallAnswer → WriteEnd → List ℕ → CallEnd
+endBy (isAccepted acceptance) written out = writtenEnd (madeAccepted acceptance) written
+endBy isDone written out = writtenEnd madeDone written
+endBy (isRefused r) written out = record { answer = notMade r; output = out }
+
+abbrev pub callEnd : State → Call → List ℕ → CallEnd
+callEnd state call out = endBy (answered state call) (writeOf (leaves state call .ledger) (leaves state call .table) out) out
+
 -- the call once the ledger was read, or reading's refusal with the output as it was
-abbrev pub onceRead : {A : Type 0} → Standing → (Refusal → A) → List ℕ → CallEnd A → CallEnd A
-onceRead Standing.Stands notRead out call = call
-onceRead (Standing.Refused r) notRead out call = record { answer = notRead r; output = out }
+abbrev pub onceRead : Standing → State → Call → List ℕ → CallEnd
+onceRead Standing.Stands state call out = callEnd state call out
+onceRead (Standing.Refused r) state call out = record { answer = notRead r; output = out }
 
--- ---- accept
+abbrev pub callOnRead : ReadEnd → Call → List ℕ → CallEnd
+callOnRead read call out = onceRead (read .answer) (stateOf (read .ledger) (read .table)) call out
 
-abbrev pub writtenAccept : Acceptance → Written → StoredAccept
-writtenAccept acceptance (Written.Length size) = StoredAccept.Accepted (record { acceptance = acceptance; length = size })
-writtenAccept acceptance (Written.Refused r) = StoredAccept.NotAccepted r
-
--- by accept's answer: what was written, or the output as it was
-abbrev pub acceptBy : AcceptAnswer → WriteEnd → List ℕ → CallEnd StoredAccept
-acceptBy (AcceptAnswer.Accepted acceptance) written out = record { answer = writtenAccept acceptance (written .answer); output = written .output }
-acceptBy (AcceptAnswer.NotAccepted r) written out = record { answer = StoredAccept.NotAccepted r; output = out }
-
-abbrev pub acceptEnd : AfterAccept → List ℕ → CallEnd StoredAccept
-acceptEnd after out = acceptBy (after .answer) (writeOf (after .ledger) (after .table) out) out
-
-abbrev pub acceptOnRead : ReadEnd → List ℕ → List ℕ → List ℕ → CallEnd StoredAccept
-acceptOnRead read book request out =
-    onceRead (read .answer) StoredAccept.NotRead out (acceptEnd (acceptOf (read .ledger) (read .table) (priceOf book request)) out)
-
-abbrev pub acceptStoredOf : List ℕ → ℕ → List ℕ → List ℕ → List ℕ → CallEnd StoredAccept
-acceptStoredOf file room book request out = acceptOnRead (storedRead file room) book request out
-
--- ---- pay-out and hand-over, which leave the ledger as it is
-
-abbrev pub writtenCall : Written → StoredAnswer
-writtenCall (Written.Length size) = StoredAnswer.Done size
-writtenCall (Written.Refused r) = StoredAnswer.Refused r
-
-abbrev pub writtenEnd : WriteEnd → CallEnd StoredAnswer
-writtenEnd written = record { answer = writtenCall (written .answer); output = written .output }
-
-abbrev pub entryCallBy : Answer → WriteEnd → List ℕ → CallEnd StoredAnswer
-entryCallBy Answer.Done written out = writtenEnd written
-entryCallBy (Answer.Refused r) written out = record { answer = StoredAnswer.Refused r; output = out }
-
-abbrev pub entryCallEnd : Ledger → AfterEntryCall → List ℕ → CallEnd StoredAnswer
-entryCallEnd ledger after out = entryCallBy (after .answer) (writeOf ledger (after .table) out) out
-
-abbrev pub entryCallOnRead : ReadEnd → (Ledger → List Party → AfterEntryCall) → List ℕ → CallEnd StoredAnswer
-entryCallOnRead read call out =
-    onceRead (read .answer) StoredAnswer.NotRead out (entryCallEnd (read .ledger) (call (read .ledger) (read .table)) out)
-
-abbrev pub payOutStoredOf : List ℕ → ℕ → ℕ → ℕ → List ℕ → CallEnd StoredAnswer
-payOutStoredOf file room entry amount out = entryCallOnRead (storedRead file room) (λ ledger table. payOutOf ledger table entry amount) out
-
-abbrev pub handOverStoredOf : List ℕ → ℕ → ℕ → ℕ → List ℕ → CallEnd StoredAnswer
-handOverStoredOf file room entry person out = entryCallOnRead (storedRead file room) (λ ledger table. handOverOf ledger table entry person) out
-
--- what is left of such a call on a table of so many records by value
-abbrev pub afterCall : ℕ → ChangedTable → AfterEntryCall
-afterCall room changed = record { answer = changed .answer; table = take room (changed .parties) }
+abbrev pub storedCallOf : List ℕ → ℕ → Call → List ℕ → CallEnd
+storedCallOf file room call out = callOnRead (storedRead file room) call out
 
 -- ---- a new ledger, and the check of a stored one
 
-abbrev pub newStoredOf : List ℕ → CallEnd StoredAnswer
-newStoredOf out = writtenEnd (writeOf newLedger noParties out)
+abbrev pub newStoredOf : List ℕ → CallEnd
+newStoredOf out = writtenEnd madeDone (writeOf newLedger noParties out)
 
 abbrev pub countsOf : Ledger → StoredCounts
 countsOf ledger =

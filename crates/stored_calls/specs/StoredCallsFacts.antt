@@ -1,43 +1,33 @@
--- How long the table is, and what a refused call on a stored ledger changes.
+-- How long the table is, what a refused call on a stored ledger changes, and the numbers that these calls refuse with: reading's, the call's own and
+-- writing's.
 use Prim.Native.Nat.{ℕ, min}
-use mathlib.Core.Path.{_≡_, refl, ap, _∙_}
-use mathlib.Core.List.{List}
+use mathlib.Core.Path.{_≡_, refl, sym, ap, subst, _∙_}
+use mathlib.Core.List.{List, [], _∷_}
 use mathlib.Core.Bool.{Bool, true, false, true≢false}
 use lib.ListN.{length, take, length-take}
 use Rattle.tagged.specs.declared.file.Standing.{Standing}
 use Rattle.tagged.specs.declared.file.Standing.the-variants as Standing
-use Rattle.charge.specs.Price.{priceOf}
 use Rattle.ledger.specs.Records.{noParties, newLedger}
+use Rattle.ledger.specs.RefusalNumbers.{oneOf, Among, one-of-more}
 use Rattle.ledger.specs.TableLaws.{length-no-parties}
-use Rattle.acceptance.specs.Accept.{AfterAccept, acceptOf}
-use Rattle.ledger.specs.Entries.{AfterEntryCall, payOutOf, handOverOf}
 use Rattle.ledger.specs.declared.records.Party.{Party}
 use Rattle.ledger.specs.declared.records.Ledger.{Ledger}
-use Rattle.acceptance.specs.declared.accept.Acceptance.{Acceptance}
-use Rattle.acceptance.specs.declared.accept.AcceptAnswer.{AcceptAnswer}
-use Rattle.acceptance.specs.declared.accept.AcceptAnswer.the-variants as AcceptAnswer
-use Rattle.ledger.specs.declared.entries.Answer.{Answer}
-use Rattle.ledger.specs.declared.entries.Answer.the-variants as Answer
+use Rattle.calls.specs.Decision.{Call, accept, payOut, handOver, CallAnswer, isAccepted, isDone, isRefused}
+use Rattle.calls.specs.Carried.{State}
+use Rattle.calls.specs.Calls.{stateOf, answered, leaves}
+use Rattle.calls.specs.CallsLaws.{callNumbers, Refuses, refusal-numbers}
 use Rattle.stored.specs.Form.{storedForm}
-use Rattle.stored.specs.Writing.{writtenAnswer, outputBy, writeOf}
+use Rattle.stored.specs.ReadFacts.{read-answer, read-length}
+use Rattle.stored.specs.ReadingLaws.{readingNumbers, ReadRefuses, read-refusal-numbers}
+use Rattle.stored.specs.Reading.{readAnswer}
+use Rattle.stored.specs.Writing as writing
+use Rattle.stored.specs.Writing.{outputBy, writeOf}
+use Rattle.stored.specs.WritingLaws.{writingNumbers, WriteRefuses, write-refusal-numbers}
 use Rattle.stored.specs.declared.writing.Written.{Written}
 use Rattle.stored.specs.declared.writing.Written.the-variants as Written
-use Rattle.pioneer.proofs.Readings.{read-length}
-use Rattle.stored_calls.specs.StoredCalls.{storedRead, onceRead, writtenAccept, acceptBy, acceptEnd, acceptStoredOf, writtenCall, entryCallBy, entryCallEnd, payOutStoredOf, handOverStoredOf, newStoredOf}
-use Rattle.stored_calls.specs.declared.StoredAccept.{StoredAccept}
-use Rattle.stored_calls.specs.declared.StoredAccept.the-variants as StoredAccept
-use Rattle.stored_calls.specs.declared.StoredAnswer.{StoredAnswer}
-use Rattle.stored_calls.specs.declared.StoredAnswer.the-variants as StoredAnswer
-
-abbrev pub isAccepted : StoredAccept → Bool
-isAccepted (StoredAccept.NotRead r) = false
-isAccepted (StoredAccept.NotAccepted r) = false
-isAccepted (StoredAccept.Accepted done) = true
-
-abbrev pub isDone : StoredAnswer → Bool
-isDone (StoredAnswer.NotRead r) = false
-isDone (StoredAnswer.Refused r) = false
-isDone (StoredAnswer.Done size) = true
+use Rattle.stored_calls.specs.StoredCalls.{StoredCallAnswer, notRead, notMade, madeAccepted, madeDone, storedRead, writtenAnswer, writtenEnd, endBy, onceRead, storedCallOf, newStoredOf, checkBy, checkStoredOf}
+use Rattle.stored_calls.specs.declared.StoredCheck.{StoredCheck}
+use Rattle.stored_calls.specs.declared.StoredCheck.the-variants as StoredCheck
 
 -- ---- the table has as many records as there is room for, and 512 at most
 
@@ -50,60 +40,110 @@ table-length file room = read-length newLedger (take room noParties) file ∙ le
 
 -- ---- an answer that is no success: the output is as it was
 
-pub accept-refused-changes-nothing : (file : List ℕ) (room : ℕ) (book request out : List ℕ) →
-    isAccepted (acceptStoredOf file room book request out .answer) ≡ false → acceptStoredOf file room book request out .output ≡ out
-accept-refused-changes-nothing file room book request out = by-read (storedRead file room .answer)
+abbrev pub isMade : StoredCallAnswer → Bool
+isMade (notRead r) = false
+isMade (notMade r) = false
+isMade (madeAccepted acceptance size) = true
+isMade (madeDone size) = true
+
+-- an answer that tells a length was made
+abbrev Tells : (ℕ → StoredCallAnswer) → Type 0
+Tells told = (size : ℕ) → isMade (told size) ≡ true
+
+written-changes-nothing : (told : ℕ → StoredCallAnswer) → Tells told → (ledger : Ledger) (table : List Party) (out : List ℕ) →
+    isMade (writtenEnd told (writeOf ledger table out) .answer) ≡ false → writtenEnd told (writeOf ledger table out) .output ≡ out
+written-changes-nothing told tells ledger table out = by-written (writing.writtenAnswer ledger table (length table) out)
   where
-    after : AfterAccept
-    after = acceptOf (storedRead file room .ledger) (storedRead file room .table) (priceOf book request)
-
-    by-written : (acceptance : Acceptance) (written : Written) → isAccepted (writtenAccept acceptance written) ≡ false →
-        outputBy written (storedForm (after .ledger) (after .table)) out ≡ out
-    by-written acceptance (Written.Length size) h = absurd (true≢false h)
-    by-written acceptance (Written.Refused r) h = refl
-
-    by-answer : (answer : AcceptAnswer) → isAccepted (acceptBy answer (writeOf (after .ledger) (after .table) out) out .answer) ≡ false →
-        acceptBy answer (writeOf (after .ledger) (after .table) out) out .output ≡ out
-    by-answer (AcceptAnswer.Accepted acceptance) h = by-written acceptance (writtenAnswer (after .ledger) (after .table) (length (after .table)) out) h
-    by-answer (AcceptAnswer.NotAccepted r) h = refl
-
-    by-read : (answer : Standing) → isAccepted (onceRead answer StoredAccept.NotRead out (acceptEnd after out) .answer) ≡ false →
-        onceRead answer StoredAccept.NotRead out (acceptEnd after out) .output ≡ out
-    by-read Standing.Stands h = by-answer (after .answer) h
-    by-read (Standing.Refused r) h = refl
-
--- a refused write's
-written-changes-nothing : (ledger : Ledger) (table : List Party) (out : List ℕ) → isDone (writtenCall (writeOf ledger table out .answer)) ≡ false →
-    writeOf ledger table out .output ≡ out
-written-changes-nothing ledger table out = by-written (writtenAnswer ledger table (length table) out)
-  where
-    by-written : (written : Written) → isDone (writtenCall written) ≡ false → outputBy written (storedForm ledger table) out ≡ out
-    by-written (Written.Length size) h = absurd (true≢false h)
+    by-written : (written : Written) → isMade (writtenAnswer told written) ≡ false → outputBy written (storedForm ledger table) out ≡ out
+    by-written (Written.Length size) h = absurd (true≢false (sym (tells size) ∙ h))
     by-written (Written.Refused r) h = refl
 
--- a call's on an entry, by what reading answered
-entry-call-changes-nothing : (ledger : Ledger) (after : AfterEntryCall) (out : List ℕ) (answer : Standing) →
-    isDone (onceRead answer StoredAnswer.NotRead out (entryCallEnd ledger after out) .answer) ≡ false →
-    onceRead answer StoredAnswer.NotRead out (entryCallEnd ledger after out) .output ≡ out
-entry-call-changes-nothing ledger after out Standing.Stands h = by-answer (after .answer) h
+module _ (state : State) (call : Call) (out : List ℕ) where
+  end-changes-nothing : (answer : CallAnswer) →
+      let written = writeOf (leaves state call .ledger) (leaves state call .table) out in
+      isMade (endBy answer written out .answer) ≡ false → endBy answer written out .output ≡ out
+  end-changes-nothing (isAccepted acceptance) h = written-changes-nothing (madeAccepted acceptance) (λ size. refl) (leaves state call .ledger) (leaves state call .table) out h
+  end-changes-nothing isDone h = written-changes-nothing madeDone (λ size. refl) (leaves state call .ledger) (leaves state call .table) out h
+  end-changes-nothing (isRefused r) h = refl
+
+  read-changes-nothing : (read : Standing) → isMade (onceRead read state call out .answer) ≡ false → onceRead read state call out .output ≡ out
+  read-changes-nothing Standing.Stands h = end-changes-nothing (answered state call) h
+  read-changes-nothing (Standing.Refused r) h = refl
+
+pub stored-refused-changes-nothing : (file : List ℕ) (room : ℕ) (call : Call) (out : List ℕ) → isMade (storedCallOf file room call out .answer) ≡ false →
+    storedCallOf file room call out .output ≡ out
+stored-refused-changes-nothing file room call out =
+    let read = storedRead file room in
+    read-changes-nothing (stateOf (read .ledger) (read .table)) call out (read .answer)
+
+pub new-refused-changes-nothing : (out : List ℕ) → isMade (newStoredOf out .answer) ≡ false → newStoredOf out .output ≡ out
+new-refused-changes-nothing out = written-changes-nothing madeDone (λ size. refl) newLedger noParties out
+
+-- ---- the numbers of the refusals
+
+abbrev pub storedNumbers : Call → List ℕ
+storedNumbers (accept book request) = 1 ∷ 2 ∷ 3 ∷ 4 ∷ 5 ∷ 6 ∷ 7 ∷ 8 ∷ 9 ∷ 10 ∷ 13 ∷ 14 ∷ []
+storedNumbers (payOut e amount) = 1 ∷ 2 ∷ 3 ∷ 9 ∷ 11 ∷ 12 ∷ 13 ∷ 14 ∷ []
+storedNumbers (handOver e person) = 1 ∷ 2 ∷ 3 ∷ 9 ∷ 11 ∷ 13 ∷ 14 ∷ []
+
+abbrev pub StoredRefuses : List ℕ → StoredCallAnswer → Type 0
+StoredRefuses numbers (notRead r) = oneOf numbers (r .number) ≡ true
+StoredRefuses numbers (notMade r) = oneOf numbers (r .number) ≡ true
+StoredRefuses numbers (madeAccepted acceptance size) = Unit {0}
+StoredRefuses numbers (madeDone size) = Unit {0}
+
+abbrev pub StoredCheckRefuses : List ℕ → StoredCheck → Type 0
+StoredCheckRefuses numbers (StoredCheck.NotRead r) = oneOf numbers (r .number) ≡ true
+StoredCheckRefuses numbers (StoredCheck.Sound counts) = Unit {0}
+
+pub answer-of-read : (file : List ℕ) (room : ℕ) → storedRead file room .answer ≡ readAnswer (length (take room noParties)) file
+unfolding storedRead
+answer-of-read file room = read-answer newLedger (take room noParties) file
+
+stored-read-refuses : (file : List ℕ) (room : ℕ) → ReadRefuses (storedRead file room .answer)
+stored-read-refuses file room = subst ReadRefuses (sym (answer-of-read file room)) (read-refusal-numbers (length (take room noParties)) file)
+
+-- each of reading's, the call's and writing's numbers is among them
+record Covered (call : Call) (numbers : List ℕ) : Type 0 where
+  reading : Among readingNumbers numbers
+  calling : Among (callNumbers call) numbers
+  writes : Among writingNumbers numbers
+
+covered : (call : Call) → Covered call (storedNumbers call)
+covered (accept book request) = record { reading = refl; calling = refl; writes = refl }
+covered (payOut e amount) = record { reading = refl; calling = refl; writes = refl }
+covered (handOver e person) = record { reading = refl; calling = refl; writes = refl }
+
+module _ (state : State) (call : Call) (out numbers : List ℕ) (within : Covered call numbers) where
+  written-refuses : (told : ℕ → StoredCallAnswer) → ((size : ℕ) → StoredRefuses numbers (told size)) →
+      StoredRefuses numbers (writtenAnswer told (writeOf (leaves state call .ledger) (leaves state call .table) out .answer))
+  written-refuses told tells =
+      by-written (writeOf (leaves state call .ledger) (leaves state call .table) out .answer)
+      (write-refusal-numbers (leaves state call .ledger) (leaves state call .table) (length (leaves state call .table)) out)
+    where
+      by-written : (written : Written) → WriteRefuses written → StoredRefuses numbers (writtenAnswer told written)
+      by-written (Written.Length size) h = tells size
+      by-written (Written.Refused r) h = one-of-more writingNumbers numbers (r .number) (within .writes) h
+
+  end-refuses : (answer : CallAnswer) → Refuses (callNumbers call) answer →
+      StoredRefuses numbers (endBy answer (writeOf (leaves state call .ledger) (leaves state call .table) out) out .answer)
+  end-refuses (isAccepted acceptance) h = written-refuses (madeAccepted acceptance) (λ size. tt)
+  end-refuses isDone h = written-refuses madeDone (λ size. tt)
+  end-refuses (isRefused r) h = one-of-more (callNumbers call) numbers (r .number) (within .calling) h
+
+  read-refuses : (read : Standing) → ReadRefuses read → StoredRefuses numbers (onceRead read state call out .answer)
+  read-refuses Standing.Stands h = end-refuses (answered state call) (refusal-numbers state call)
+  read-refuses (Standing.Refused r) h = one-of-more readingNumbers numbers (r .number) (within .reading) h
+
+pub stored-refusal-numbers : (file : List ℕ) (room : ℕ) (call : Call) (out : List ℕ) →
+    StoredRefuses (storedNumbers call) (storedCallOf file room call out .answer)
+stored-refusal-numbers file room call out =
+    let read = storedRead file room in
+    read-refuses (stateOf (read .ledger) (read .table)) call out (storedNumbers call) (covered call) (read .answer) (stored-read-refuses file room)
+
+pub check-refusal-numbers : (file : List ℕ) (room : ℕ) → StoredCheckRefuses readingNumbers (checkStoredOf file room)
+check-refusal-numbers file room = by-read (storedRead file room .answer) (stored-read-refuses file room)
   where
-    by-answer : (answer : Answer) → isDone (entryCallBy answer (writeOf ledger (after .table) out) out .answer) ≡ false →
-        entryCallBy answer (writeOf ledger (after .table) out) out .output ≡ out
-    by-answer Answer.Done h = written-changes-nothing ledger (after .table) out h
-    by-answer (Answer.Refused r) h = refl
-entry-call-changes-nothing ledger after out (Standing.Refused r) h = refl
-
-pub pay-out-refused-changes-nothing : (file : List ℕ) (room entry amount : ℕ) (out : List ℕ) →
-    isDone (payOutStoredOf file room entry amount out .answer) ≡ false → payOutStoredOf file room entry amount out .output ≡ out
-pay-out-refused-changes-nothing file room entry amount out =
-    let read = storedRead file room in
-    entry-call-changes-nothing (read .ledger) (payOutOf (read .ledger) (read .table) entry amount) out (read .answer)
-
-pub hand-over-refused-changes-nothing : (file : List ℕ) (room entry person : ℕ) (out : List ℕ) →
-    isDone (handOverStoredOf file room entry person out .answer) ≡ false → handOverStoredOf file room entry person out .output ≡ out
-hand-over-refused-changes-nothing file room entry person out =
-    let read = storedRead file room in
-    entry-call-changes-nothing (read .ledger) (handOverOf (read .ledger) (read .table) entry person) out (read .answer)
-
-pub new-refused-changes-nothing : (out : List ℕ) → isDone (newStoredOf out .answer) ≡ false → newStoredOf out .output ≡ out
-new-refused-changes-nothing out = written-changes-nothing newLedger noParties out
+    by-read : (answer : Standing) → ReadRefuses answer → StoredCheckRefuses readingNumbers (checkBy answer (storedRead file room .ledger))
+    by-read Standing.Stands h = tt
+    by-read (Standing.Refused r) h = h

@@ -12,40 +12,41 @@ use Rattle.field_values.specs.Judged.{sameBytes}
 use Rattle.reconciliation.specs.Reconciliation.{reconciliationOf}
 use Rattle.charge.specs.Price.{priceOf}
 use Rattle.charge.specs.declared.Bill.{Bill}
+use Rattle.charge.specs.declared.Pricing.{Pricing}
 use Rattle.charge.specs.declared.Pricing.the-variants.{Priced}
 use Rattle.ledger.specs.Records.{noParties, newLedger}
 use Rattle.ledger.specs.Columns.{sumOver, firstPutIn}
 use Rattle.ledger.specs.Sound.{partiesSound, schemesSound, allZero, sound}
-use Rattle.ledger.specs.Table.{creditEach}
-use Rattle.ledger.specs.Entries.{handOverChange}
-use Rattle.acceptance.specs.Rules.{weights, shares}
-use Rattle.acceptance.specs.Verdict.{verdict}
-use Rattle.acceptance.specs.Accept.{acceptOf}
-use Rattle.acceptance.specs.declared.accept.SchemeAnswer.{SchemeAnswer}
-use Rattle.acceptance.specs.declared.accept.SchemeAnswer.the-variants.{Opened, Joined}
+use Rattle.ledger.specs.Lookup.{schemePlace}
+use Rattle.calls.specs.Verdict.{verdict}
+use Rattle.calls.specs.Decision.{accept, handOver, acceptBy, answerTo}
+use Rattle.calls.specs.Carried.{State, booksOn, carriedOut}
+use Rattle.calls.specs.Calls.{answered, leaves}
+use Rattle.calls.specs.declared.answers.JoiningAnswer.{JoiningAnswer}
+use Rattle.calls.specs.declared.answers.JoiningAnswer.the-variants.{NotAsked, Joined}
+use Rattle.calls.specs.declared.answers.OpeningAnswer.{OpeningAnswer}
+use Rattle.calls.specs.declared.answers.OpeningAnswer.the-variants.{NotOpened, Opened}
 use Rattle.stored.specs.Layout.{recordBytes, valuesAt, placed}
 use Rattle.stored.specs.Form.{schemeParts, partyParts, storedForm, schemesIn, entriesIn, noSchemes, storedLedger}
-use Rattle.stored.specs.Writing.{writtenAnswer}
+use Rattle.stored.specs.Writing.{writtenAnswer, writeOf}
 use Rattle.stored.specs.Reading.{tableAnswer, readAnswer}
 use Rattle.stored.specs.StoredRows.{newForm, oneForm, joinedForm, joinedScheme}
-use Rattle.stored_calls.specs.StoredCalls.{storedRead, acceptEnd, acceptStoredOf, countsOf, handOverStoredOf, newStoredOf, checkStoredOf}
-use Rattle.stored_calls.specs.declared.StoredAccept.{StoredAccept}
-use Rattle.stored_calls.specs.declared.StoredAccept.the-variants as StoredAccept
-use Rattle.stored_calls.specs.declared.StoredAnswer.the-variants as StoredAnswer
+use Rattle.stored_calls.specs.StoredCalls.{StoredCallAnswer, notRead, notMade, madeAccepted, madeDone, storedRead, endBy, storedCallOf, countsOf, newStoredOf, checkStoredOf}
+use Rattle.stored_calls.specs.StoredCallsRefusals.{stateRead}
 use Rattle.stored_calls.specs.declared.StoredCheck.the-variants as StoredCheck
 
 -- an output as long as the form, and one byte shorter
 pub new-rows-hold :
-    (newStoredOf (replicate 37 7) ≡ record { answer = StoredAnswer.Done 37; output = newForm }) ×
-    (newStoredOf (replicate 36 7) ≡ record { answer = StoredAnswer.Refused (refusal 14 0 0); output = replicate 36 7 })
-unfolding writtenAnswer storedForm noParties schemeParts partyParts recordBytes bytesOf checkFrom flatMap placed sound partiesSound schemesSound allZero sumOver firstPutIn
+    (newStoredOf (replicate 37 7) ≡ record { answer = madeDone 37; output = newForm }) ×
+    (newStoredOf (replicate 36 7) ≡ record { answer = notMade (refusal 14 0 0); output = replicate 36 7 })
+unfolding writtenAnswer storedForm noParties schemeParts partyParts recordBytes bytesOf checkFrom flatMap placed sound partiesSound schemePlace schemesSound allZero sumOver firstPutIn
 new-rows-hold = (refl, refl)
 
 -- a new ledger has no entry 1, which is told before the output is too short; no bytes are no ledger
 pub hand-over-rows-hold :
-    (handOverStoredOf newForm 512 1 5 [] ≡ record { answer = StoredAnswer.Refused (refusal 11 0 0); output = [] }) ×
-    (handOverStoredOf [] 512 1 5 [] ≡ record { answer = StoredAnswer.NotRead (refusal 1 1 0); output = [] })
-unfolding storedRead noParties handOverChange readAnswer tableAnswer entriesIn schemesIn storedLedger placed noSchemes valuesAt number checkFrom dueFrom allHad frontOf walkFrom fieldsFrom firstWith fieldsWith sameBytes sound partiesSound schemesSound allZero sumOver firstPutIn
+    (storedCallOf newForm 512 (handOver 1 5) [] ≡ record { answer = notMade (refusal 11 0 0); output = [] }) ×
+    (storedCallOf [] 512 (handOver 1 5) [] ≡ record { answer = notRead (refusal 1 1 0); output = [] })
+unfolding storedRead noParties answered leaves readAnswer tableAnswer entriesIn schemesIn storedLedger placed noSchemes valuesAt number checkFrom dueFrom allHad frontOf walkFrom fieldsFrom firstWith fieldsWith sameBytes sound partiesSound schemePlace schemesSound allZero sumOver firstPutIn
 hand-over-rows-hold = (refl, refl)
 
 -- no bytes; and two entries, whose table has one record, then two
@@ -54,7 +55,7 @@ pub check-rows-hold :
     (checkStoredOf [] 512 ≡ StoredCheck.NotRead (refusal 1 1 0)) ×
     (checkStoredOf joinedForm 1 ≡ StoredCheck.NotRead (refusal 9 0 0)) ×
     (checkStoredOf joinedForm 2 ≡ StoredCheck.Sound (countsOf joinedScheme))
-unfolding storedRead noParties readAnswer tableAnswer entriesIn schemesIn storedLedger placed noSchemes valuesAt number checkFrom dueFrom allHad frontOf walkFrom fieldsFrom firstWith fieldsWith sameBytes sound partiesSound schemesSound allZero sumOver firstPutIn
+unfolding storedRead noParties readAnswer tableAnswer entriesIn schemesIn storedLedger placed noSchemes valuesAt number checkFrom dueFrom allHad frontOf walkFrom fieldsFrom firstWith fieldsWith sameBytes sound partiesSound schemePlace schemesSound allZero sumOver firstPutIn
 check-rows-hold = (refl, refl, refl, refl)
 
 -- a request that joins the scheme with this number, or opens one of cost 5 where the number is 0
@@ -66,25 +67,32 @@ bill scheme =
       applicant = record { person = 9; month = 12; capacity = 3; scheme = scheme; mark = 0 };
     }
 
-abbrev answer : ℕ → SchemeAnswer → ℕ → StoredAccept
-answer scheme told size = StoredAccept.Accepted (record { acceptance = record { reconciliation = bill scheme .reconciliation; scheme = told }; length = size })
+abbrev answer : ℕ → JoiningAnswer → OpeningAnswer → ℕ → StoredCallAnswer
+answer scheme joining opening size = madeAccepted (record { reconciliation = bill scheme .reconciliation; joining = joining; opening = opening }) size
+
+-- what accept comes to on a sound ledger with this pricing
+abbrev priced : State → Pricing → List ℕ → StoredCallAnswer
+priced state pricing out =
+    let decision = acceptBy (booksOn state) pricing in
+    let after = carriedOut state decision in
+    endBy (answerTo (booksOn state) decision) (writeOf (after .ledger) (after .table) out) out .answer
 
 -- a table of no record, then of one: "an opening on table length 0 is 9"
 pub opening-rows-hold : (book request : List ℕ) → priceOf book request ≡ Priced (bill 0) →
-    (acceptStoredOf newForm 0 book request [] .answer ≡ StoredAccept.NotAccepted (refusal 9 0 0)) ×
-    (acceptStoredOf newForm 1 book request (replicate 97 7) .answer ≡ answer 0 (Opened 1) 97)
-unfolding storedRead noParties acceptOf verdict writtenAnswer storedForm schemeParts partyParts recordBytes bytesOf flatMap readAnswer tableAnswer entriesIn schemesIn storedLedger placed noSchemes valuesAt number checkFrom dueFrom allHad frontOf walkFrom fieldsFrom firstWith fieldsWith sameBytes sound partiesSound schemesSound allZero sumOver firstPutIn
-opening-rows-hold book request priced = (
-  ap (λ pricing. acceptEnd (acceptOf (storedRead newForm 0 .ledger) (storedRead newForm 0 .table) pricing) [] .answer) priced,
-  ap (λ pricing. acceptEnd (acceptOf (storedRead newForm 1 .ledger) (storedRead newForm 1 .table) pricing) (replicate 97 7) .answer) priced,
+    (storedCallOf newForm 0 (accept book request) [] .answer ≡ notMade (refusal 9 0 0)) ×
+    (storedCallOf newForm 1 (accept book request) (replicate 97 7) .answer ≡ answer 0 NotAsked (Opened 1) 97)
+unfolding storedRead noParties answered leaves verdict writtenAnswer storedForm schemeParts partyParts recordBytes bytesOf flatMap readAnswer tableAnswer entriesIn schemesIn storedLedger placed noSchemes valuesAt number checkFrom dueFrom allHad frontOf walkFrom fieldsFrom firstWith fieldsWith sameBytes sound partiesSound schemePlace schemesSound allZero sumOver firstPutIn
+opening-rows-hold book request is = (
+  ap (λ pricing. priced (stateRead newForm 0) pricing []) is,
+  ap (λ pricing. priced (stateRead newForm 1) pricing (replicate 97 7)) is,
 )
 
 -- the one entry's record alone, then one more
 pub joining-rows-hold : (book request : List ℕ) → priceOf book request ≡ Priced (bill 1) →
-    (acceptStoredOf oneForm 1 book request [] .answer ≡ StoredAccept.NotAccepted (refusal 9 0 0)) ×
-    (acceptStoredOf oneForm 2 book request (replicate 130 7) .answer ≡ answer 1 (Joined (record { entry = 2; collected = 2 })) 130)
-unfolding storedRead noParties acceptOf verdict weights shares creditEach writtenAnswer storedForm schemeParts partyParts recordBytes bytesOf flatMap readAnswer tableAnswer entriesIn schemesIn storedLedger placed noSchemes valuesAt number checkFrom dueFrom allHad frontOf walkFrom fieldsFrom firstWith fieldsWith sameBytes sound partiesSound schemesSound allZero sumOver firstPutIn
-joining-rows-hold book request priced = (
-  ap (λ pricing. acceptEnd (acceptOf (storedRead oneForm 1 .ledger) (storedRead oneForm 1 .table) pricing) [] .answer) priced,
-  ap (λ pricing. acceptEnd (acceptOf (storedRead oneForm 2 .ledger) (storedRead oneForm 2 .table) pricing) (replicate 130 7) .answer) priced,
+    (storedCallOf oneForm 1 (accept book request) [] .answer ≡ notMade (refusal 9 0 0)) ×
+    (storedCallOf oneForm 2 (accept book request) (replicate 130 7) .answer ≡ answer 1 (Joined (record { entry = 2; contribution = 2 })) NotOpened 130)
+unfolding storedRead noParties answered leaves verdict writtenAnswer storedForm schemeParts partyParts recordBytes bytesOf flatMap readAnswer tableAnswer entriesIn schemesIn storedLedger placed noSchemes valuesAt number checkFrom dueFrom allHad frontOf walkFrom fieldsFrom firstWith fieldsWith sameBytes sound partiesSound schemePlace schemesSound allZero sumOver firstPutIn
+joining-rows-hold book request is = (
+  ap (λ pricing. priced (stateRead oneForm 1) pricing []) is,
+  ap (λ pricing. priced (stateRead oneForm 2) pricing (replicate 130 7)) is,
 )

@@ -1,24 +1,22 @@
 // The calls on a pioneer ledger that is kept as its stored bytes: document 01, 'Ledger calls' and 'Stored form'. The bytes are read
 // into a table of `room` records, 512 where that is more, the call is made on it, and the new form goes to the start of a lent
 // buffer. In turn: reading's refusals, the call's, and 14 where the buffer is shorter than the new form. A refusal leaves the
-// buffer as it was.
-use acceptance::accept::AcceptAnswer;
-use acceptance::accept::Acceptance;
-use ledger::entries::Answer;
+// buffer as it was. Reading finds the ledger sound, and the call leaves it so: neither tests it again.
+use calls::answers::AcceptAnswer;
+use calls::answers::Acceptance;
+use calls::answers::Answer;
+use calls_by_value::AcceptedTable;
+use calls_by_value::ChangedTable;
 use ledger::records::Ledger;
-use ledger::records::Party;
-use pioneer::ChangedTable;
 use stored::reading::ReadBack;
 use stored::writing::Written;
 use tagged::file::Refusal;
 use tagged::file::Standing;
 ghost use mathlib.Core.Path.{_≡_};
-ghost use lib.ListN.{take};
-ghost use Rattle.charge.specs.Price.{priceOf};
-ghost use Rattle.acceptance.specs.Accept.{acceptOf};
-ghost use Rattle.ledger.specs.Entries.{payOutOf, handOverOf};
-ghost use Rattle.stored.specs.Writing.{writeOf};
-ghost use Rattle.stored_calls.specs.StoredCalls.{storedRead, readEnd, writtenAccept, acceptEnd, acceptStoredOf, writtenCall, entryCallEnd, afterCall, payOutStoredOf, handOverStoredOf, newStoredOf, countsOf, checkStoredOf};
+ghost use Prim.Native.Nat.{_≤_};
+ghost use Rattle.calls.specs.Decision.{accept, payOut, handOver, ofAccept, ofEntryCall};
+ghost use Rattle.stored.specs.Writing.{formEnd};
+ghost use Rattle.stored_calls.specs.StoredCalls.{madeAccepted, madeDone, ofStoredAccept, ofStoredAnswer, storedRead, readEnd, writtenAnswer, endBy, storedCallOf, newStoredOf, countsOf, checkStoredOf};
 
 // The new form's length with the acceptance.
 pub struct StoredAcceptance {
@@ -61,21 +59,14 @@ fn read_stored(file: &[u8], room: usize) -> ReadBack
 {
     stored::reading::read(
         ledger::records::new_ledger(),
-        pioneer::records_of(room),
+        calls_by_value::records_of(room),
         file,
     )
 }
 
-fn write_stored(ledger: Ledger, parties: [Party; 512], room: usize, out: &mut [u8]) -> Written
-    ensures { λ r. ⌜ r ≡ writeOf ledger (take room parties) (now (out .entry)) .answer ⌝ }
-    ensures { λ _. ⌜ now (out .exit) ≡ writeOf ledger (take room parties) (now (out .entry)) .output ⌝ }
-{
-    stored::writing::write(ledger, parties, pioneer::records_of(room), out)
-}
-
 // What an accept answers once its ledger was written.
 fn written_accept(acceptance: Acceptance, written: Written) -> StoredAccept
-    ensures { λ r. ⌜ r ≡ writtenAccept acceptance written ⌝ }
+    ensures { λ r. ⌜ ofStoredAccept r ≡ writtenAnswer (madeAccepted acceptance) written ⌝ }
 {
     match written {
         Written::Length(length) => StoredAccept::Accepted(StoredAcceptance { acceptance, length }),
@@ -85,7 +76,7 @@ fn written_accept(acceptance: Acceptance, written: Written) -> StoredAccept
 
 // What the other calls answer once the ledger was written.
 fn written_call(written: Written) -> StoredAnswer
-    ensures { λ r. ⌜ r ≡ writtenCall written ⌝ }
+    ensures { λ r. ⌜ ofStoredAnswer r ≡ writtenAnswer madeDone written ⌝ }
 {
     match written {
         Written::Length(length) => StoredAnswer::Done(length),
@@ -93,28 +84,38 @@ fn written_call(written: Written) -> StoredAnswer
     }
 }
 
-fn accept_read(
-    read: ReadBack,
-    room: usize,
-    book: &[u8],
-    request: &[u8],
-    out: &mut [u8],
-) -> StoredAccept
-    ensures { λ r. ⌜ r ≡ acceptEnd (acceptOf (read .ledger) (take room (read .parties)) (priceOf (now (book .entry)) (now (request .entry)))) (now (out .entry)) .answer ⌝ }
-    ensures { λ _. ⌜ now (out .exit) ≡ acceptEnd (acceptOf (read .ledger) (take room (read .parties)) (priceOf (now (book .entry)) (now (request .entry)))) (now (out .entry)) .output ⌝ }
+// The ledger and the table after an accept.
+fn write_accepted(accepted: AcceptedTable, out: &mut [u8]) -> StoredAccept
+    requires { ⌜ (accepted .ledger .count ≤ 64) × (accepted .ledger .entries ≤ 512) ⌝ }
+    ensures { λ r. ⌜ ofStoredAccept r ≡ endBy (ofAccept (accepted .answer)) (formEnd (accepted .ledger) (accepted .parties) (now (out .entry))) (now (out .entry)) .answer ⌝ }
+    ensures { λ _. ⌜ now (out .exit) ≡ endBy (ofAccept (accepted .answer)) (formEnd (accepted .ledger) (accepted .parties) (now (out .entry))) (now (out .entry)) .output ⌝ }
 {
-    let before = read.ledger;
-    let table = read.parties;
-    let accepted = pioneer::accept_by_value(before, table, room, book, request);
     let answer = accepted.answer;
     match answer {
         AcceptAnswer::Accepted(acceptance) => {
-            let after = accepted.ledger;
+            let ledger = accepted.ledger;
             let parties = accepted.parties;
-            let written = write_stored(after, parties, room, out);
+            let written = stored::writing::write_form(ledger, parties, out);
             written_accept(acceptance, written)
         }
         AcceptAnswer::NotAccepted(refusal) => StoredAccept::NotAccepted(refusal),
+    }
+}
+
+// The ledger, which the other calls leave as it is, with the table after a call.
+fn write_changed(ledger: Ledger, changed: ChangedTable, out: &mut [u8]) -> StoredAnswer
+    requires { ⌜ (ledger .count ≤ 64) × (ledger .entries ≤ 512) ⌝ }
+    ensures { λ r. ⌜ ofStoredAnswer r ≡ endBy (ofEntryCall (changed .answer)) (formEnd ledger (changed .parties) (now (out .entry))) (now (out .entry)) .answer ⌝ }
+    ensures { λ _. ⌜ now (out .exit) ≡ endBy (ofEntryCall (changed .answer)) (formEnd ledger (changed .parties) (now (out .entry))) (now (out .entry)) .output ⌝ }
+{
+    let answer = changed.answer;
+    match answer {
+        Answer::Done => {
+            let parties = changed.parties;
+            let written = stored::writing::write_form(ledger, parties, out);
+            written_call(written)
+        }
+        Answer::Refused(refusal) => StoredAnswer::Refused(refusal),
     }
 }
 
@@ -125,47 +126,20 @@ pub fn accept_stored(
     request: &[u8],
     out: &mut [u8],
 ) -> StoredAccept
-    ensures { λ r. ⌜ r ≡ acceptStoredOf (now (file .entry)) room (now (book .entry)) (now (request .entry)) (now (out .entry)) .answer ⌝ }
-    ensures { λ _. ⌜ now (out .exit) ≡ acceptStoredOf (now (file .entry)) room (now (book .entry)) (now (request .entry)) (now (out .entry)) .output ⌝ }
+    ensures { λ r. ⌜ ofStoredAccept r ≡ storedCallOf (now (file .entry)) room (accept (now (book .entry)) (now (request .entry))) (now (out .entry)) .answer ⌝ }
+    ensures { λ _. ⌜ now (out .exit) ≡ storedCallOf (now (file .entry)) room (accept (now (book .entry)) (now (request .entry))) (now (out .entry)) .output ⌝ }
 {
     let read = read_stored(file, room);
     let answer = read.answer;
     match answer {
-        Standing::Stands => accept_read(read, room, book, request, out),
+        Standing::Stands => {
+            let ledger = read.ledger;
+            let parties = read.parties;
+            let accepted = calls_by_value::accept_sound(ledger, parties, room, book, request);
+            write_accepted(accepted, out)
+        }
         Standing::Refused(refusal) => StoredAccept::NotRead(refusal),
     }
-}
-
-// The ledger, which these calls leave as it is, with the table after a call.
-fn write_changed(ledger: Ledger, changed: ChangedTable, room: usize, out: &mut [u8]) -> StoredAnswer
-    ensures { λ r. ⌜ r ≡ entryCallEnd ledger (afterCall room changed) (now (out .entry)) .answer ⌝ }
-    ensures { λ _. ⌜ now (out .exit) ≡ entryCallEnd ledger (afterCall room changed) (now (out .entry)) .output ⌝ }
-{
-    let answer = changed.answer;
-    match answer {
-        Answer::Done => {
-            let parties = changed.parties;
-            let written = write_stored(ledger, parties, room, out);
-            written_call(written)
-        }
-        Answer::Refused(refusal) => StoredAnswer::Refused(refusal),
-    }
-}
-
-fn pay_out_read(
-    read: ReadBack,
-    room: usize,
-    entry: u32,
-    amount: u64,
-    out: &mut [u8],
-) -> StoredAnswer
-    ensures { λ r. ⌜ r ≡ entryCallEnd (read .ledger) (payOutOf (read .ledger) (take room (read .parties)) entry amount) (now (out .entry)) .answer ⌝ }
-    ensures { λ _. ⌜ now (out .exit) ≡ entryCallEnd (read .ledger) (payOutOf (read .ledger) (take room (read .parties)) entry amount) (now (out .entry)) .output ⌝ }
-{
-    let ledger = read.ledger;
-    let parties = read.parties;
-    let changed = pioneer::pay_out_by_value(ledger, parties, room, entry, amount);
-    write_changed(ledger, changed, room, out)
 }
 
 pub fn pay_out_stored(
@@ -175,31 +149,20 @@ pub fn pay_out_stored(
     amount: u64,
     out: &mut [u8],
 ) -> StoredAnswer
-    ensures { λ r. ⌜ r ≡ payOutStoredOf (now (file .entry)) room entry amount (now (out .entry)) .answer ⌝ }
-    ensures { λ _. ⌜ now (out .exit) ≡ payOutStoredOf (now (file .entry)) room entry amount (now (out .entry)) .output ⌝ }
+    ensures { λ r. ⌜ ofStoredAnswer r ≡ storedCallOf (now (file .entry)) room (payOut entry amount) (now (out .entry)) .answer ⌝ }
+    ensures { λ _. ⌜ now (out .exit) ≡ storedCallOf (now (file .entry)) room (payOut entry amount) (now (out .entry)) .output ⌝ }
 {
     let read = read_stored(file, room);
     let answer = read.answer;
     match answer {
-        Standing::Stands => pay_out_read(read, room, entry, amount, out),
+        Standing::Stands => {
+            let ledger = read.ledger;
+            let parties = read.parties;
+            let changed = calls_by_value::pay_out_sound(ledger, parties, room, entry, amount);
+            write_changed(ledger, changed, out)
+        }
         Standing::Refused(refusal) => StoredAnswer::NotRead(refusal),
     }
-}
-
-fn hand_over_read(
-    read: ReadBack,
-    room: usize,
-    entry: u32,
-    person: u32,
-    out: &mut [u8],
-) -> StoredAnswer
-    ensures { λ r. ⌜ r ≡ entryCallEnd (read .ledger) (handOverOf (read .ledger) (take room (read .parties)) entry person) (now (out .entry)) .answer ⌝ }
-    ensures { λ _. ⌜ now (out .exit) ≡ entryCallEnd (read .ledger) (handOverOf (read .ledger) (take room (read .parties)) entry person) (now (out .entry)) .output ⌝ }
-{
-    let ledger = read.ledger;
-    let parties = read.parties;
-    let changed = pioneer::hand_over_by_value(ledger, parties, room, entry, person);
-    write_changed(ledger, changed, room, out)
 }
 
 pub fn hand_over_stored(
@@ -209,24 +172,29 @@ pub fn hand_over_stored(
     person: u32,
     out: &mut [u8],
 ) -> StoredAnswer
-    ensures { λ r. ⌜ r ≡ handOverStoredOf (now (file .entry)) room entry person (now (out .entry)) .answer ⌝ }
-    ensures { λ _. ⌜ now (out .exit) ≡ handOverStoredOf (now (file .entry)) room entry person (now (out .entry)) .output ⌝ }
+    ensures { λ r. ⌜ ofStoredAnswer r ≡ storedCallOf (now (file .entry)) room (handOver entry person) (now (out .entry)) .answer ⌝ }
+    ensures { λ _. ⌜ now (out .exit) ≡ storedCallOf (now (file .entry)) room (handOver entry person) (now (out .entry)) .output ⌝ }
 {
     let read = read_stored(file, room);
     let answer = read.answer;
     match answer {
-        Standing::Stands => hand_over_read(read, room, entry, person, out),
+        Standing::Stands => {
+            let ledger = read.ledger;
+            let parties = read.parties;
+            let changed = calls_by_value::hand_over_sound(ledger, parties, room, entry, person);
+            write_changed(ledger, changed, out)
+        }
         Standing::Refused(refusal) => StoredAnswer::NotRead(refusal),
     }
 }
 
 // The stored form of a new ledger, which every list of calls starts from.
 pub fn new_stored(out: &mut [u8]) -> StoredAnswer
-    ensures { λ r. ⌜ r ≡ newStoredOf (now (out .entry)) .answer ⌝ }
+    ensures { λ r. ⌜ ofStoredAnswer r ≡ newStoredOf (now (out .entry)) .answer ⌝ }
     ensures { λ _. ⌜ now (out .exit) ≡ newStoredOf (now (out .entry)) .output ⌝ }
 {
     let parties = ledger::records::no_parties();
-    let written = write_stored(ledger::records::new_ledger(), parties, 512, out);
+    let written = stored::writing::write_form(ledger::records::new_ledger(), parties, out);
     written_call(written)
 }
 

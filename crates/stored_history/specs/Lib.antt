@@ -1,3 +1,4 @@
-pub mod HandedAfter
 pub mod StoredDemand
+pub mod KeptByCalls
+pub mod Handed
 pub mod EveryListOfStoredCalls

@@ -4,58 +4,38 @@ use mathlib.Core.Path.{_≡_}
 use mathlib.Core.List.{List, [], _∷_}
 use lib.ListN.{length, take}
 use Rattle.ledger.specs.Records.{noParties, newLedger}
-use Rattle.acceptance.specs.declared.accept.AcceptAnswer.the-variants as AcceptAnswer
-use Rattle.ledger.specs.declared.entries.Answer.the-variants as Answer
+use Rattle.calls.specs.Decision.{Call, CallAnswer, isAccepted, isDone, isRefused}
+use Rattle.calls.specs.Carried.{atStart}
+use Rattle.calls.specs.Calls.{stateOf, AllFit}
 use Rattle.stored.specs.Form.{storedForm, formLength}
-use Rattle.stored_calls.specs.StoredCalls.{CallEnd, acceptStoredOf, payOutStoredOf, handOverStoredOf}
-use Rattle.stored_calls.specs.declared.StoredAccept.{StoredAccept}
-use Rattle.stored_calls.specs.declared.StoredAccept.the-variants as StoredAccept
-use Rattle.stored_calls.specs.declared.StoredAnswer.{StoredAnswer}
-use Rattle.stored_calls.specs.declared.StoredAnswer.the-variants as StoredAnswer
-use Rattle.history.specs.Calls.{Call, accept, payOut, handOver, CallAnswer, ofAccept, ofEntry, AllFit}
-use Rattle.history.specs.History.{historyOf}
-use Rattle.history.specs.Demand.{ledgerIn, tableIn, HoldsAfter}
+use Rattle.stored_calls.specs.StoredCalls.{StoredCallAnswer, notRead, notMade, madeAccepted, madeDone, CallEnd, storedCallOf}
+use Rattle.history.specs.History.{ledgerIn, partiesIn, historyOf}
+use Rattle.history.specs.Demand.{HoldsAfter}
 
--- ---- what a call answers: a refusal of the stored ledger itself is a refusal of the call
+-- what a call answers: a refusal of the stored ledger itself is a refusal of the call
+abbrev pub answerOf : StoredCallAnswer → CallAnswer
+answerOf (notRead r) = isRefused r
+answerOf (notMade r) = isRefused r
+answerOf (madeAccepted acceptance size) = isAccepted acceptance
+answerOf (madeDone size) = isDone
 
-abbrev pub answerOfAccept : StoredAccept → CallAnswer
-answerOfAccept (StoredAccept.NotRead r) = ofAccept (AcceptAnswer.NotAccepted r)
-answerOfAccept (StoredAccept.NotAccepted r) = ofAccept (AcceptAnswer.NotAccepted r)
-answerOfAccept (StoredAccept.Accepted done) = ofAccept (AcceptAnswer.Accepted (done .acceptance))
+-- the bytes that are kept after a call: what a done call has written, or those before it
+abbrev pub keptAfter : StoredCallAnswer → (output before : List ℕ) → List ℕ
+keptAfter (notRead r) output before = before
+keptAfter (notMade r) output before = before
+keptAfter (madeAccepted acceptance size) output before = take size output
+keptAfter (madeDone size) output before = take size output
 
-abbrev pub answerOfEntryCall : StoredAnswer → CallAnswer
-answerOfEntryCall (StoredAnswer.NotRead r) = ofEntry (Answer.Refused r)
-answerOfEntryCall (StoredAnswer.Refused r) = ofEntry (Answer.Refused r)
-answerOfEntryCall (StoredAnswer.Done size) = ofEntry Answer.Done
-
--- ---- the bytes that are kept after a call: what a done call has written, or those before it
-
-abbrev pub keptAfterAccept : StoredAccept → (output before : List ℕ) → List ℕ
-keptAfterAccept (StoredAccept.NotRead r) output before = before
-keptAfterAccept (StoredAccept.NotAccepted r) output before = before
-keptAfterAccept (StoredAccept.Accepted done) output before = take (done .length) output
-
-abbrev pub keptAfterEntryCall : StoredAnswer → (output before : List ℕ) → List ℕ
-keptAfterEntryCall (StoredAnswer.NotRead r) output before = before
-keptAfterEntryCall (StoredAnswer.Refused r) output before = before
-keptAfterEntryCall (StoredAnswer.Done size) output before = take size output
-
--- ---- one call on the bytes kept, read into a table of so many records, with a lent output
-
+-- one call on the bytes kept, read into a table of so many records, with a lent output
 pub record StoredStep : Type 0 where
   pub answer : CallAnswer
   pub kept : List ℕ
 
-abbrev pub acceptStep : CallEnd StoredAccept → List ℕ → StoredStep
-acceptStep end before = record { answer = answerOfAccept (end .answer); kept = keptAfterAccept (end .answer) (end .output) before }
-
-abbrev pub entryCallStep : CallEnd StoredAnswer → List ℕ → StoredStep
-entryCallStep end before = record { answer = answerOfEntryCall (end .answer); kept = keptAfterEntryCall (end .answer) (end .output) before }
+abbrev pub stepBy : CallEnd → List ℕ → StoredStep
+stepBy end before = record { answer = answerOf (end .answer); kept = keptAfter (end .answer) (end .output) before }
 
 abbrev pub storedStep : (room : ℕ) (kept : List ℕ) → Call → (output : List ℕ) → StoredStep
-storedStep room kept (accept book request) output = acceptStep (acceptStoredOf kept room book request output) kept
-storedStep room kept (payOut entry amount) output = entryCallStep (payOutStoredOf kept room entry amount output) kept
-storedStep room kept (handOver entry person) output = entryCallStep (handOverStoredOf kept room entry person output) kept
+storedStep room kept call output = stepBy (storedCallOf kept room call output) kept
 
 -- calls made one after the other, each with an output that has room for the longest form, 18,661 bytes
 pub data StoredTrace (room : ℕ) : List ℕ → List Call → List CallAnswer → List ℕ → Type 0 where
@@ -72,5 +52,5 @@ EveryListOfStoredCalls =
     StoredTrace room (storedForm newLedger []) calls answers after →
     let start = take room noParties in
     let history = historyOf (length start) calls in
-    (after ≡ storedForm (ledgerIn history) (tableIn history start))
-    × HoldsAfter start history calls answers (record { ledger = ledgerIn history; table = tableIn history start })
+    (after ≡ storedForm (ledgerIn history) (partiesIn history))
+    × HoldsAfter start history calls answers (stateOf (ledgerIn history) (atStart (partiesIn history) start))

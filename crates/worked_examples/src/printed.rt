@@ -111,7 +111,7 @@ pub const NAMES: [u8; 117] = *b"\
 
 // A printed figure is one number, the sum of its parts: the pricing, the figure, the unit where it
 // isn't a dollar or a percent, the sign and the size. A table of as many rows of numbers takes the
-// prover half a minute, and this one less than a second.
+// prover some 20 seconds, and this one less than a second.
 const PRICING: u64 = 100;
 
 const TO_TENS: u64 = 10_000;

@@ -40,7 +40,7 @@ use denote.Exit.{yes}
 use Rattle.ledger.specs.Records.{noParty}
 use Rattle.ledger.specs.declared.records.Party.{Party}
 use Rattle.party_table.proofs.Rows.{PartyRow, party-value, party-values, party-tells, party-makes, party-typed, place-fits}
-use Rattle.ledger.specs.Entries.{handedTo}
+use Rattle.ledger.specs.Updates.{withPerson}
 use Rattle.party_table.proofs.handed as handed′
 use Rattle.party_table.proofs.handed.Symbol as handed-def
 use Rattle.party_table.proofs.handed.Symbol.{name as #party_table·handed}
@@ -72,7 +72,7 @@ module _ {M : Type 1} (𝓤 : URA M) (H : Heap 𝓤) (A : Atoms 𝓤) (W : Given
   old = getD table at noParty
 
   abbrev new : Party
-  new = handedTo old person
+  new = withPerson person old
 
   abbrev after : List Party
   after = set table at new

@@ -40,7 +40,7 @@ use denote.Exit.{yes}
 use Rattle.ledger.specs.Records.{noParty}
 use Rattle.ledger.specs.declared.records.Party.{Party}
 use Rattle.party_table.proofs.Rows.{PartyRow, party-value, party-values, party-tells, party-makes, party-typed, place-fits}
-use Rattle.ledger.specs.Entries.{paidMore}
+use Rattle.ledger.specs.Updates.{withPaidOut}
 use Rattle.party_table.proofs.paid as paid′
 use Rattle.party_table.proofs.paid.Symbol as paid-def
 use Rattle.party_table.proofs.paid.Symbol.{name as #party_table·paid}
@@ -73,7 +73,7 @@ module _ {M : Type 1} (𝓤 : URA M) (H : Heap 𝓤) (A : Atoms 𝓤) (W : Given
   old = getD table at noParty
 
   abbrev new : Party
-  new = paidMore old amount
+  new = withPaidOut (old .«paid_out» + amount) old
 
   abbrev after : List Party
   after = set table at new

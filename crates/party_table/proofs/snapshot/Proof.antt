@@ -120,7 +120,7 @@ module _ {M : Type 1} (𝓤 : URA M) (H : Heap 𝓤) (A : Atoms 𝓤) (W : Given
 
   abbrev Ends : Val → List (Item 𝓤)
   Ends v = ‵ (flft κ₀ q₀) ∷ ‵ (ShrSlice (named 0) κ₀ PartyRow .own (table-at table-name table) (table-value ∷ [])) ∷
-      ‵ ((ArrayRow PartyRow) .own (parties count) (v ∷ [])) ∷ []
+      ‵ ((ArrayRow PartyRow 512) .own (parties count) (v ∷ [])) ∷ []
 
   exits : (v : Val) → ent 𝓤 (⋆ 𝓤 H A (Ends v)) (Post v)
   exits v =
@@ -137,14 +137,14 @@ module _ {M : Type 1} (𝓤 : URA M) (H : Heap 𝓤) (A : Atoms 𝓤) (W : Given
       (tripleOf 𝓤 H A ledger-records-no-parties′.signature (ledger-records-no-parties′.spec 𝓤 H A mem run))) where
     module _ (l₀ l₁ l₂ l₃ l₄ l₅ l₆ l₇ l₈ l₉ l₁₀ l₁₁ l₁₂ l₁₃ l₁₄ : ℕ) (q′ : Share) where
       abbrev En : Env 𝓤 H
-      En = (array-type PartyRow, l₀) ∷ (sliceTy (tyRef (named 0) imm (pointee (PartyRow .written))), l₁) ∷ (tyInt w32, l₂) ∷ (tyInt w64, l₃) ∷
-          (array-type PartyRow, l₄) ∷ (tyInt w64, l₅) ∷ (tyInt w64, l₆) ∷ (array-type PartyRow, l₇) ∷ (tyBool, l₈) ∷ (tyInt w64, l₉) ∷ (tyPtr, l₁₀) ∷
-          (party-type, l₁₁) ∷ (tyInt w64, l₁₂) ∷ (tyPtr, l₁₃) ∷ (tyPtr, l₁₄) ∷ []
+      En = (array-type PartyRow 512, l₀) ∷ (sliceTy (tyRef (named 0) imm (pointee (PartyRow .written))), l₁) ∷ (tyInt w32, l₂) ∷ (tyInt w64, l₃) ∷
+          (array-type PartyRow 512, l₄) ∷ (tyInt w64, l₅) ∷ (tyInt w64, l₆) ∷ (array-type PartyRow 512, l₇) ∷ (tyBool, l₈) ∷ (tyInt w64, l₉) ∷
+          (tyPtr, l₁₀) ∷ (party-type, l₁₁) ∷ (tyInt w64, l₁₂) ∷ (tyPtr, l₁₃) ∷ (tyPtr, l₁₄) ∷ []
 
       abbrev Dies : List (Item 𝓤)
-      Dies = ‵ (fdies (array-type PartyRow) l₀) ∷ ‵ (fdies (sliceTy (tyRef (named 0) imm (pointee (PartyRow .written)))) l₁) ∷
-          ‵ (fdies (tyInt w32) l₂) ∷ ‵ (fdies (tyInt w64) l₃) ∷ ‵ (fdies (array-type PartyRow) l₄) ∷ ‵ (fdies (tyInt w64) l₅) ∷
-          ‵ (fdies (tyInt w64) l₆) ∷ ‵ (fdies (array-type PartyRow) l₇) ∷ ‵ (fdies tyBool l₈) ∷ ‵ (fdies (tyInt w64) l₉) ∷ ‵ (fdies tyPtr l₁₀) ∷
+      Dies = ‵ (fdies (array-type PartyRow 512) l₀) ∷ ‵ (fdies (sliceTy (tyRef (named 0) imm (pointee (PartyRow .written)))) l₁) ∷
+          ‵ (fdies (tyInt w32) l₂) ∷ ‵ (fdies (tyInt w64) l₃) ∷ ‵ (fdies (array-type PartyRow 512) l₄) ∷ ‵ (fdies (tyInt w64) l₅) ∷
+          ‵ (fdies (tyInt w64) l₆) ∷ ‵ (fdies (array-type PartyRow 512) l₇) ∷ ‵ (fdies tyBool l₈) ∷ ‵ (fdies (tyInt w64) l₉) ∷ ‵ (fdies tyPtr l₁₀) ∷
           ‵ (fdies party-type l₁₁) ∷ ‵ (fdies (tyInt w64) l₁₂) ∷ ‵ (fdies tyPtr l₁₃) ∷ ‵ (fdies tyPtr l₁₄) ∷ []
 
       -- the invariant
@@ -158,9 +158,9 @@ module _ {M : Type 1} (𝓤 : URA M) (H : Heap 𝓤) (A : Atoms 𝓤) (W : Given
           ∷ ‵ (fat fullShare (tyInt w32) l₂ 0 (vint w32 entries))
           ∷ ‵ (fat fullShare (tyInt w64) l₃ 0 (vint w64 count))
           ∷ ‵ (fat fullShare (tyInt w64) l₅ 0 (vint w64 i))
-          ∷ ‵ (froom (array-type PartyRow) l₀ 0)
+          ∷ ‵ (froom (array-type PartyRow 512) l₀ 0)
           ∷ ‵ (froom (tyInt w64) l₆ 0)
-          ∷ ‵ (froom (array-type PartyRow) l₇ 0)
+          ∷ ‵ (froom (array-type PartyRow 512) l₇ 0)
           ∷ ‵ (froom tyBool l₈ 0)
           ∷ ‵ (froom (tyInt w64) l₉ 0)
           ∷ ‵ (froom tyPtr l₁₀ 0)
@@ -229,13 +229,13 @@ module _ {M : Type 1} (𝓤 : URA M) (H : Heap 𝓤) (A : Atoms 𝓤) (W : Given
           rewrite ! 11 (λ (t : Bool). ‵ (fat fullShare tyBool l₈ 0 (vbool t))) (le-ltb count count (le-refl count)) refl $
           leaves-loop ! (load ! (from ! (stop !)) (look ! 11 refl)) $ exec ! (𝓣 .C) (𝓣 .Λ) En mir.t-7 (atRet En Post) $
           feqI ! ℕ (length (parties count)) 512 (parties-length (le-refl count)) $
-          move ! (0 ∷ 4 ∷ []) $ fjoin ! $ use1 W (‵ (fat fullShare (array-type PartyRow) l₄ 0 (only (array-vals party-values (parties count)))) ⊛
-          ‵ ((ArrayRow PartyRow) .own (parties count) (array-vals party-values (parties count))))
-          (from-row PartyRow 𝓤 H A W party-values party-tells (parties count) l₄) $
-          split ! $ move ! (1 ∷ []) $ peeks ! (ArrayRow PartyRow) (Is (ArrayRow PartyRow)) (shows 𝓤 H A (ArrayRow PartyRow)) (parties count)
-          (array-vals party-values (parties count)) (λ array-known.
+          move ! (0 ∷ 4 ∷ []) $ fjoin ! $ use1 W (‵ (fat fullShare (array-type PartyRow 512) l₄ 0 (only (array-vals party-values (parties count)))) ⊛
+          ‵ ((ArrayRow PartyRow 512) .own (parties count) (array-vals party-values (parties count))))
+          (from-row PartyRow 512 𝓤 H A W party-values party-tells (parties count) l₄) $
+          split ! $ move ! (1 ∷ []) $ peeks ! (ArrayRow PartyRow 512) (Is (ArrayRow PartyRow 512)) (shows 𝓤 H A (ArrayRow PartyRow 512))
+          (parties count) (array-vals party-values (parties count)) (λ array-known.
           assigns ! (of-opd ! (load ! (from ! (stop !)) (look ! 1 refl))) (from ! (stop !))
-          (init ! 9 refl (array-typed PartyRow 𝓤 H A W (party-lawful 𝓤 H A W) (parties count) _ array-known)) $
+          (init ! 9 refl (array-typed PartyRow 512 𝓤 H A W (party-lawful 𝓤 H A W) (parties count) _ array-known)) $
           move ! (2 ∷ 3 ∷ []) $ shuts-slice ! tt PartyRow q′ table table-block table-offset $
           returns ! (look ! 8 refl) $
           forget ! 8 refl $ forget ! 4 refl $ forget ! 5 refl $ forget ! 6 refl $ forget ! 2 refl $ forget ! 7 refl $ forget ! 11 refl $
@@ -298,21 +298,21 @@ module _ {M : Type 1} (𝓤 : URA M) (H : Heap 𝓤) (A : Atoms 𝓤) (W : Given
         ((tt, tt, tt, tt, tt), tt))) (id⊢ 𝓤 _) $
         calls-at ! fm (tripleOf 𝓤 H A ledger-records-no-parties′.signature (ledger-records-no-parties′.spec 𝓤 H A mem run))
         known-ledger-records-no-parties ((tt, tt, tt, tt, tt), tt) (no-more !) (λ blank-value.
-        use1 W (later (some (λ (blank : List Party). ((‵ ftrue) ⊛ ‵ ((ArrayRow PartyRow) .own blank (blank-value ∷ []))) ⊛ raw
+        use1 W (later (some (λ (blank : List Party). ((‵ ftrue) ⊛ ‵ ((ArrayRow PartyRow 512) .own blank (blank-value ∷ []))) ⊛ raw
         (ensured 𝓤 H A ledger-records-no-parties′.ended (ledger-records-no-parties′.clauses 𝓤 H A mem run) tt tt tt blank)))) (id⊢ 𝓤 _) $
         await ! tt $ pick ! (λ blank.
         split ! $ move ! (1 ∷ []) $ use1 W (raw (fact 𝓤 (blank ≡ zeros))) (exE 𝓤 _ (λ last.
         snd∗ 𝓤 (sem 𝓤 H A (lasts ledger-records-no-parties′.ended tt tt last)) (fact 𝓤 (blank ≡ zeros)))) $
         heard ! (blank ≡ zeros) (λ blank-is.
-        split ! $ rewrite ! 1 (λ (d : List Party). ‵ ((ArrayRow PartyRow) .own d (blank-value ∷ []))) blank-is refl $
-        move ! (1 ∷ []) $ peeks ! (ArrayRow PartyRow) (Is (ArrayRow PartyRow)) (shows 𝓤 H A (ArrayRow PartyRow)) zeros (blank-value ∷ [])
+        split ! $ rewrite ! 1 (λ (d : List Party). ‵ ((ArrayRow PartyRow 512) .own d (blank-value ∷ []))) blank-is refl $
+        move ! (1 ∷ []) $ peeks ! (ArrayRow PartyRow 512) (Is (ArrayRow PartyRow 512)) (shows 𝓤 H A (ArrayRow PartyRow 512)) zeros (blank-value ∷ [])
         (λ blank-known.
-        land ! (from ! (stop !)) (init ! 21 refl (array-typed PartyRow 𝓤 H A W (party-lawful 𝓤 H A W) zeros _ blank-known)) $
+        land ! (from ! (stop !)) (init ! 21 refl (array-typed PartyRow 512 𝓤 H A W (party-lawful 𝓤 H A W) zeros _ blank-known)) $
         assigns ! (of-opd ! (load ! (from ! (stop !)) (look ! 21 refl))) (from ! (stop !))
-        (init ! 27 refl (array-typed PartyRow 𝓤 H A W (party-lawful 𝓤 H A W) zeros _ blank-known)) $
+        (init ! 27 refl (array-typed PartyRow 512 𝓤 H A W (party-lawful 𝓤 H A W) zeros _ blank-known)) $
         assigns ! (of-opd ! (lit ! tt)) (from ! (stop !)) (init ! 25 refl (tt, record { fits = lit< tt })) $
         move ! (27 ∷ 0 ∷ []) $ use2 W (‵ (fsep (feq ℕ (length zeros) 512) (row PartyRow fullShare zeros l₄ 0)))
-        (to-row PartyRow 𝓤 H A W tt zeros blank-value l₄) $
+        (to-row PartyRow 512 𝓤 H A W tt zeros blank-value l₄) $
         fsplit ! $ drop ! $ move ! (4 ∷ []) $ use1 W (‵ (ShrSlice (named 0) κ₀ PartyRow .own (table-at table-name table) (table-value ∷ [])) ⊛
         ‵ (ShrSlice (named 0) κ₀ PartyRow .own (table-at table-name table) (table-value ∷ [])))
         (shr-slice-copy 𝓤 H A W (named 0) κ₀ PartyRow .twice (table-at table-name table) (table-value ∷ [])) $

@@ -46,7 +46,8 @@ use mathlib.Core.List.{_++_}
 use lib.ListN.{drop as dropped}
 use Rattle.stored.specs.Reading.{readBack, ReadEnd, readOf}
 use Rattle.pioneer.specs.Calls.{readRefused, readResult}
-use Rattle.pioneer.proofs.Readings.{read-same, refused-leaves, read-length, Stores, standing-stores}
+use Rattle.stored.specs.ReadFacts.{read-length}
+use Rattle.pioneer.proofs.Readings.{read-same, refused-leaves, Stores, standing-stores}
 use Rattle.ledger.specs.declared.records.Ledger.{Ledger}
 use Rattle.pioneer.proofs.Records.{LedgerRow, ledger-value, ledger-values, ledger-tells, ledger-makes, ledger-typed}
 use Rattle.pioneer.specs.declared.ReadResult.{ReadResult}
@@ -280,16 +281,16 @@ module _ {M : Type 1} (𝓤 : URA M) (H : Heap 𝓤) (A : Atoms 𝓤) (W : Given
         (id⊢ 𝓤 _) $
         calls-at ! fm (tripleOf 𝓤 H A parties-of′.signature (parties-of′.spec 𝓤 H A mem run)) known-parties-of
         ((tt, tt, tt, (back, tt), (found-value ∷ [], tt)), tt) (and-then ! (load ! (from ! (stop !)) (look ! 24 refl)) (no-more !)) (λ kept-value.
-        use1 W (later (some (λ (kept : List Party). ((‵ ftrue) ⊛ ‵ ((ArrayRow PartyRow) .own kept (kept-value ∷ []))) ⊛ raw
+        use1 W (later (some (λ (kept : List Party). ((‵ ftrue) ⊛ ‵ ((ArrayRow PartyRow 512) .own kept (kept-value ∷ []))) ⊛ raw
         (ensured 𝓤 H A parties-of′.ended (parties-of′.clauses 𝓤 H A mem run) tt (back, tt) tt kept)))) (id⊢ 𝓤 _) $
         await ! tt $ pick ! (λ kept.
         split ! $ move ! (1 ∷ []) $ use1 W (raw (fact 𝓤 (kept ≡ back .parties))) (exE 𝓤 _ (λ last.
         snd∗ 𝓤 (sem 𝓤 H A (lasts parties-of′.ended tt (back, tt) last)) (fact 𝓤 (kept ≡ back .parties)))) $
         heard ! (kept ≡ back .parties) (λ kept-is.
-        split ! $ rewrite ! 1 (λ (d : List Party). ‵ ((ArrayRow PartyRow) .own d (kept-value ∷ []))) kept-is refl $
-        move ! (1 ∷ []) $ facts ! (ArrayRow PartyRow) (Is (ArrayRow PartyRow)) (shows 𝓤 H A (ArrayRow PartyRow)) (back .parties) (kept-value ∷ [])
-        (λ kept-known.
-        land ! (from ! (stop !)) (init ! 10 refl (array-typed PartyRow 𝓤 H A W (party-lawful 𝓤 H A W) (back .parties) _ kept-known)) $
+        split ! $ rewrite ! 1 (λ (d : List Party). ‵ ((ArrayRow PartyRow 512) .own d (kept-value ∷ []))) kept-is refl $
+        move ! (1 ∷ []) $ facts ! (ArrayRow PartyRow 512) (Is (ArrayRow PartyRow 512)) (shows 𝓤 H A (ArrayRow PartyRow 512)) (back .parties)
+        (kept-value ∷ []) (λ kept-known.
+        land ! (from ! (stop !)) (init ! 10 refl (array-typed PartyRow 512 𝓤 H A W (party-lawful 𝓤 H A W) (back .parties) _ kept-known)) $
         lft-new ! tt (λ ν.
         move ! (8 ∷ 10 ∷ []) $ use2 W (later (some (λ (δ : GName). ‵ (MutSlice (named 0) (ν ∷ []) PartyRow .own (table-at δ table)
         (table-value ∷ [])) ⊛ ‵ (LentAgain PartyRow κ₀ (ν ∷ []) q₀ table-name table-block table-offset δ table))))
@@ -297,8 +298,8 @@ module _ {M : Type 1} (𝓤 : URA M) (H : Heap 𝓤) (A : Atoms 𝓤) (W : Given
         await ! tt $ pick ! (λ δ.
         split ! $
         -- `party_table::store_each`
-        nothing ! $ owned ! (ArrayRow PartyRow) (Is (ArrayRow PartyRow)) (array-makes 𝓤 H A W PartyRow (party-makes 𝓤 H A W) 512) (back .parties) _
-        kept-known $
+        nothing ! $ owned ! (ArrayRow PartyRow 512) (Is (ArrayRow PartyRow 512)) (array-makes 𝓤 H A W PartyRow (party-makes 𝓤 H A W) 512)
+        (back .parties) _ kept-known $
         fjoin ! $ owned ! u32 (Is u32) (uint-makes 𝓤 H A W w32) (back .ledger .entries) _ (refl, (count-known .1)) $
         fjoin ! $ move ! (1 ∷ 0 ∷ []) $ fjoin ! $ nothing ! $ move ! (3 ∷ 0 ∷ []) $ join ! $ join ! $ nothing ! $
         use1 W (raw (fact 𝓤 ((back .ledger .entries ≤ 512) × (back .ledger .entries ≤ length table))))

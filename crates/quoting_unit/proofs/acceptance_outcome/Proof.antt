@@ -4,14 +4,14 @@ use Rattle.quoting_unit.specs.Interface.{done}
 use Rattle.quoting_unit.proofs.acceptance_outcome.Statement.{statement}
 use Rattle.quoting_unit.proofs.acceptance_outcome.Tie as tie
 
-scheme-told-requires : tie.Need-scheme-told-requires
-scheme-told-requires c κs = search needs
+acceptance-told-requires : tie.Need-acceptance-told-requires
+acceptance-told-requires c κs = search needs
 
 done-requires : tie.Need-done-requires
 done-requires c κs = search needs
 
 returns : tie.Need-returns
-returns c = c .done .ensures ∙ ap done (c .before .scheme-told .ensures)
+returns c = c .done .ensures ∙ ap done (c .before .acceptance-told .ensures)
 
 pub acceptance-outcome-spec : {M : Type 1} → statement M
-acceptance-outcome-spec = tie.close (tie.spec scheme-told-requires done-requires returns)
+acceptance-outcome-spec = tie.close (tie.spec acceptance-told-requires done-requires returns)

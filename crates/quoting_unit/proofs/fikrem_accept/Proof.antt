@@ -50,7 +50,7 @@ write-figures-requires c κs =
     let args = listed .before .before .before .args in
     let book : Bytes (args .book .now) = λ k. listed .before .shared-slice-known2 .given k .fits in
     let request : Bytes (args .request .now) = λ k. listed .shared-slice-known3 .given k .fits in (
-      accepted-bounded (args .stored .now) (args .table-size) (args .book .now) (args .request .now) (args .out .now) _ book request
+      accepted-bounded (args .stored .now) (args .table-size) (args .book .now) (args .request .now) (args .out .now) _ _ book request
           (sym (rw (told .called3 .given .1) at (called .accept-stored .ensures .0))),
       omega arith,
     )

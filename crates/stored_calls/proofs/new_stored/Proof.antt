@@ -1,6 +1,8 @@
 use mathlib.Core.Path.{ap, _∙_}
+use native.Mathlib.Omega.{arith}
 use borrow.Author.Needs.{needs}
-use Rattle.stored_calls.specs.StoredCalls.{writtenCall}
+use Rattle.ledger.specs.declared.records.Ledger.{Ledger}
+use Rattle.stored_calls.specs.StoredCalls.{madeDone, writtenAnswer}
 use Rattle.stored_calls.proofs.Ends.{new-written}
 use Rattle.stored_calls.proofs.new_stored.Statement.{statement}
 use Rattle.stored_calls.proofs.new_stored.Tie as tie
@@ -11,8 +13,10 @@ no-parties-requires c κs = search needs
 new-ledger-requires : tie.Need-new-ledger-requires
 new-ledger-requires c κs = search needs
 
-write-stored-requires : tie.Need-write-stored-requires
-write-stored-requires c κs = search needs
+write-form-requires : tie.Need-write-form-requires
+write-form-requires c κs =
+    let fresh = c .before .new-ledger .ensures in
+    (omega (arith, ap (λ (ledger : Ledger). ledger .count) fresh), omega (arith, ap (λ (ledger : Ledger). ledger .entries) fresh))
 
 written-call-requires : tie.Need-written-call-requires
 written-call-requires c κs = search needs
@@ -22,12 +26,9 @@ same-length c = search needs
 
 returns : tie.Need-returns
 returns c =
-    let written = c .before .before .before in
-    let fresh = written .before .before in
-    let out = fresh .before .before .before .args .out .now in
-    let same = new-written out (fresh .new-ledger .ensures) (fresh .before .no-parties .ensures) in (
-      c .written-call .ensures ∙ ap writtenCall (written .write-stored .ensures .0 ∙ ap (λ e. e .answer) same),
-      written .write-stored .ensures .1 ∙ ap (λ e. e .output) same,
+    let same = new-written (c .before .before .before .before .before .before .before .before .args .out .now) (c .before .before .before .before .before .new-ledger .ensures) (c .before .before .before .before .before .before .no-parties .ensures) in (
+      c .written-call .ensures ∙ ap (writtenAnswer madeDone) (c .before .before .before .write-form .ensures .0 ∙ ap (λ e. e .answer) same),
+      c .before .before .before .write-form .ensures .1 ∙ ap (λ e. e .output) same,
     )
 
 pub new-stored-spec : {M : Type 1} → statement M
@@ -36,7 +37,7 @@ new-stored-spec =
     (tie.spec
     no-parties-requires
     new-ledger-requires
-    write-stored-requires
+    write-form-requires
     written-call-requires
     same-length
     returns)

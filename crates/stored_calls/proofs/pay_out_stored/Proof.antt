@@ -1,10 +1,7 @@
 use mathlib.Core.Path.{ap, _∙_}
 use borrow.Author.Needs.{needs}
-use Rattle.ledger.specs.Entries.{payOutOf}
-use Rattle.stored.specs.Reading.{ReadEnd}
-use Rattle.stored_calls.specs.StoredCalls.{CallEnd, entryCallOnRead}
-use Rattle.stored_calls.specs.declared.StoredAnswer.{StoredAnswer}
-use Rattle.stored_calls.proofs.Ends.{once-read}
+use Rattle.calls.specs.Decision.{payOut}
+use Rattle.stored_calls.proofs.Ends.{sound-here, counts-kept, call-ends, not-read}
 use Rattle.stored_calls.proofs.pay_out_stored.Statement.{statement}
 use Rattle.stored_calls.proofs.pay_out_stored.Tie as tie
 
@@ -14,8 +11,19 @@ read-stored-requires c κs = search needs
 enum-told : tie.Need-enum-told
 enum-told c = search needs
 
-pay-out-read-requires : tie.Need-pay-out-read-requires
-pay-out-read-requires c κs = search needs
+pay-out-sound-requires : tie.Need-pay-out-sound-requires
+pay-out-sound-requires c κs =
+    let told = c .before .before in
+    let stood = told .before .before in
+    let args = stood .before .before .before .args in
+    sound-here (args .file .now) (args .room) (payOut (args .entry) (args .amount)) (stood .read-stored .result) (stood .read-stored .ensures) (told .enum-told .given .1)
+
+write-changed-requires : tie.Need-write-changed-requires
+write-changed-requires c κs =
+    let told = c .before .before .before .before in
+    let stood = told .before .before in
+    let args = stood .before .before .before .args in
+    counts-kept (args .file .now) (args .room) (payOut (args .entry) (args .amount)) (stood .read-stored .result) (stood .read-stored .ensures) (told .enum-told .given .1) (search needs, search needs) (c .before .pay-out-sound .ensures)
 
 enum-known-answer : tie.Need-enum-known-answer
 enum-known-answer c = search needs
@@ -25,23 +33,19 @@ same-length c = search needs
 
 returns : tie.Need-returns
 returns c =
-    let called = c .before .before in
-    let told = called .before .before in
+    let written = c .before .before in
+    let called = written .before .before in
+    let told = called .before .before .before in
     let stood = told .before .before in
     let args = stood .before .before .before .args in
-    let call : (read : ReadEnd) → CallEnd StoredAnswer =
-    λ read. entryCallOnRead read (λ ledger table. payOutOf ledger table (args .entry) (args .amount)) (args .out .now) in
-    let end = once-read (args .room) (stood .read-stored .result) call (told .enum-told .given .1) (stood .read-stored .ensures) in
-    (called .pay-out-read .ensures .0 ∙ ap (λ e. e .answer) end, called .pay-out-read .ensures .1 ∙ ap (λ e. e .output) end)
+    let end = call-ends (args .file .now) (args .room) (payOut (args .entry) (args .amount)) (stood .read-stored .result) (stood .read-stored .ensures) (told .enum-told .given .1) (search needs, search needs) (called .pay-out-sound .ensures) (args .out .now) in
+    (written .write-changed .ensures .0 ∙ ap (λ e. e .answer) end, written .write-changed .ensures .1 ∙ ap (λ e. e .output) end)
 
 returns-2 : tie.Need-returns-2
 returns-2 c =
-    let told = c .before in
-    let stood = told .before .before in
+    let stood = c .before .before .before in
     let args = stood .before .before .before .args in
-    let call : (read : ReadEnd) → CallEnd StoredAnswer =
-    λ read. entryCallOnRead read (λ ledger table. payOutOf ledger table (args .entry) (args .amount)) (args .out .now) in
-    let end = once-read (args .room) (stood .read-stored .result) call (told .answer .given .1) (stood .read-stored .ensures) in
+    let end = not-read (args .file .now) (args .room) (payOut (args .entry) (args .amount)) (stood .read-stored .result) (stood .read-stored .ensures) (args .out .now) (c .before .answer .given .1) in
     (ap (λ e. e .answer) end, ap (λ e. e .output) end)
 
 pub pay-out-stored-spec : {M : Type 1} → statement M
@@ -50,7 +54,8 @@ pay-out-stored-spec =
     (tie.spec
     read-stored-requires
     enum-told
-    pay-out-read-requires
+    pay-out-sound-requires
+    write-changed-requires
     enum-known-answer
     same-length
     returns

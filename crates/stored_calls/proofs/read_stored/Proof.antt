@@ -17,10 +17,10 @@ read-requires c κs = search needs
 
 returns : tie.Need-returns
 returns c =
-    let counted = c .before in
-    let args = counted .before .before .before .args in
-    let same = ap₂ (λ ledger records. readBack ledger records (args .file .now)) (counted .before .new-ledger .ensures) (counted .records-of .ensures) in
+    let args = c .before .before .before .before .args in
+    let same = ap₂ (λ ledger records. readBack ledger records (args .file .now)) (c .before .before .new-ledger .ensures) (c .before .records-of .ensures) in
     ap (readEnd (args .room)) (c .read .ensures ∙ same) ∙ read-by-value (args .file .now) (args .room)
 
 pub read-stored-spec : {M : Type 1} → statement M
-read-stored-spec = tie.close (tie.spec new-ledger-requires records-of-requires read-requires returns)
+read-stored-spec =
+    tie.close (tie.spec new-ledger-requires records-of-requires read-requires returns)

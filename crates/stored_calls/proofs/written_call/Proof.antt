@@ -1,6 +1,6 @@
 use mathlib.Core.Path.{sym, ap}
 use borrow.Author.Needs.{needs}
-use Rattle.stored_calls.specs.StoredCalls.{writtenCall}
+use Rattle.stored_calls.specs.StoredCalls.{madeDone, writtenAnswer}
 use Rattle.stored_calls.proofs.written_call.Statement.{statement}
 use Rattle.stored_calls.proofs.written_call.Tie as tie
 
@@ -11,12 +11,10 @@ enum-known-written-2 : tie.Need-enum-known-written-2
 enum-known-written-2 c = search needs
 
 returns : tie.Need-returns
-returns c =
-    ap writtenCall (sym (c .before .written .given .1))
+returns c = ap (writtenAnswer madeDone) (sym (c .before .written .given .1))
 
 returns-2 : tie.Need-returns-2
-returns-2 c =
-    ap writtenCall (sym (c .before .written2 .given .1))
+returns-2 c = ap (writtenAnswer madeDone) (sym (c .before .written2 .given .1))
 
 pub written-call-spec : {M : Type 1} → statement M
 written-call-spec = tie.close (tie.spec enum-known-written enum-known-written-2 returns returns-2)

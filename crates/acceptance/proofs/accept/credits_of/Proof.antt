@@ -5,7 +5,7 @@ use native.Mathlib.Omega.{arith}
 use lib.ListN.{length, getD}
 use borrow.Author.Needs.{needs}
 use Rattle.ledger.specs.Records.{noParty}
-use Rattle.acceptance.specs.Accept.{padded}
+use Rattle.acceptance.specs.Plan.{padded}
 use Rattle.acceptance.proofs.Booking.{product-fits, sharesUpTo, Credited, credited-none, credited-own, running-at-most, credited-other, together-rises}
 use Rattle.acceptance.proofs.accept.credits_of.Statement.{statement}
 use Rattle.acceptance.proofs.accept.credits_of.Tie as tie

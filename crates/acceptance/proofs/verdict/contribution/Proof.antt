@@ -2,7 +2,7 @@ use Prim.Native.Nat.{_≤_}
 use native.Mathlib.Nat.{mul-le-mul}
 use native.Mathlib.Omega.{arith}
 use borrow.Author.Needs.{needs}
-use Rattle.acceptance.specs.RulesLaws.{contribution-le-cost}
+use Rattle.calls.specs.CreditColumnsLaws.{contribution-le-cost}
 use Rattle.acceptance.proofs.verdict.contribution.Statement.{statement}
 use Rattle.acceptance.proofs.verdict.contribution.Tie as tie
 

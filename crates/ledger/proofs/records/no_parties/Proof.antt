@@ -1,3 +1,4 @@
+-- By the definition.
 use borrow.Author.Needs.{needs}
 use Rattle.ledger.specs.Records.{noParties}
 use Rattle.ledger.proofs.records.no_parties.Statement.{statement}

@@ -1,3 +1,4 @@
+-- The test is the definition's.
 use borrow.Author.Tests.{eq-eqb, ne-eqb}
 use Rattle.ledger.proofs.sound.first_of.Statement.{statement}
 use Rattle.ledger.proofs.sound.first_of.Tie as tie

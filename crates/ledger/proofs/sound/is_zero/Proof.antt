@@ -1,3 +1,4 @@
+-- The tests are the conditions in their order.
 use Rattle.ledger.proofs.Tests.{last-holds}
 use borrow.Author.Tests.{eq-eqb, ne-eqb}
 use Rattle.ledger.proofs.sound.is_zero.Statement.{statement}

@@ -1,3 +1,4 @@
+-- The loop keeps that the places from its own on decide.
 use Rattle.ledger.specs.Records.{noScheme}
 use Rattle.ledger.proofs.Rest.{zeros-from, zeros-end}
 use Rattle.ledger.proofs.Tests.{passes, fails}

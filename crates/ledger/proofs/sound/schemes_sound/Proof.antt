@@ -1,20 +1,22 @@
-use Rattle.ledger.specs.Records.{noScheme}
-use Rattle.ledger.proofs.Rest.{schemes-from, schemes-end, by-tallies}
-use Rattle.ledger.proofs.Tests.{passes, fails}
-use Rattle.ledger.specs.declared.records.Party.{Party}
-use Rattle.ledger.specs.Tallied.{Tallied}
-use Rattle.ledger.specs.Sound.{schemesSound}
-use lib.ListN.{length, take, drop}
-use native.Mathlib.Numerals.{add-one}
-use mathlib.Core.List.{List}
-use mathlib.Core.Path.{_≡_, refl}
+-- The loop keeps that the schemes from its place on decide; each is judged by the tally at its place.
 use Prim.Native.Nat.{suc, _-_, _<_, _≤_}
+use mathlib.Core.Path.{_≡_, refl, sym, _∙_}
+use mathlib.Core.List.{List}
+use lib.ListN.{length, take, drop}
+use Rattle.ledger.specs.Sound.{schemesSound}
+use Rattle.ledger.specs.Tallied.{Tallied}
+use Rattle.ledger.specs.declared.records.Party.{Party}
+use Rattle.ledger.proofs.Rest.{schemes-stop, schemes-go-on, schemes-end}
+use Rattle.ledger.specs.Records.{noScheme}
 use borrow.Author.Needs.{needs}
 use Rattle.ledger.proofs.sound.schemes_sound.Statement.{statement}
 use Rattle.ledger.proofs.sound.schemes_sound.Tie as tie
 
 abbrev Inv-loop : tie.InvT-loop
-Inv-loop month count schemes tallies i₀ i = (i ≤ count) × ((parties : List Party) → Tallied tallies parties → schemesSound month parties 1 (take count schemes) ≡ schemesSound month parties (suc i) (drop i (take count schemes)))
+Inv-loop month count schemes tallies i₀ i =
+    (i ≤ count) ×
+    ((parties : List Party) → Tallied count tallies parties →
+    schemesSound month parties 1 (take count schemes) ≡ schemesSound month parties (suc i) (drop i (take count schemes)))
 
 abbrev μ-loop : tie.MeasureT-loop
 μ-loop month count schemes tallies i₀ i = count - i
@@ -31,32 +33,17 @@ array-copy-out-scheme-sound c = search needs
 mul-scheme-sound-2 : tie.Need-mul-scheme-sound-2 Inv-loop μ-loop
 mul-scheme-sound-2 c = search needs
 
-element-copy-out-scheme-sound : tie.Need-element-copy-out-scheme-sound Inv-loop μ-loop
-element-copy-out-scheme-sound c = search needs
-
-mul-scheme-sound-3 : tie.Need-mul-scheme-sound-3 Inv-loop μ-loop
-mul-scheme-sound-3 c = search needs
-
-element-copy-out-scheme-sound-2 : tie.Need-element-copy-out-scheme-sound-2 Inv-loop μ-loop
-element-copy-out-scheme-sound-2 c = search needs
-
-mul-scheme-sound-4 : tie.Need-mul-scheme-sound-4 Inv-loop μ-loop
-mul-scheme-sound-4 c = search needs
-
-element-copy-out-scheme-sound-3 : tie.Need-element-copy-out-scheme-sound-3 Inv-loop μ-loop
-element-copy-out-scheme-sound-3 c = search needs
-
-mul-scheme-sound-5 : tie.Need-mul-scheme-sound-5 Inv-loop μ-loop
-mul-scheme-sound-5 c = search needs
-
-element-copy-out-scheme-sound-4 : tie.Need-element-copy-out-scheme-sound-4 Inv-loop μ-loop
-element-copy-out-scheme-sound-4 c = search needs
+array-copy-out-scheme-sound-2 : tie.Need-array-copy-out-scheme-sound-2 Inv-loop μ-loop
+array-copy-out-scheme-sound-2 c = search needs
 
 scheme-sound-requires : tie.Need-scheme-sound-requires Inv-loop μ-loop
-scheme-sound-requires c κs = let b : c .before .before .before .before .before .before .loop .i < 64 = search needs in (c .before .before .before .before .before .before .before .pre .1 .many _ b, c .before .before .before .before .before .before .before .pre .1 .credits _ b)
+scheme-sound-requires c κs = let below : c .before .before .before .loop .i < 64 = search needs in c .before .before .before .before .pre .1 (c .before .before .before .loop .i) below
 
 returns : tie.Need-returns Inv-loop μ-loop
-returns c = let w : c .before .before .before .before .before .before .before .before .before .args .count ≤ length (c .before .before .before .before .before .before .before .before .before .args .t2) = search needs in let h : c .before .before .before .before .before .before .before .before .loop .i < c .before .before .before .before .before .before .before .before .before .args .count = search needs in let b : c .before .before .before .before .before .before .before .before .loop .i < 64 = search needs in λ parties t. rw (c .before .before .before .before .before .before .before .before .loop .inv .1 parties t, schemes-from _ parties _ _ _ noScheme h w, ← by-tallies (c .before .before .before .before .before .before .before .before .before .args .month) (c .before .before .before .before .before .before .before .before .before .args .t4) parties (c .before .before .before .before .before .before .before .before .loop .i) _ t b, fails (c .before .scheme-sound .ensures) (c .if1 .taken))
+returns c =
+    let w : c .before .before .before .before .before .before .args .count ≤ length (c .before .before .before .before .before .before .args .t2) = search needs in
+    let h : c .before .before .before .before .before .loop .i < c .before .before .before .before .before .before .args .count = search needs in
+    λ parties t. sym (c .before .before .before .before .before .loop .inv .1 parties t ∙ schemes-stop (c .before .before .before .before .before .before .args .month) (c .before .before .before .before .before .before .args .count) (c .before .before .before .before .before .before .args .t4) parties (c .before .before .before .before .before .before .args .t2) (c .before .before .before .before .before .loop .i) noScheme t h w (c .before .scheme-sound .ensures) (c .if1 .taken))
 
 add-i : tie.Need-add-i Inv-loop μ-loop
 add-i c = search needs
@@ -65,10 +52,16 @@ loop-less : tie.Need-loop-less Inv-loop μ-loop
 loop-less c = search needs
 
 loop-again : tie.Need-loop-again Inv-loop μ-loop
-loop-again c = let w : c .before .before .before .before .before .before .before .before .before .args .count ≤ length (c .before .before .before .before .before .before .before .before .before .args .t2) = search needs in let h : c .before .before .before .before .before .before .before .before .loop .i < c .before .before .before .before .before .before .before .before .before .args .count = search needs in let b : c .before .before .before .before .before .before .before .before .loop .i < 64 = search needs in (search needs, λ parties t. rw (c .before .before .before .before .before .before .before .before .loop .inv .1 parties t, schemes-from _ parties _ _ _ noScheme h w, ← by-tallies (c .before .before .before .before .before .before .before .before .before .args .month) (c .before .before .before .before .before .before .before .before .before .args .t4) parties (c .before .before .before .before .before .before .before .before .loop .i) _ t b, passes (c .before .scheme-sound .ensures) (c .if1 .left), add-one))
+loop-again c =
+    let w : c .before .before .before .before .before .before .args .count ≤ length (c .before .before .before .before .before .before .args .t2) = search needs in
+    let h : c .before .before .before .before .before .loop .i < c .before .before .before .before .before .before .args .count = search needs in
+    (search needs, λ parties t. c .before .before .before .before .before .loop .inv .1 parties t ∙ schemes-go-on (c .before .before .before .before .before .before .args .month) (c .before .before .before .before .before .before .args .count) (c .before .before .before .before .before .before .args .t4) parties (c .before .before .before .before .before .before .args .t2) (c .before .before .before .before .before .loop .i) noScheme t h w (c .before .scheme-sound .ensures) (c .if1 .left))
 
 returns-2 : tie.Need-returns-2 Inv-loop μ-loop
-returns-2 c = let w : c .before .before .args .count ≤ length (c .before .before .args .t2) = search needs in let h : c .before .before .args .count ≤ c .before .loop .i = search needs in λ parties t. rw (c .before .loop .inv .1 parties t, schemes-end _ parties _ _ _ h w)
+returns-2 c =
+    let w : c .before .before .args .count ≤ length (c .before .before .args .t2) = search needs in
+    let h : c .before .before .args .count ≤ c .before .loop .i = search needs in
+    λ parties t. sym (c .before .loop .inv .1 parties t ∙ schemes-end _ parties _ _ _ h w)
 
 pub schemes-sound-spec : {M : Type 1} → statement M
 schemes-sound-spec =
@@ -80,13 +73,7 @@ schemes-sound-spec =
     mul-scheme-sound
     array-copy-out-scheme-sound
     mul-scheme-sound-2
-    element-copy-out-scheme-sound
-    mul-scheme-sound-3
-    element-copy-out-scheme-sound-2
-    mul-scheme-sound-4
-    element-copy-out-scheme-sound-3
-    mul-scheme-sound-5
-    element-copy-out-scheme-sound-4
+    array-copy-out-scheme-sound-2
     scheme-sound-requires
     returns
     add-i

@@ -1,3 +1,4 @@
+-- The tests are the conditions in their order; the product fits since the connections are judged first.
 use Rattle.ledger.proofs.Tests.{last-holds}
 use borrow.Author.Tests.{le-leb, lt-leb}
 use borrow.Author.Needs.{needs}

@@ -1,0 +1,123 @@
+-- What holds of every call alike: a refusal changes nothing and has one of its call's numbers, and a promise can be kept.
+use Prim.Native.Nat.{ℕ, _+_}
+use mathlib.Core.Path.{_≡_, refl}
+use mathlib.Core.List.{List, [], _∷_, _++_}
+use mathlib.Core.Bool.{true, false}
+use native.Mathlib.Omega.{arith}
+use lib.ListN.{length}
+use lib.Dec.{leb, ltb}
+use Rattle.tagged.specs.File.{refusal}
+use Rattle.tagged.specs.declared.file.Refusal.{Refusal}
+use Rattle.charge.specs.Price.{priceOf}
+use Rattle.charge.specs.PriceRefusals.{pricing-refusal-numbers}
+use Rattle.charge.specs.declared.Bill.{Bill}
+use Rattle.charge.specs.declared.Pricing.{Pricing}
+use Rattle.charge.specs.declared.Pricing.the-variants.{Priced, NotPriced}
+use Rattle.ledger.specs.Lists.{Found, none, found}
+use Rattle.ledger.specs.Books.{EntryRow, Books, entryAt}
+use Rattle.ledger.specs.Sound.{allHold, sound}
+use Rattle.ledger.specs.RefusalNumbers.{oneOf, Among, oneTo, one-of-more, within-one-to}
+use Rattle.calls.specs.ListsLaws.{by-cond}
+use Rattle.calls.specs.Verdict.{courseOf, entriesNeeded, entriesLacking, verdict}
+use Rattle.calls.specs.Decision.{Call, accept, payOut, handOver, Decision, accepted, paidOut, handedOver, refused, decidedBy, acceptBy, payOutBy, handOverBy, decided, CallAnswer, isAccepted, isDone, isRefused, answerTo}
+use Rattle.calls.specs.Carried.{State, booksOn, carriedOut}
+use Rattle.calls.specs.Calls.{decidedOn, answered, leaves, Promised}
+use Rattle.calls.specs.declared.courses.Verdict.{Verdict}
+
+refused-leaves : (state : State) (books : Books) (decision : Decision) {r : Refusal} → answerTo books decision ≡ isRefused r → carriedOut state decision ≡ state
+refused-leaves state books (accepted bill course credits) e = let z : _≡_ {A = ℕ} 0 1 = cc in absurd (omega arith)
+refused-leaves state books (paidOut s entry amount) e = let z : _≡_ {A = ℕ} 0 1 = cc in absurd (omega arith)
+refused-leaves state books (handedOver entry person) e = let z : _≡_ {A = ℕ} 0 1 = cc in absurd (omega arith)
+refused-leaves state books (refused r) e = refl
+
+-- "A refusal returns number, file .. and place, and changes nothing."
+pub refused-changes-nothing : (state : State) (call : Call) {r : Refusal} → answered state call ≡ isRefused r → leaves state call ≡ state
+unfolding answered leaves
+refused-changes-nothing state call e = refused-leaves state (booksOn state) (decidedOn state call) e
+
+-- 13, whatever the call
+pub unsound-promised : (state : State) (call : Call) → sound (state .ledger) (state .table) (length (state .table)) ≡ false →
+    Promised state call (isRefused (refusal 13 0 0)) state
+unfolding answered leaves
+unsound-promised state call unsound = record { answers = rw unsound; leaving = rw unsound }
+
+pub promise-kept : (before : State) (call : Call) → Promised before call (answered before call) (leaves before call)
+promise-kept before call = record { answers = refl; leaving = refl }
+
+-- ---- the numbers that a call refuses with: for accept pricing's 1 to 5 among them
+
+-- by the rules alone
+abbrev pub ruleNumbers : Call → List ℕ
+ruleNumbers (accept book request) = 1 ∷ 2 ∷ 3 ∷ 4 ∷ 5 ∷ 6 ∷ 7 ∷ 8 ∷ 9 ∷ 10 ∷ []
+ruleNumbers (payOut e amount) = 11 ∷ 12 ∷ []
+ruleNumbers (handOver e person) = 11 ∷ []
+
+abbrev pub callNumbers : Call → List ℕ
+callNumbers call = ruleNumbers call ++ (13 ∷ [])
+
+abbrev pub Refuses : List ℕ → CallAnswer → Type 0
+Refuses numbers (isAccepted acceptance) = Unit {0}
+Refuses numbers isDone = Unit {0}
+Refuses numbers (isRefused r) = oneOf numbers (r .number) ≡ true
+
+-- what answers a decision
+abbrev Told : Books → List ℕ → Decision → Type 0
+Told books numbers decision = Refuses numbers (answerTo books decision)
+
+abbrev VerdictTold : Books → Bill → List ℕ → Verdict → Type 0
+VerdictTold books bill numbers v = Told books numbers (decidedBy books bill v)
+
+verdict-refuses : (books : Books) (bill : Bill) (numbers : List ℕ) → Among (6 ∷ 7 ∷ 8 ∷ 9 ∷ 10 ∷ []) numbers → VerdictTold books bill numbers (verdict books bill)
+unfolding verdict
+verdict-refuses books bill numbers among =
+    let course = courseOf books bill in
+    let refuses : (n : ℕ) → oneOf (6 ∷ 7 ∷ 8 ∷ 9 ∷ 10 ∷ []) n ≡ true → oneOf numbers n ≡ true = λ n. one-of-more (6 ∷ 7 ∷ 8 ∷ 9 ∷ 10 ∷ []) numbers n among in
+    by-cond (VerdictTold books bill numbers) (leb 1000000 (books .connections)) _ _ (λ taken. refuses 10 refl)
+    (λ some.
+    by-cond (VerdictTold books bill numbers) (ltb (bill .applicant .month) (books .month)) _ _ (λ early. refuses 7 refl)
+    (λ in-order.
+    by-cond (VerdictTold books bill numbers) (leb (books .nextScheme) (bill .applicant .scheme)) _ _ (λ never. refuses 6 refl)
+    (λ was-opened.
+    by-cond (VerdictTold books bill numbers) (allHold (course .opens ∷ leb 64 (length (books .schemes)) ∷ [])) _ _ (λ many. refuses 8 refl)
+    (λ few.
+    by-cond (VerdictTold books bill numbers) (entriesLacking (length (books .entries)) (books .room) (entriesNeeded course)) _ _ (λ lacking. refuses 9 refl)
+    (λ enough. tt)))))
+
+pub decided-refuses : (books : Books) (call : Call) → Told books (ruleNumbers call) (decided books call)
+decided-refuses books (accept book request) = by-pricing (priceOf book request) refl
+  where
+    by-pricing : (pricing : Pricing) → priceOf book request ≡ pricing → Told books (ruleNumbers (accept book request)) (acceptBy books pricing)
+    by-pricing (Priced bill) e = verdict-refuses books bill (ruleNumbers (accept book request)) refl
+    by-pricing (NotPriced r) e =
+        let within = pricing-refusal-numbers book request r e in
+        one-of-more (oneTo 5) (ruleNumbers (accept book request)) (r .number) refl (within-one-to 5 (r .number) (within .0) (within .1))
+decided-refuses books (payOut e amount) = by-entry (entryAt books e)
+  where
+    by-entry : (at : Found EntryRow) → Told books (ruleNumbers (payOut e amount)) (payOutBy at amount)
+    by-entry none = refl
+    by-entry (found row) =
+        by-cond (Told books (ruleNumbers (payOut e amount))) (leb (row .paidOut + amount) (row .credited)) _ _ (λ within. tt) (λ above. refl)
+decided-refuses books (handOver e person) = by-entry (entryAt books e)
+  where
+    by-entry : (at : Found EntryRow) → Told books (ruleNumbers (handOver e person)) (handOverBy at person)
+    by-entry none = refl
+    by-entry (found row) = tt
+
+-- 13 comes before everything else, and no rule refuses with it
+with-13 : (call : Call) (answer : CallAnswer) → Refuses (ruleNumbers call) answer → Refuses (callNumbers call) answer
+with-13 call (isAccepted acceptance) told = tt
+with-13 call isDone told = tt
+with-13 (accept book request) (isRefused r) told = one-of-more (ruleNumbers (accept book request)) (callNumbers (accept book request)) (r .number) refl told
+with-13 (payOut e amount) (isRefused r) told = one-of-more (ruleNumbers (payOut e amount)) (callNumbers (payOut e amount)) (r .number) refl told
+with-13 (handOver e person) (isRefused r) told = one-of-more (ruleNumbers (handOver e person)) (callNumbers (handOver e person)) (r .number) refl told
+
+has-13 : (call : Call) → oneOf (callNumbers call) 13 ≡ true
+has-13 (accept book request) = refl
+has-13 (payOut e amount) = refl
+has-13 (handOver e person) = refl
+
+pub refusal-numbers : (state : State) (call : Call) → Refuses (callNumbers call) (answered state call)
+unfolding answered
+refusal-numbers state call =
+    by-cond (Told (booksOn state) (callNumbers call)) (sound (state .ledger) (state .table) (length (state .table))) _ _
+    (λ stands. with-13 call (answerTo (booksOn state) (decided (booksOn state) call)) (decided-refuses (booksOn state) call)) (λ unsound. has-13 call)

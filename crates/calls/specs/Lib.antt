@@ -1,0 +1,15 @@
+pub mod Rules
+pub mod Verdict
+pub mod Decision
+pub mod Carried
+pub mod Calls
+pub mod CallsLaws
+pub mod ListsLaws
+pub mod RulesLaws
+pub mod CreditColumns
+pub mod CreditColumnsLaws
+pub mod ByPlace
+pub mod VerdictHas
+pub mod VerdictLaws
+pub mod VerdictRows
+pub mod DecisionRows

@@ -1,0 +1,181 @@
+-- What a request that is accepted has: the tests that it passed, one after the other.
+use Prim.Native.Nat.{ℕ, _+_, _-_, _<_, _≤_}
+use mathlib.Core.Path.{_≡_, refl, ap, subst, _∙_}
+use mathlib.Core.List.{List, [], _∷_}
+use mathlib.Core.Bool.{Bool, true, false, cond}
+use native.Mathlib.Omega.{arith}
+use lib.ListN.{length, getD}
+use lib.Dec.{leb, ltb, eqb}
+use borrow.Author.Tests.{leb-false, ltb-true, ltb-false, eqb-true, eqb-false}
+use Rattle.charge.specs.declared.Bill.{Bill}
+use Rattle.ledger.specs.Lists.{Found, none, found}
+use Rattle.ledger.specs.Records.{noScheme}
+use Rattle.ledger.specs.Books.{SchemeRow, Books, schemeRow, booksOf, schemeAt}
+use Rattle.ledger.specs.Sound.{allHold}
+use Rattle.ledger.specs.SoundFacts.{both-true}
+use Rattle.ledger.specs.declared.records.Scheme.{Scheme}
+use Rattle.ledger.specs.declared.records.Party.{Party}
+use Rattle.ledger.specs.declared.records.Ledger.{Ledger}
+use Rattle.calls.specs.Rules.{partiesOf, capacityOf, contribution}
+use Rattle.calls.specs.Verdict.{joiningBy, joiningPart, opensScheme, courseOf, entriesNeeded, entriesLacking, verdict}
+use Rattle.calls.specs.ListsLaws.{by-cond}
+use Rattle.calls.specs.CreditColumnsLaws.{contribution-le-cost}
+use Rattle.calls.specs.ByPlace.{scheme-opened}
+use Rattle.calls.specs.declared.courses.Contribution.{Contribution}
+use Rattle.calls.specs.declared.courses.Joining.{Joining}
+use Rattle.calls.specs.declared.courses.Joining.the-variants.{NotAsked, Ended, Small, Pays}
+use Rattle.calls.specs.declared.courses.Course.{Course}
+use Rattle.calls.specs.declared.courses.Verdict.{Verdict}
+use Rattle.calls.specs.declared.courses.Verdict.the-variants.{Accepts, Refuses}
+
+-- ---- the course of an accepted request
+
+pub record CourseHas (books : Books) (bill : Bill) (course : Course) : Type 0 where
+  pub connections : books .connections < 1000000
+  pub month : books .month ≤ bill .applicant .month
+  pub opened : bill .applicant .scheme < books .nextScheme
+  pub is : course ≡ courseOf books bill
+  pub schemes : course .opens ≡ true → length (books .schemes) < 64
+  pub entries : 1 ≤ entriesNeeded course → length (books .entries) + entriesNeeded course ≤ 512
+  pub in-table : 1 ≤ entriesNeeded course → length (books .entries) + entriesNeeded course ≤ books .room
+
+abbrev pub VerdictHas : Books → Bill → Verdict → Type 0
+VerdictHas books bill (Accepts course) = CourseHas books bill course
+VerdictHas books bill (Refuses number) = Unit {0}
+
+-- entries are left, where any is needed
+record EntriesLeft (entries room needed : ℕ) : Type 0 where
+  limit : 1 ≤ needed → entries + needed ≤ 512
+  in-table : 1 ≤ needed → entries + needed ≤ room
+
+entries-left : (entries room needed : ℕ) → entriesLacking entries room needed ≡ false → EntriesLeft entries room needed
+entries-left entries room needed h = by (eqb needed 0) refl (ltb 512 (entries + needed)) refl h
+  where
+    by : (nothing : Bool) → eqb needed 0 ≡ nothing → (many : Bool) → ltb 512 (entries + needed) ≡ many →
+        cond nothing false (cond many true (ltb room (entries + needed))) ≡ false → EntriesLeft entries room needed
+    by true e many m h =
+        record { limit = λ some. absurd (omega (arith, eqb-true needed 0 e)); in-table = λ some. absurd (omega (arith, eqb-true needed 0 e)) }
+    by false e true m h = let z : _≡_ {A = ℕ} 0 1 = cc in absurd (omega arith)
+    by false e false m h = record { limit = λ some. ltb-false _ _ m; in-table = λ some. ltb-false _ _ h }
+
+not-many : (opens many : Bool) → allHold (opens ∷ many ∷ []) ≡ false → opens ≡ true → many ≡ false
+not-many true true h o = h
+not-many true false h o = refl
+not-many false many h o = let z : _≡_ {A = ℕ} 0 1 = cc in absurd (omega arith)
+
+pub verdict-has : (books : Books) (bill : Bill) → VerdictHas books bill (verdict books bill)
+unfolding verdict
+verdict-has books bill =
+    let course = courseOf books bill in
+    by-cond (VerdictHas books bill) (leb 1000000 (books .connections)) _ _ (λ taken. tt)
+    (λ some.
+    by-cond (VerdictHas books bill) (ltb (bill .applicant .month) (books .month)) _ _ (λ early. tt)
+    (λ in-order.
+    by-cond (VerdictHas books bill) (leb (books .nextScheme) (bill .applicant .scheme)) _ _ (λ never. tt)
+    (λ was-opened.
+    by-cond (VerdictHas books bill) (allHold (course .opens ∷ leb 64 (length (books .schemes)) ∷ [])) _ _ (λ many. tt)
+    (λ few.
+    by-cond (VerdictHas books bill) (entriesLacking (length (books .entries)) (books .room) (entriesNeeded course)) _ _ (λ lacking. tt)
+    (λ enough.
+    let left = entries-left (length (books .entries)) (books .room) (entriesNeeded course) enough in
+    record {
+      connections = leb-false _ _ some;
+      month = ltb-false _ _ in-order;
+      opened = leb-false _ _ was-opened;
+      is = refl;
+      schemes = λ opens. leb-false _ _ (not-many (course .opens) (leb 64 (length (books .schemes))) few opens);
+      entries = left .limit;
+      in-table = left .in-table;
+    })))))
+
+pub course-has : (books : Books) (bill : Bill) (course : Course) → verdict books bill ≡ Accepts course → CourseHas books bill course
+course-has books bill course accepts = subst (VerdictHas books bill) accepts (verdict-has books bill)
+
+-- ---- its opening
+
+pub record OpensHas (bill : Bill) : Type 0 where
+  pub none-joined : bill .applicant .scheme ≡ 0
+  pub mark : bill .applicant .mark ≡ 0
+  pub above : bill .terms .threshold < bill .reconciliation .x
+
+pub opens-has : (bill : Bill) → opensScheme bill ≡ true → OpensHas bill
+opens-has bill opens =
+    let joins = both-true (eqb (bill .applicant .scheme) 0) _ opens in
+    let marked = both-true (eqb (bill .applicant .mark) 0) _ (joins .1) in
+    record {
+      none-joined = eqb-true _ _ (joins .0);
+      mark = eqb-true _ _ (marked .0);
+      above = ltb-true _ _ (both-true (ltb (bill .terms .threshold) (bill .reconciliation .x)) true (marked .1) .0);
+    }
+
+-- ---- its joining
+
+-- a joiner that pays, with the scheme's row
+pub record PaysHas (books : Books) (bill : Bill) (paid : Contribution) : Type 0 where
+  pub numbered : 1 ≤ bill .applicant .scheme
+  pub row : SchemeRow
+  pub stands : schemeAt books (bill .applicant .scheme) ≡ found row
+  pub running : bill .applicant .month < row .opening + row .term
+  pub collected : paid .collected ≡ contribution (row .cost) (bill .applicant .capacity) (capacityOf (partiesOf (bill .applicant .scheme) books))
+  pub fee : paid .fee ≡ row .fee
+  pub capacity : paid .capacity ≡ capacityOf (partiesOf (bill .applicant .scheme) books)
+  pub minimum : row .minimum ≤ paid .collected
+
+abbrev pub JoiningHas : Books → Bill → Joining → Type 0
+JoiningHas books bill NotAsked = Unit {0}
+JoiningHas books bill Ended = Unit {0}
+JoiningHas books bill Small = Unit {0}
+JoiningHas books bill (Pays paid) = PaysHas books bill paid
+
+pub joining-has : (books : Books) (bill : Bill) → JoiningHas books bill (joiningPart books bill)
+joining-has books bill =
+    by-cond (JoiningHas books bill) (eqb (bill .applicant .scheme) 0) _ _ (λ none. tt)
+    (λ asked. by-row (schemeAt books (bill .applicant .scheme)) refl (some-number (bill .applicant .scheme) (eqb-false _ _ asked)))
+  where
+    some-number : (s : ℕ) → (s ≡ 0 → ⊥) → 1 ≤ s
+    some-number s other = omega (arith, other)
+
+    by-row : (at : Found SchemeRow) → schemeAt books (bill .applicant .scheme) ≡ at → 1 ≤ bill .applicant .scheme →
+        JoiningHas books bill (joiningBy books bill at)
+    by-row none stands numbered = tt
+    by-row (found row) stands numbered =
+        let G = contribution (row .cost) (bill .applicant .capacity) (capacityOf (partiesOf (bill .applicant .scheme) books)) in
+        by-cond (JoiningHas books bill) (leb (row .opening + row .term) (bill .applicant .month)) _ _ (λ ended. tt)
+        (λ running.
+        by-cond (JoiningHas books bill) (ltb G (row .minimum)) _ _ (λ small. tt)
+        (λ enough.
+        record {
+          numbered = numbered;
+          row = row;
+          stands = stands;
+          running = leb-false _ _ running;
+          collected = refl;
+          fee = refl;
+          capacity = refl;
+          minimum = ltb-false _ _ enough;
+        }))
+
+-- by the scheme's place: the fee, at most G, and G at most the cost
+pub record PaysAt (schemes : List Scheme) (bill : Bill) (paid : Contribution) : Type 0 where
+  pub fee : paid .fee ≡ getD schemes (bill .applicant .scheme - 1) noScheme .fee
+  pub minimum : getD schemes (bill .applicant .scheme - 1) noScheme .minimum ≤ paid .collected
+  pub cost : paid .collected ≤ getD schemes (bill .applicant .scheme - 1) noScheme .cost
+
+pub pays-at : (ledger : Ledger) (table : List Party) (bill : Bill) (paid : Contribution) → PaysHas (booksOf ledger table) bill paid →
+    bill .applicant .scheme ≤ ledger .count → ledger .count ≤ length (ledger .schemes) → PaysAt (ledger .schemes) bill paid
+pays-at ledger table bill paid has opened places =
+    let s = bill .applicant .scheme in
+    let scheme : Scheme = getD (ledger .schemes) (s - 1) noScheme in
+    let row : has .row ≡ schemeRow s scheme =
+    cc (has .stands, scheme-opened ledger table s (has .numbered) opened places) in
+    record {
+      fee = has .fee ∙ ap (λ r. r .fee) row;
+      minimum = omega (arith, has .minimum, ap (λ r. r .minimum) row);
+      cost =
+          omega (
+            arith,
+            has .collected,
+            contribution-le-cost (has .row .cost) (bill .applicant .capacity) (capacityOf (partiesOf s (booksOf ledger table))),
+            ap (λ r. r .cost) row,
+          );
+    }

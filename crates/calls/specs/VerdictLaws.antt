@@ -1,0 +1,44 @@
+-- The verdict by its cases, in document 01's order of refusals: 10, 7, 6, 8, 9.
+use Prim.Native.Nat.{_<_, _≤_}
+use mathlib.Core.Path.{_≡_}
+use mathlib.Core.List.{[], _∷_}
+use mathlib.Core.Bool.{true, false}
+use lib.ListN.{length}
+use lib.Dec.{leb}
+use borrow.Author.Tests.{le-leb, lt-leb, lt-ltb, le-ltb}
+use Rattle.charge.specs.declared.Bill.{Bill}
+use Rattle.ledger.specs.Books.{Books}
+use Rattle.ledger.specs.Sound.{allHold}
+use Rattle.calls.specs.Verdict.{courseOf, entriesNeeded, entriesLacking, courseVerdict, verdict}
+use Rattle.calls.specs.declared.courses.Course.{Course}
+use Rattle.calls.specs.declared.courses.Verdict.the-variants.{Accepts, Refuses}
+
+module _ (books : Books) (bill : Bill) where
+  pub verdict-refused-10 : 1000000 ≤ books .connections → verdict books bill ≡ Refuses 10
+  unfolding verdict
+  verdict-refused-10 taken = rw (le-leb _ _ taken)
+
+  module _ (left : books .connections < 1000000) where
+    pub verdict-refused-7 : bill .applicant .month < books .month → verdict books bill ≡ Refuses 7
+    unfolding verdict
+    verdict-refused-7 earlier = rw (lt-leb _ _ left, lt-ltb _ _ earlier)
+
+    module _ (in-order : books .month ≤ bill .applicant .month) where
+      pub verdict-refused-6 : books .nextScheme ≤ bill .applicant .scheme → verdict books bill ≡ Refuses 6
+      unfolding verdict
+      verdict-refused-6 never = rw (lt-leb _ _ left, le-ltb _ _ in-order, le-leb _ _ never)
+
+      pub verdict-course : bill .applicant .scheme < books .nextScheme → verdict books bill ≡ courseVerdict books (courseOf books bill)
+      unfolding verdict
+      verdict-course opened = rw (lt-leb _ _ left, le-ltb _ _ in-order, lt-leb _ _ opened)
+
+module _ (books : Books) (course : Course) where
+  pub course-refused-8 : allHold (course .opens ∷ leb 64 (length (books .schemes)) ∷ []) ≡ true → courseVerdict books course ≡ Refuses 8
+  course-refused-8 all = rw all
+
+  module _ (some : allHold (course .opens ∷ leb 64 (length (books .schemes)) ∷ []) ≡ false) where
+    pub course-refused-9 : entriesLacking (length (books .entries)) (books .room) (entriesNeeded course) ≡ true → courseVerdict books course ≡ Refuses 9
+    course-refused-9 lacking = rw (some, lacking)
+
+    pub course-accepted : entriesLacking (length (books .entries)) (books .room) (entriesNeeded course) ≡ false → courseVerdict books course ≡ Accepts course
+    course-accepted enough = rw (some, enough)

@@ -1,0 +1,5 @@
+pub mod Lengths
+pub mod Entering
+pub mod Steps
+pub mod EntryChanged
+pub mod KeptSound

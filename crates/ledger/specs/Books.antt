@@ -1,0 +1,87 @@
+-- What every rule reads, wherever it is kept: a ledger and its table give it, and so does the history of the calls. Schemes and entries go by their
+-- numbers. A figure of a scheme is taken over that scheme's own rows: restrict first, then compute.
+use Prim.Native.Nat.{ℕ, _+_}
+use mathlib.Core.List.{List}
+use lib.ListN.{length, take}
+use lib.Dec.{eqb}
+use Rattle.ledger.specs.Lists.{keep, numberedFrom, Found, first}
+use Rattle.ledger.specs.declared.records.Scheme.{Scheme}
+use Rattle.ledger.specs.declared.records.Party.{Party}
+use Rattle.ledger.specs.declared.records.Ledger.{Ledger}
+
+-- what a scheme was opened with
+pub record SchemeRow : Type 0 where
+  pub number : ℕ
+  pub cost : ℕ
+  pub fee : ℕ
+  pub minimum : ℕ
+  -- month of opening, and term in months
+  pub opening : ℕ
+  pub term : ℕ
+
+pub record EntryRow : Type 0 where
+  pub number : ℕ
+  pub scheme : ℕ
+  pub capacity : ℕ
+  pub credited : ℕ
+  pub paidOut : ℕ
+
+pub record Books : Type 0 where
+  pub connections : ℕ
+  -- the last accepted month
+  pub month : ℕ
+  -- the numbers that the next scheme and the next entry get
+  pub nextScheme : ℕ
+  pub nextEntry : ℕ
+  -- the length of the party table
+  pub room : ℕ
+  -- in the order of their numbers
+  pub schemes : List SchemeRow
+  pub entries : List EntryRow
+
+-- ---- by number
+
+abbrev pub schemeAt : Books → ℕ → Found SchemeRow
+schemeAt books s = first (keep (λ row. eqb (row .number) s) (books .schemes))
+
+abbrev pub entryAt : Books → ℕ → Found EntryRow
+entryAt books e = first (keep (λ row. eqb e (row .number)) (books .entries))
+
+-- the entries of scheme s
+abbrev pub ofScheme : ℕ → List EntryRow → List EntryRow
+ofScheme s rows = keep (λ row. eqb (row .scheme) s) rows
+
+-- ---- as a ledger and its table show them: schemes and entries are "numbered from 1"
+
+abbrev pub schemeRow : ℕ → Scheme → SchemeRow
+schemeRow number scheme =
+    record {
+      number = number;
+      cost = scheme .cost;
+      fee = scheme .fee;
+      minimum = scheme .minimum;
+      opening = scheme .opening;
+      term = scheme .term;
+    }
+
+abbrev pub entryRow : ℕ → Party → EntryRow
+entryRow number party =
+    record {
+      number = number;
+      scheme = party .scheme;
+      capacity = party .capacity;
+      credited = party .credited;
+      paidOut = party .«paid_out»;
+    }
+
+abbrev pub booksOf : Ledger → List Party → Books
+booksOf ledger table =
+    record {
+      connections = ledger .connections;
+      month = ledger .month;
+      nextScheme = ledger .count + 1;
+      nextEntry = ledger .entries + 1;
+      room = length table;
+      schemes = numberedFrom 1 schemeRow (take (ledger .count) (ledger .schemes));
+      entries = numberedFrom 1 entryRow (take (ledger .entries) table);
+    }
