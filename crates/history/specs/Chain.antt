@@ -193,3 +193,8 @@ pub chain-capacities : (c : List Entering) → Chain c → All (λ e. 1 ≤ e .b
 chain-capacities [] h = nil
 chain-capacities (e ∷ []) h = more {x = e} (h .some-capacity) nil
 chain-capacities (e ∷ d ∷ older) h = more {x = e} (h .0 .some-capacity) (chain-capacities (d ∷ older) (h .1))
+
+-- one opening, and it is the scheme's own
+pub chain-opened : (e : Entering) (c : List Entering) → Chain (e ∷ c) → sumBy (λ e. cond (e .opens) 1 0) (e ∷ c) ≡ 1
+chain-opened e [] h = omega (arith, ap {B = ℕ} (λ (t : Bool). cond t 1 0) (h .opens))
+chain-opened e (d ∷ older) h = omega (arith, chain-opened d older (h .1), ap {B = ℕ} (λ (t : Bool). cond t 1 0) (h .0 .joins))

@@ -1,5 +1,5 @@
 -- Demand 3: what holds after every list of calls. Each line is held against the history of the calls alone.
-use Prim.Native.Nat.{ℕ, _+_, _≤_}
+use Prim.Native.Nat.{ℕ, _+_, _≤_, _<_}
 use mathlib.Core.Path.{_≡_}
 use mathlib.Core.List.{List, [], _∷_}
 use lib.ListN.{length, take, drop}
@@ -10,13 +10,18 @@ use Rattle.calls.specs.Decision.{Call, CallAnswer, isAccepted, isDone, isRefuse
 use Rattle.calls.specs.Carried.{State}
 use Rattle.calls.specs.Calls.{stateOf, Trace, AllFit}
 use Rattle.history.specs.Fair.{Fair}
-use Rattle.history.specs.History.{Entering, Account, History, accountOf, cost, fee, joinings, collected, fees, credited, paidOf, standing, capacity, putIns, creditedTo, paidTo, charged, borne, costEntered, ledgerIn, partiesIn, historyOf, answersOf}
+use Rattle.history.specs.History.{Entering, Account, History, accountOf, cost, fee, joinings, collected, fees, credited, paidOf, standing, capacity, putIns, creditedTo, paidTo, charged, borne, costEntered, openings, times, ledgerIn, partiesIn, historyOf, answersOf}
 
--- A scheme's two accounts. What is collected is credited or a fee, so that no subtraction in `standing` hides a pay-out above what was credited.
+-- A scheme's accounts.
 pub record Balanced (account : Account) : Type 0 where
   -- "contributions collected = paid out + standing credits + fees"
   pub collected-whole : collected (account .entered) ≡ paidOf (account .paid) + standing account + fees (account .entered)
+  -- `standing` subtracts over natural numbers, and hides nothing: by this line and the one above paid out and standing come to credited, so that no pay-out
+  -- is above what was credited
   pub collected-credited : collected (account .entered) ≡ credited (account .entered) + fees (account .entered)
+  -- what the scheme credited and paid out, its parties were credited and paid out
+  pub credited-parties : credited (account .entered) ≡ sumBy (λ e. creditedTo (e .entry) (account .entered)) (account .entered)
+  pub paid-parties : paidOf (account .paid) ≡ sumBy (λ e. paidTo (e .entry) (account .paid)) (account .entered)
   -- "Scheme cost + fees = the sum over its parties of what each put in less what it was credited", without a difference
   pub cost-borne :
       cost (account .entered) + fees (account .entered) + sumBy (λ e. creditedTo (e .entry) (account .entered)) (account .entered)
@@ -30,6 +35,12 @@ pub record PartyHolds (account : Account) (e : Entering) : Type 0 where
   pub some-capacity : 1 ≤ e .bill .applicant .capacity
   pub paid-within : paidTo (e .entry) (account .paid) ≤ creditedTo (e .entry) (account .entered)
 
+-- Numbers from 1 on, each given once and no other: how often one was given is a sum of ones.
+pub record EachOnce {A : Type 0} (number : A → ℕ) (given : List A) : Type 0 where
+  pub once : (n : ℕ) → 1 ≤ n → n ≤ length given → times number n given ≡ 1
+  pub none-past : (n : ℕ) → length given < n → times number n given ≡ 0
+  pub none-at-0 : times number 0 given ≡ 0
+
 -- no call is refused with 13
 abbrev pub Not13 : CallAnswer → Type 0
 Not13 (isAccepted acceptance) = Unit {0}
@@ -41,6 +52,14 @@ pub record HoldsAfter (start : List Party) (history : History) (calls : List Cal
   pub balanced : (s : ℕ) → Balanced (accountOf s history)
   -- a party is an entry, made by an opening or a joining
   pub parties : All (λ e. PartyHolds (accountOf (e .scheme) history) e) (history .entered)
+  -- "up to 64 schemes, numbered from 1 in order of opening"; "at most 512 and at most the table's length", "numbered from 1"
+  pub schemes-limit : length (openings (history .entered)) ≤ 64
+  pub entries-limit : length (history .entered) ≤ 512
+  pub in-table : length (history .entered) ≤ length start
+  pub schemes-once : EachOnce (λ e. e .scheme) (openings (history .entered))
+  pub entries-once : EachOnce (λ e. e .entry) (history .entered)
+  -- the scheme of every entry was opened
+  pub schemes-opened : All (λ e. times (λ o. o .scheme) (e .scheme) (openings (history .entered)) ≡ 1) (history .entered)
   -- "Over all accepted requests, cost entered = charged to applicants + borne by the company."
   pub reconciled : costEntered history ≡ charged history + borne history
   -- number, file and place of a refusal and the reconciliation's figures included

@@ -12,11 +12,11 @@ use Rattle.calls.specs.Carried.{State}
 use Rattle.calls.specs.Calls.{stateOf, answered, leaves, Trace, AllFit}
 use Rattle.calls.specs.Calls as calling
 use Rattle.calls.specs.ListsLaws.{all-by-key}
-use Rattle.history.specs.History.{Entering, History, accountOf, booksIn, partyIn, partiesIn, withCall, answerBy, historyFrom, answersFrom, noHistory, historyOf}
+use Rattle.history.specs.History.{Entering, History, accountOf, openings, booksIn, partyIn, partiesIn, withCall, answerBy, historyFrom, answersFrom, noHistory, historyOf}
 use Rattle.history.specs.Demand.{PartyHolds, Not13, EveryListOfCalls}
 use Rattle.history.specs.Standing.{balanced, parties-hold}
-use Rattle.history.specs.SoundHistory.{numbered-in}
-use Rattle.history.specs.Numbering.{length-shown}
+use Rattle.history.specs.SoundHistory.{numbered-in, schemes-opened}
+use Rattle.history.specs.Numbering.{each-once, length-shown}
 use Rattle.history.specs.Shows.{entries-on}
 use Rattle.history.specs.NeverUnsound.{decided-not-13}
 use Rattle.history.specs.ShownState.{ShownState, shown-new, shown-answer, shown-step}
@@ -56,6 +56,12 @@ every-list-of-calls start calls answers after fit trace =
       parties =
           all-by-key (λ (s : ℕ) (e : Entering). PartyHolds (accountOf s h) e) (λ (e : Entering). e .scheme) (h .entered)
           (λ s. parties-hold (h .nextEntry) (accountOf s h) (numbered-in h sound s) (sound .accounts s));
+      schemes-limit = end .shown .within .schemes-limit;
+      entries-limit = end .shown .within .entries-limit;
+      in-table = end .shown .within .in-table;
+      schemes-once = each-once (λ (e : Entering). e .scheme) (openings (h .entered)) (sound .schemes-counted);
+      entries-once = each-once (λ (e : Entering). e .entry) (h .entered) (sound .entries-counted);
+      schemes-opened = schemes-opened h sound;
       reconciled = sound .bills-add-up;
       answered = end .answers-are;
       never-13 = end .not-13;

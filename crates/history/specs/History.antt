@@ -131,6 +131,10 @@ costEntered history = sumBy (λ bill. bill .reconciliation .entered) (history .b
 abbrev pub openings : List Entering → List Entering
 openings entered = keep (λ e. e .opens) entered
 
+-- how often this number was given
+abbrev pub times : {A : Type 0} → (A → ℕ) → ℕ → List A → ℕ
+times number n given = sumBy (λ x. cond (eqb (number x) n) 1 0) given
+
 abbrev pub schemeRowIn : Entering → SchemeRow
 schemeRowIn e =
     record {

@@ -1,6 +1,9 @@
 pub mod History
 pub mod Fair
 pub mod Demand
+pub mod PricedCalls
+pub mod AccountRows
+pub mod BoundRows
 pub mod Split
 pub mod FairLaws
 pub mod Chain
@@ -14,4 +17,3 @@ pub mod NeverUnsound
 pub mod ShownState
 pub mod EveryListOfCalls
 pub mod CreditedGrows
-pub mod TightBounds

@@ -1,19 +1,49 @@
--- Numbers from 1 in the order of coming, where the newest stands first; and records at the start of a list that stand there already.
-use Prim.Native.Nat.{ℕ, suc, _+_, _-_, _≤_}
+-- Numbers from 1 in the order of coming, where the newest stands first.
+use Prim.Native.Nat.{ℕ, suc, _+_, _≤_, _<_}
 use mathlib.Core.Path.{_≡_, refl, sym, ap, ap₂, _∙_}
 use mathlib.Core.List.{List, [], _∷_, _++_, map, map-append}
 use native.Mathlib.Omega.{arith}
 use native.Mathlib.Nat.{add-zero}
-use lib.ListN.{length, take, drop, length-append, length-map}
-use lib.Seq.{take-at, drop-append-add, drop-drop}
+use lib.ListN.{length, length-append, length-map}
+use lib.Dec.{eqb}
+use borrow.Author.Tests.{eqb-true, eqb-false}
 use Rattle.ledger.specs.Lists.{numberedFrom, inOrder, All}
-use Rattle.calls.specs.Carried.{atStart}
-use Rattle.calls.specs.ListsLaws.{map-same, all-inOrder}
+use Rattle.calls.specs.ListsLaws.{by-test, map-same, all-inOrder}
+use Rattle.calls.specs.RulesLaws.{where-other}
+use Rattle.history.specs.History.{times}
+use Rattle.history.specs.Demand.{EachOnce}
 
 -- each has the number of its place from the oldest on
 abbrev pub Counted : {A : Type 0} → (A → ℕ) → List A → Type 0
 Counted number [] = Unit {0}
 Counted number (x ∷ older) = (number x ≡ length older + 1) × Counted number older
+
+-- so that each number up to their count was given once, and no other
+module _ {A : Type 0} (number : A → ℕ) (n : ℕ) where
+  counted-none : (xs : List A) → Counted number xs → ((place : ℕ) → place < length xs → place + 1 ≡ n → ⊥) → times number n xs ≡ 0
+  counted-none [] counted apart = refl
+  counted-none (x ∷ older) counted apart =
+      omega (
+        arith,
+        counted-none older (counted .1) (λ place below. apart place (omega arith)),
+        where-other (number x) n 1 (λ same. apart (length older) (omega arith) (sym (counted .0) ∙ same)),
+      )
+
+  counted-once : (xs : List A) → Counted number xs → 1 ≤ n → n ≤ length xs → times number n xs ≡ 1
+  counted-once [] counted some within = absurd (omega arith)
+  counted-once (x ∷ older) counted some within =
+      by-test (eqb (number x) n)
+      (λ here. rw here (omega (arith, counted-none older (counted .1) (λ place below same. omega (arith, eqb-true (number x) n here, counted .0)))))
+      (λ elsewhere.
+      rw elsewhere (omega (arith, counted-once older (counted .1) some (omega (arith, eqb-false (number x) n elsewhere, counted .0)))))
+
+pub each-once : {A : Type 0} (number : A → ℕ) (xs : List A) → Counted number xs → EachOnce number xs
+each-once number xs counted =
+    record {
+      once = λ n. counted-once number n xs counted;
+      none-past = λ n past. counted-none number n xs counted (λ place below same. omega arith);
+      none-at-0 = counted-none number 0 xs counted (λ place below same. omega arith);
+    }
 
 pub length-inOrder : {A : Type 0} (xs : List A) → length (inOrder xs) ≡ length xs
 length-inOrder [] = refl
@@ -51,20 +81,3 @@ pub shown-more : {A B : Type 0} (new : A → B) (x : A) (xs : List A) (shown : L
     shown ++ (last ∷ []) ≡ map new (inOrder (x ∷ xs))
 shown-more {B} new x xs shown last same same-last =
     ap₂ (λ (l : List B) (y : B). l ++ (y ∷ [])) same same-last ∙ sym (map-append new (inOrder xs) (x ∷ []))
-
--- ---- records at the start
-
-module _ {A : Type 0} where
-  pub take-at-start : (xs before : List A) (n : ℕ) → length xs ≡ n → take n (atStart xs before) ≡ xs
-  take-at-start xs before n same = take-at xs (drop (length xs) before) n same
-
-  -- over fewer that stood there
-  pub at-start-again : (xs ys before : List A) → length ys ≤ length xs → atStart xs (atStart ys before) ≡ atStart xs before
-  at-start-again xs ys before fewer =
-      let k = length xs - length ys in
-      let many : length ys + k ≡ length xs = omega arith in
-      ap (λ (l : List A). xs ++ l)
-      (ap (λ (n : ℕ). drop n (atStart ys before)) (sym many)
-      ∙ drop-append-add ys (drop (length ys) before) k
-      ∙ drop-drop k (length ys) before
-      ∙ ap (λ (n : ℕ). drop n before) many)

@@ -20,13 +20,14 @@ use Rattle.calls.specs.Carried.{State, booksOn, schemesOn, entriesOn, atStart, 
 use Rattle.calls.specs.Calls.{stateOf}
 use Rattle.calls.specs.ListsLaws.{all-map, all-any, all-keep, all-inOrder, map-same}
 use Rattle.calls.specs.ByPlace.{length-at-start}
+use Rattle.kept_sound.specs.AtStart.{take-at-start, at-start-again}
 use Rattle.calls.specs.declared.courses.Contribution.{Contribution}
 use Rattle.calls.specs.declared.courses.Joining.the-variants.{Pays}
 use Rattle.history.specs.History.{Entering, Payment, HandOver, History, enteringsOf, paymentsOf, fee, fees, creditedTo, paidTo, personOf, connections, charged, borne, openings, booksIn, schemeIn, schemesIn, ledgerIn, partyBy, partyIn, partiesIn, entersIn, joiner, opener, paidIn, handedIn}
 use Rattle.history.specs.Split.{all-below}
 use Rattle.history.specs.Chain.{Opens, Joins, joiner-uncredited, fees-more, fees-none, opener-uncredited}
 use Rattle.history.specs.SoundHistory.{SoundHistory, numbered, unpaid, no-enterings}
-use Rattle.history.specs.Numbering.{length-shown, by-number, shown-each, shown-more, take-at-start, at-start-again}
+use Rattle.history.specs.Numbering.{length-shown, by-number, shown-each, shown-more}
 
 -- the ledger and the table that show a history, from this table at the start
 abbrev pub stateIn : List Party → History → State

@@ -1,6 +1,6 @@
 -- What is known of a history between calls, and that each change of it keeps this: a change touches one scheme's account, and gives the next numbers.
 use Prim.Native.Nat.{ℕ, _+_, _≤_, _<_}
-use mathlib.Core.Path.{_≡_, refl, subst}
+use mathlib.Core.Path.{_≡_, refl, sym, ap, subst, _∙_}
 use mathlib.Core.List.{List, [], _∷_}
 use mathlib.Core.Bool.{Bool, true, false, cond}
 use native.Mathlib.Omega.{arith}
@@ -9,13 +9,13 @@ use lib.Dec.{eqb}
 use borrow.Author.Tests.{eqb-true, ne-eqb}
 use Rattle.charge.specs.PriceFacts.{BillWithin}
 use Rattle.charge.specs.declared.Bill.{Bill}
-use Rattle.ledger.specs.Lists.{consIf, keep, All, nil, more}
+use Rattle.ledger.specs.Lists.{consIf, keep, sumBy, All, nil, more}
 use Rattle.calls.specs.Rules.{Credit}
-use Rattle.calls.specs.ListsLaws.{all-map, all-keep, keep-none, sumBy-none}
+use Rattle.calls.specs.ListsLaws.{all-any, all-by-key, all-map, all-keep, keep-none, keep-swap, sumBy-keep, sumBy-none}
 use Rattle.calls.specs.RulesLaws.{where-other}
-use Rattle.history.specs.History.{Entering, Payment, HandOver, History, accountOf, enteringsOf, paymentsOf, creditedTo, paidTo, charged, borne, costEntered, openings, billedIn, entersIn, joiner, opener, paidIn, handedIn, noHistory}
+use Rattle.history.specs.History.{Entering, Payment, HandOver, History, accountOf, enteringsOf, paymentsOf, creditedTo, paidTo, charged, borne, costEntered, openings, times, billedIn, entersIn, joiner, opener, paidIn, handedIn, noHistory}
 use Rattle.history.specs.Split.{Numbered, numbered-up}
-use Rattle.history.specs.Chain.{Opens, Joins}
+use Rattle.history.specs.Chain.{Opens, Joins, Chain, chain-opened}
 use Rattle.history.specs.Standing.{Stands, stands-none, stands-joined, stands-opened, stands-paid}
 use Rattle.history.specs.Numbering.{Counted}
 
@@ -68,6 +68,26 @@ numbered-keep test next (e ∷ older) n =
 
 pub numbered-in : (h : History) → SoundHistory h → (s : ℕ) → Numbered (h .nextEntry) (accountOf s h .entered)
 numbered-in h sound s = numbered-keep (λ e. eqb (e .scheme) s) (h .nextEntry) (h .entered) (numbered h sound)
+
+-- ---- the scheme of every entry was opened
+
+opened-times : (s : ℕ) (c : List Entering) →
+    times (λ e. e .scheme) s (openings c) ≡ sumBy (λ e. cond (e .opens) 1 0) (enteringsOf s c)
+opened-times s c =
+    sym (sumBy-keep (λ (e : Entering). 1) (λ (e : Entering). eqb (e .scheme) s) (openings c))
+    ∙ ap (sumBy (λ (e : Entering). 1)) (keep-swap (λ (e : Entering). eqb (e .scheme) s) (λ (e : Entering). e .opens) c)
+    ∙ sumBy-keep (λ (e : Entering). 1) (λ (e : Entering). e .opens) (enteringsOf s c)
+
+pub schemes-opened : (h : History) → SoundHistory h →
+    All (λ e. times (λ o. o .scheme) (e .scheme) (openings (h .entered)) ≡ 1) (h .entered)
+schemes-opened h sound =
+    all-by-key (λ (s : ℕ) (e : Entering). times (λ o. o .scheme) s (openings (h .entered)) ≡ 1) (λ (e : Entering). e .scheme) (h .entered)
+    (λ s. of-account s (enteringsOf s (h .entered)) (opened-times s (h .entered)) (sound .accounts s .chain))
+  where
+    of-account : (s : ℕ) (c : List Entering) → times (λ o. o .scheme) s (openings (h .entered)) ≡ sumBy (λ e. cond (e .opens) 1 0) c → Chain c →
+        All (λ e. times (λ o. o .scheme) s (openings (h .entered)) ≡ 1) c
+    of-account s [] same chain = nil
+    of-account s (e ∷ c) same chain = all-any (e ∷ c) (λ _. same ∙ chain-opened e c chain)
 
 -- ---- billed
 

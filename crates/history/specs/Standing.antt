@@ -41,6 +41,8 @@ balanced next a n stands =
     record {
       collected-whole = omega (arith, within, holds .collected-credited);
       collected-credited = holds .collected-credited;
+      credited-parties = sym (holds .credited-parties);
+      paid-parties = stands .paid-whole;
       cost-borne = omega (arith, holds .put-in, holds .collected-credited, holds .credited-parties);
     }
 

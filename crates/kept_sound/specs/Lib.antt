@@ -3,3 +3,5 @@ pub mod Entering
 pub mod Steps
 pub mod EntryChanged
 pub mod KeptSound
+pub mod AtStart
+pub mod KeptByCalls

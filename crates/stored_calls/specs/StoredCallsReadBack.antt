@@ -1,46 +1,125 @@
--- What a done call writes reads back as the ledger and the entries that the call comes to, where these are as code is handed them: each value within
--- its width.
-use Prim.Native.Nat.{ℕ, _≤_, min}
-use mathlib.Core.Path.{_≡_, refl, ap, _∙_}
+-- What a done call writes reads back as the ledger and the table that the call leaves: a stored ledger that was read has each value within its width, and
+-- calls keep it so.
+use Prim.Native.Nat.{ℕ, zero, suc, _+_, _-_, _^_, _<_, _≤_}
+use mathlib.Core.Path.{_≡_, refl, sym, ap, subst, _∙_}
 use mathlib.Core.List.{List}
 use mathlib.Core.Bool.{true, false≢true}
 use native.Mathlib.Omega.{arith}
-use lib.ListN.{length, take}
+use lib.ListN.{length, take, drop, length-take, length-replicate}
+use Rattle.numbers.specs.BigEndian.{Bytes, numberAt}
+use Rattle.numbers.specs.BigEndianLaws.{Bytes-take, Bytes-drop, number-below}
+use Rattle.field_walk.specs.Walk.{FieldAt, valueOf}
+use Rattle.tagged.specs.Find.{fieldsOf, fieldsWith, firstPlace, fieldValue}
+use Rattle.tagged.specs.File.{fieldsPart}
+use Rattle.tagged.specs.WalkFinds.{Bytes-part}
 use Rattle.tagged.specs.declared.file.Standing.{Standing}
 use Rattle.tagged.specs.declared.file.Standing.the-variants as Standing
+use Rattle.ledger.specs.Lists.{All}
 use Rattle.ledger.specs.Records.{noParties, newLedger}
-use Rattle.ledger.specs.SoundFacts.{sound-means}
+use Rattle.ledger.specs.SoundFacts.{SoundLedger, sound-means}
 use Rattle.ledger.specs.declared.records.Party.{Party}
-use Rattle.ledger.specs.declared.records.Ledger.{Ledger}
 use Rattle.calls.specs.Decision.{Call, CallAnswer, isAccepted, isDone, isRefused}
-use Rattle.calls.specs.Carried.{State}
-use Rattle.calls.specs.Calls.{answered, leaves}
-use Rattle.kept_sound.specs.KeptSound.{leaves-length}
-use Rattle.stored.specs.Layout.{placed}
-use Rattle.stored.specs.FormStands.{Handed}
-use Rattle.stored.specs.Reading.{ReadEnd}
+use Rattle.calls.specs.Carried.{State, atStart}
+use Rattle.calls.specs.Calls.{stateOf, answered, leaves, Fits}
+use Rattle.calls.specs.ListsLaws.{all-any, all-append, all-mapped}
+use Rattle.kept_sound.specs.KeptByCalls.{PersonFits, TermFits, no-terms, all-drop, Kept, call-kept}
+use Rattle.stored.specs.Layout.{valuesAt, placed}
+use Rattle.stored.specs.LayoutLaws.{take-placed}
+use Rattle.stored.specs.Form.{schemeOf, partyOf, schemesIn, entriesIn, noSchemes, storedLedger}
+use Rattle.stored.specs.Reading.{tableBy}
 use Rattle.stored.specs.Writing.{writeOf}
 use Rattle.stored.specs.RoundTrips.{written-sound, read-of-write}
 use Rattle.stored.specs.declared.writing.Written.{Written}
 use Rattle.stored.specs.declared.writing.Written.the-variants as Written
 use Rattle.stored_calls.specs.StoredCalls.{StoredCallAnswer, notRead, notMade, madeAccepted, madeDone, CallEnd, storedRead, writtenAnswer, endBy, onceRead, storedCallOf}
-use Rattle.stored_calls.specs.StoredCallsFacts.{length-room, table-length, isMade}
-use Rattle.stored_calls.specs.StoredCallsRefusals.{stateRead, places-read}
+use Rattle.stored_calls.specs.StoredCallsFacts.{length-room, table-length, answer-of-read, isMade}
+use Rattle.stored_calls.specs.StoredCallsRefusals.{stateRead, places-read, sound-read}
+use Rattle.stored_calls.specs.Handed.{handed-of-kept}
 
--- a ledger and its entries, as they are read into a table of so many records, 512 at most
-abbrev pub asRead : ℕ → Ledger → List Party → ReadEnd
-asRead room ledger table = record { answer = Standing.Stands; ledger = ledger; table = placed (take (ledger .entries) table) (take room noParties) }
+-- ---- what was read is as calls keep it
 
--- a ledger that was written was sound, and so its table had room for its entries: one as long has it again
-written-reads-back : (room : ℕ) (ledger : Ledger) (table : List Party) (out : List ℕ) (size : ℕ) → length table ≡ min room 512 →
-    Handed ledger table → writeOf ledger table out .answer ≡ Written.Length size →
-    storedRead (take size (writeOf ledger table out .output)) room ≡ asRead room ledger table
-unfolding storedRead
-written-reads-back room ledger table out size as-long handed written =
-    let holds = written-sound ledger table (length table) out size written in
-    let fits : ledger .entries ≤ length (take room noParties) =
-    omega (arith, sound-means ledger table (length table) holds .in-table, as-long, length-room room) in
-    read-of-write ledger newLedger table (take room noParties) out size handed written fits
+more-bytes : (few more : ℕ) → few ≤ more → 256 ^ few ≤ 256 ^ more
+more-bytes zero zero h = omega arith
+more-bytes zero (suc more) h = omega (arith, more-bytes zero more (omega arith))
+more-bytes (suc few) zero h = absurd (omega arith)
+more-bytes (suc few) (suc more) h = omega (arith, more-bytes few more (omega arith))
+
+-- so many bytes or fewer spell a number within that width
+within-width : (value : List ℕ) (at width : ℕ) → Bytes value → numberAt value at width < 256 ^ width
+within-width value at width bytes =
+    let part = take width (drop at value) in
+    omega (
+      arith,
+      number-below part (Bytes-take width (drop at value) (Bytes-drop at value bytes)),
+      more-bytes (length part) width (omega (arith, length-take width (drop at value))),
+    )
+
+module _ (file : List ℕ) (room : ℕ) (bytes : Bytes file) (stands : storedRead file room .answer ≡ Standing.Stands) where
+  abbrev s : List ℕ
+  s = fieldsPart file
+
+  abbrev start : List Party
+  start = take room noParties
+
+  abbrev found : State
+  found = stateOf (storedLedger s) (placed (entriesIn s) start)
+
+  was-read : stateRead file room ≡ found
+  unfolding storedRead
+  was-read =
+      ap (λ answer. stateOf (tableBy answer newLedger start s .ledger) (tableBy answer newLedger start s .table)) (sym (answer-of-read file room) ∙ stands)
+
+  fields-bytes : Bytes s
+  fields-bytes = Bytes-take (length file - 5) file bytes
+
+  value-bytes : (f : FieldAt) → Bytes (valueOf s f)
+  value-bytes f = Bytes-take (f .len) (drop (f .start) s) (Bytes-drop (f .start) s fields-bytes)
+
+  month-read : storedLedger s .month < 65536
+  unfolding storedLedger valuesAt
+  month-read = omega (arith, within-width (fieldValue 2 s) 0 2 (Bytes-part (firstPlace 2 s) s fields-bytes))
+
+  terms-read : All TermFits (storedLedger s .schemes)
+  unfolding storedLedger schemesIn placed noSchemes valuesAt
+  terms-read =
+      all-append
+      (all-mapped (λ f. schemeOf (valueOf s f)) (all-any (fieldsWith 3 (fieldsOf s)) (λ f. omega (arith, within-width (valueOf s f) 14 2 (value-bytes f)))))
+      (all-drop (length (schemesIn s)) (no-terms 64))
+
+  persons-read : All PersonFits (entriesIn s)
+  unfolding entriesIn valuesAt
+  persons-read =
+      all-mapped (λ f. partyOf (valueOf s f)) (all-any (fieldsWith 4 (fieldsOf s)) (λ f. omega (arith, within-width (valueOf s f) 2 4 (value-bytes f))))
+
+  entries-read : take (storedLedger s .entries) (placed (entriesIn s) start) ≡ entriesIn s
+  unfolding storedLedger
+  entries-read = take-placed (entriesIn s) start
+
+  kept-found : length (found .ledger .schemes) ≡ 64 → length (found .table) ≡ length start →
+      SoundLedger (found .ledger) (found .table) (length (found .table)) → Kept start found
+  unfolding placed
+  kept-found places long facts =
+      record {
+        places = places;
+        month = month-read;
+        terms = terms-read;
+        persons = subst (All PersonFits) (sym entries-read) persons-read;
+        in-places = facts .schemes;
+        in-table = facts .in-table;
+        as-long = long;
+        rest = ap (λ entries. atStart entries start) (sym entries-read);
+      }
+
+  kept-of-read : Kept start (stateRead file room)
+  kept-of-read =
+      subst (Kept start) (sym was-read)
+      (kept-found
+      (ap (λ state. length (state .ledger .schemes)) (sym was-read) ∙ places-read file room)
+      (ap (λ state. length (state .table)) (sym was-read) ∙ table-length file room ∙ sym (length-room room))
+      (subst (λ state. SoundLedger (state .ledger) (state .table) (length (state .table))) was-read
+      (sound-means (stateRead file room .ledger) (stateRead file room .table) (length (stateRead file room .table)) (sound-read file room stands))))
+
+-- ---- reading back
 
 -- the length that a call answers that was made
 abbrev pub lengthIn : StoredCallAnswer → ℕ
@@ -54,29 +133,41 @@ module _ (file : List ℕ) (room : ℕ) (call : Call) (out : List ℕ) where
   abbrev pub after : State
   after = leaves (stateRead file room) call
 
-  pub call-reads-back : Handed (after .ledger) (after .table) → isMade (storedCallOf file room call out .answer) ≡ true →
-      let end = storedCallOf file room call out in
-      storedRead (take (lengthIn (end .answer)) (end .output)) room ≡ asRead room (after .ledger) (after .table)
-  call-reads-back handed = by-read (storedRead file room .answer)
+  abbrev ReadsBack : CallEnd → Type 0
+  ReadsBack end =
+      isMade (end .answer) ≡ true →
+      storedRead (take (lengthIn (end .answer)) (end .output)) room ≡ record { answer = Standing.Stands; ledger = after .ledger; table = after .table }
+
+  -- From any stored ledger and with any output: of the bytes only that they are below 256, and of the call that its values are within their widths.
+  pub call-reads-back : Bytes file → Fits call → ReadsBack (storedCallOf file room call out)
+  unfolding storedRead placed
+  call-reads-back bytes fits = by-read (storedRead file room .answer) refl
     where
-      as-long : length (after .table) ≡ min room 512
-      as-long = leaves-length (stateRead file room) call (places-read file room) ∙ table-length file room
+      by-size : storedRead file room .answer ≡ Standing.Stands → (size : ℕ) → writeOf (after .ledger) (after .table) out .answer ≡ Written.Length size →
+          storedRead (take size (writeOf (after .ledger) (after .table) out .output)) room
+          ≡ record { answer = Standing.Stands; ledger = after .ledger; table = after .table }
+      by-size stands size w =
+          let kept = call-kept (kept-of-read file room bytes stands) call fits in
+          let holds = written-sound (after .ledger) (after .table) (length (after .table)) out size w in
+          let facts = sound-means (after .ledger) (after .table) (length (after .table)) holds in
+          read-of-write (after .ledger) newLedger (after .table) (take room noParties) out size (handed-of-kept room after kept facts) w
+          (omega (arith, facts .in-table, kept .as-long))
+          ∙ ap (λ table. record { answer = Standing.Stands; ledger = after .ledger; table = table }) (sym (kept .rest))
 
-      ReadsBack : CallEnd → Type 0
-      ReadsBack end = isMade (end .answer) ≡ true → storedRead (take (lengthIn (end .answer)) (end .output)) room ≡ asRead room (after .ledger) (after .table)
+      by-written : storedRead file room .answer ≡ Standing.Stands → (told : ℕ → StoredCallAnswer) → ((size : ℕ) → lengthIn (told size) ≡ size) →
+          (written : Written) → writeOf (after .ledger) (after .table) out .answer ≡ written →
+          ReadsBack (record { answer = writtenAnswer told written; output = writeOf (after .ledger) (after .table) out .output })
+      by-written stands told tells (Written.Length size) w h =
+          ap (λ n. storedRead (take n (writeOf (after .ledger) (after .table) out .output)) room) (tells size) ∙ by-size stands size w
+      by-written stands told tells (Written.Refused r) w h = absurd (false≢true h)
 
-      by-written : (told : ℕ → StoredCallAnswer) → ((size : ℕ) → lengthIn (told size) ≡ size) → (written : Written) →
-          writeOf (after .ledger) (after .table) out .answer ≡ written → ReadsBack (record { answer = writtenAnswer told written; output = writeOf (after .ledger) (after .table) out .output })
-      by-written told tells (Written.Length size) w h =
-          ap (λ n. storedRead (take n (writeOf (after .ledger) (after .table) out .output)) room) (tells size)
-          ∙ written-reads-back room (after .ledger) (after .table) out size as-long handed w
-      by-written told tells (Written.Refused r) w h = absurd (false≢true h)
+      by-answer : storedRead file room .answer ≡ Standing.Stands → (answer : CallAnswer) →
+          ReadsBack (endBy answer (writeOf (after .ledger) (after .table) out) out)
+      by-answer stands (isAccepted acceptance) h =
+          by-written stands (madeAccepted acceptance) (λ size. refl) (writeOf (after .ledger) (after .table) out .answer) refl h
+      by-answer stands isDone h = by-written stands madeDone (λ size. refl) (writeOf (after .ledger) (after .table) out .answer) refl h
+      by-answer stands (isRefused r) h = absurd (false≢true h)
 
-      by-answer : (answer : CallAnswer) → ReadsBack (endBy answer (writeOf (after .ledger) (after .table) out) out)
-      by-answer (isAccepted acceptance) h = by-written (madeAccepted acceptance) (λ size. refl) (writeOf (after .ledger) (after .table) out .answer) refl h
-      by-answer isDone h = by-written madeDone (λ size. refl) (writeOf (after .ledger) (after .table) out .answer) refl h
-      by-answer (isRefused r) h = absurd (false≢true h)
-
-      by-read : (answer : Standing) → ReadsBack (onceRead answer (stateRead file room) call out)
-      by-read Standing.Stands h = by-answer (answered (stateRead file room) call) h
-      by-read (Standing.Refused r) h = absurd (false≢true h)
+      by-read : (answer : Standing) → storedRead file room .answer ≡ answer → ReadsBack (onceRead answer (stateRead file room) call out)
+      by-read Standing.Stands stands h = by-answer stands (answered (stateRead file room) call) h
+      by-read (Standing.Refused r) stands h = absurd (false≢true h)

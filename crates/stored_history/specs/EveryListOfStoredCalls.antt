@@ -35,8 +35,8 @@ use Rattle.history.specs.Demand.{HoldsAfter}
 use Rattle.history.specs.Numbering.{length-shown}
 use Rattle.history.specs.EveryListOfCalls.{every-list-of-calls}
 use Rattle.kept_sound.specs.KeptSound.{call-keeps-sound}
-use Rattle.stored_history.specs.KeptByCalls.{TermFits, Kept, call-kept}
-use Rattle.stored_history.specs.Handed.{handed-of-kept}
+use Rattle.kept_sound.specs.KeptByCalls.{no-terms, Kept, call-kept}
+use Rattle.stored_calls.specs.Handed.{handed-of-kept}
 use Rattle.stored_history.specs.StoredDemand.{StoredStep, stepBy, storedStep, StoredTrace, none, more, EveryListOfStoredCalls}
 
 -- ---- what the bytes kept stand for
@@ -141,10 +141,6 @@ same-in-memory room state before (call ∷ calls) (answer ∷ answers) after h e
       in-memory = later .in-memory;
       kept = later .kept;
     }
-
-no-terms : (n : ℕ) → All TermFits (replicate n noScheme)
-no-terms zero = nil
-no-terms (suc n) = lists.more {x = noScheme} (omega arith) (no-terms n)
 
 new-in-memory : (room : ℕ) → InMemory room (stateOf newLedger (take room noParties))
 new-in-memory room =

@@ -1,4 +1,3 @@
 pub mod StoredDemand
-pub mod KeptByCalls
-pub mod Handed
+pub mod BytesKeptRows
 pub mod EveryListOfStoredCalls

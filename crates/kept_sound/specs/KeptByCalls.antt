@@ -5,7 +5,7 @@ use mathlib.Core.Path.{_≡_, refl, sym, ap, subst, _∙_}
 use mathlib.Core.List.{List, [], _∷_, _++_}
 use mathlib.Core.Bool.{Bool, true, false, cond}
 use native.Mathlib.Omega.{arith}
-use lib.ListN.{length, take, drop, length-append}
+use lib.ListN.{length, take, drop, replicate, length-append}
 use lib.Seq.{length-take-le}
 use lib.Dec.{leb, eqb}
 use Rattle.charge.specs.Price.{priceOf}
@@ -14,6 +14,7 @@ use Rattle.charge.specs.declared.Bill.{Bill}
 use Rattle.charge.specs.declared.Pricing.{Pricing}
 use Rattle.charge.specs.declared.Pricing.the-variants.{Priced, NotPriced}
 use Rattle.ledger.specs.Lists.{numberedFrom, All, nil, more, Found, none, found}
+use Rattle.ledger.specs.Records.{noScheme}
 use Rattle.ledger.specs.Books.{EntryRow, entryAt}
 use Rattle.ledger.specs.Sound.{sound}
 use Rattle.ledger.specs.declared.records.Scheme.{Scheme}
@@ -25,7 +26,6 @@ use Rattle.calls.specs.Verdict.{entriesOfJoining, entriesNeeded, verdict}
 use Rattle.calls.specs.VerdictHas.{CourseHas, course-has}
 use Rattle.calls.specs.Decision.{Call, accept, payOut, handOver, Decision, accepted, creditsBy, decidedBy, acceptBy, payOutBy, handOverBy, decided}
 use Rattle.calls.specs.Calls.{leaves, Fits}
-use Rattle.history.specs.Numbering.{take-at-start, at-start-again}
 use Rattle.calls.specs.ByPlace.{length-numbered, length-at-start, schemes-shown, entries-shown}
 use Rattle.calls.specs.Rules.{Credit}
 use Rattle.calls.specs.Carried.{State, booksOn, carriedOut, entriesOn, schemesOn, atStart, withTable, entered, withLedger, newParty, booked, takesFee, isCredited, feeTaken, joined, newScheme, schemeOpened, opened, isPaid, isHanded}
@@ -34,6 +34,7 @@ use Rattle.calls.specs.declared.courses.Joining.the-variants.{NotAsked, Ended, 
 use Rattle.calls.specs.declared.courses.Course.{Course}
 use Rattle.calls.specs.declared.courses.Verdict.{Verdict}
 use Rattle.calls.specs.declared.courses.Verdict.the-variants.{Accepts, Refuses}
+use Rattle.kept_sound.specs.AtStart.{take-at-start, at-start-again}
 
 -- ---- lists
 
@@ -60,6 +61,10 @@ PersonFits party = party .person < 2 ^ 32
 
 abbrev pub TermFits : Scheme → Type 0
 TermFits scheme = scheme .term < 65536
+
+pub no-terms : (n : ℕ) → All TermFits (replicate n noScheme)
+no-terms zero = nil
+no-terms (suc n) = more {x = noScheme} (omega arith) (no-terms n)
 
 -- `start` is the table as the first call got it
 pub record Kept (start : List Party) (state : State) : Type 0 where

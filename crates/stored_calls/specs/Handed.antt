@@ -21,7 +21,7 @@ use Rattle.calls.specs.Carried.{State, entriesOn}
 use Rattle.stored.specs.Layout.{schemeWidths, schemeValues, partyWidths, partyValues}
 use Rattle.stored.specs.LayoutLaws.{Fit}
 use Rattle.stored.specs.FormStands.{Handed}
-use Rattle.stored_history.specs.KeptByCalls.{PersonFits, TermFits, Kept, all-drop, all-take}
+use Rattle.kept_sound.specs.KeptByCalls.{PersonFits, TermFits, Kept, all-drop, all-take}
 
 -- ---- a fact of each element, and by place
 
