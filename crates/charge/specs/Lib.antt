@@ -3,3 +3,4 @@ pub mod PriceLaws
 pub mod PriceFacts
 pub mod PriceRefusals
 pub mod MarkedFigures
+pub mod PricingRows

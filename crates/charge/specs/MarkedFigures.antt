@@ -1,6 +1,6 @@
 -- Document 01, 'Marked figures', over the definitions. M6 to M8 are the ledger's.
 use Prim.Native.Nat.{ℕ, _*_, _-_}
-use mathlib.Core.Path.{_≡_, refl}
+use mathlib.Core.Path.{_≡_, refl, ap}
 use mathlib.Core.Bool.{true, false}
 use mathlib.Core.List.{List, [], _∷_, _++_, flatMap}
 use lib.ListN.{replicate}
@@ -81,6 +81,20 @@ slipRequest = requestWith 1 slipTiers
 abbrev pub bespokeRequest : ℕ → ℕ → List ℕ
 bespokeRequest third fourth = requestWith 1 (tier 0 400 0 ∷ tier 0 400 0 ∷ tier 2 200 third ∷ tier 2 200 fourth ∷ tier 0 150 0 ∷ [])
 
+-- a bill by the slip's book, of the slip's request but for CE, month, capacity and scheme joined
+abbrev pub slipBill : ℕ → ℕ → ℕ → ℕ → Bill
+slipBill ce month capacity scheme =
+    record {
+      reconciliation = reconciliationOf (record { me = 1598500; mc = 108000; ce = ce; cc2 = 0; de = 0; tw = 0; hr = 0; ol = 0 }) 859800 1 6500;
+      terms = record { threshold = 5000000; fee = 20000; minimum = 20000; term = 84 };
+      applicant = record { person = 4711; month = month; capacity = capacity; scheme = scheme; mark = 0 };
+    }
+
+-- the slip from its bytes on: book, request, bill
+pub slip-priced : priceOf slipBook slipRequest ≡ Priced (slipBill 0 24315 15000 0)
+unfolding checkFrom number bytesOf dueFrom allHad frontOf walkFrom fieldsFrom firstWith fieldsWith judgeNumbers sameBytes judgeZonesFrom bookOf requestOf discount incrementalRevenue zoneFound valuesPriced requestPriced priceOf flatMap
+slip-priced = refl
+
 -- MC, IR, CC and NC of a pricing
 abbrev pub figuresOf : Pricing → List ℤ
 figuresOf (Priced bill) =
@@ -103,13 +117,13 @@ pub record MarkedFigures : Type 0 where
   pub m9 : percentOf (negsuc 0) 200 ≡ Whole (negsuc 0)
 
 pub marked-figures : MarkedFigures
-unfolding checkFrom number bytesOf dueFrom allHad frontOf walkFrom fieldsFrom firstWith fieldsWith judgeNumbers sameBytes judgeZonesFrom bookOf requestOf discount incrementalRevenue zoneFound valuesPriced requestPriced priceOf flatMap
+unfolding checkFrom discount
 marked-figures =
     record {
       m1 = (refl, refl, refl);
       m2 = (refl, refl);
       m3 = refl;
-      m4 = refl;
+      m4 = ap figuresOf slip-priced;
       m5 = (refl, refl, refl, refl);
       m9 = refl;
     }
@@ -131,13 +145,7 @@ abbrev pub schemeRequest : ℕ → ℕ → ℕ → ℕ → List ℕ
 schemeRequest x month capacity scheme = requestBy 1 (1598500 ∷ (x - 1039630) ∷ replicate 4 0) slipTiers (connection month capacity scheme 0)
 
 abbrev pub schemeBill : ℕ → ℕ → ℕ → ℕ → Bill
-schemeBill x month capacity scheme =
-    record {
-      reconciliation =
-          reconciliationOf (record { me = 1598500; mc = 108000; ce = x - 1039630; cc2 = 0; de = 0; tw = 0; hr = 0; ol = 0 }) 859800 1 6500;
-      terms = record { threshold = 5000000; fee = 20000; minimum = 20000; term = 84 };
-      applicant = record { person = 4711; month = month; capacity = capacity; scheme = scheme; mark = 0 };
-    }
+schemeBill x month capacity scheme = slipBill (x - 1039630) month capacity scheme
 
 abbrev pub SchemeBilled : ℕ → ℕ → ℕ → ℕ → Type 0
 SchemeBilled x month capacity scheme = priceOf slipBook (schemeRequest x month capacity scheme) ≡ Priced (schemeBill x month capacity scheme)

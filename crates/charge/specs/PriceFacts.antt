@@ -1,4 +1,5 @@
--- What holds of every pricing: one altered byte of the book or the request is refused, and a bill lies within the bounds that a ledger needs.
+-- What holds of every pricing: one altered byte of the book or the request is refused, and a bill lies within the bounds that a ledger needs and
+-- reconciles.
 use Prim.Native.Nat.{ℕ, zero, suc, _+_, _-_, _^_, _<_, _≤_}
 use mathlib.Core.Path.{_≡_, refl, sym, ap, subst, _∙_}
 use mathlib.Core.Bool.{Bool, true, false, cond}
@@ -7,7 +8,8 @@ use mathlib.Core.Logic.{_⊎_, inl, inr, ⊎-elim}
 use native.Mathlib.Omega.{arith}
 use lib.ListN.{length, getD, set}
 use lib.Dec.{eqb}
-use Rattle.numbers.specs.BigEndian.{Bytes}
+use lib.IntN.{pos, _-ℤ_}
+pub use Rattle.numbers.specs.BigEndian.{Bytes}
 use Rattle.tagged.specs.File.{fieldsPart, refusal}
 use Rattle.tagged.specs.declared.file.Refusal.{Refusal}
 use Rattle.tagged.specs.declared.file.Standing.{Standing}
@@ -206,3 +208,11 @@ priced-within bookFile requestFile bill bytes bytes′ priced =
     (bill-within (bookOf 1 bookFile .book) (zoneRates (fieldsPart bookFile)) (requestOf 2 requestFile .request) (by .zone) _ _
     (book-within-limits 1 bookFile (by .book-accepted) bytes) (rates-within-limits 1 bookFile (by .book-accepted)) request (by .zone-below)
     (request .distribution-revenue) (request .transmission-revenue))
+
+-- CC and the cost borne make up the cost entered, and CC − NC is NIC, of every bill from the bytes on.
+pub priced-reconciles : (bookFile requestFile : List ℕ) (bill : Bill) → Bytes bookFile → Bytes requestFile → priceOf bookFile requestFile ≡ Priced bill →
+    (bill .reconciliation .cc + bill .reconciliation .borne ≡ bill .reconciliation .entered)
+    × (pos (bill .reconciliation .cc) -ℤ bill .reconciliation .nc ≡ bill .reconciliation .nic)
+priced-reconciles bookFile requestFile bill bytes bytes′ priced =
+    let figures = priced-within bookFile requestFile bill bytes bytes′ priced .figures in
+    (sym (figures .entered), figures .net)

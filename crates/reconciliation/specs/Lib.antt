@@ -1,3 +1,4 @@
 pub mod Percent
 pub mod Reconciliation
 pub mod ReconciliationFacts
+pub mod ReconciliationRows

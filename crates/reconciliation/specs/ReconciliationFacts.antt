@@ -1,12 +1,17 @@
 -- The charge and what the company bears make up the cost entered, the bounds that a ledger needs, and the marked figures.
-use mathlib.Core.Path.{_≡_, refl, ap, sym, _∙_}
-use Prim.Native.Nat.{ℕ, zero, suc, _+_, _≤_}
+use mathlib.Core.Path.{_≡_, refl, ap, sym, subst, _∙_}
+use mathlib.Core.Bool.{Bool, true, false, cond}
+use Prim.Native.Nat.{ℕ, zero, suc, _+_, _*_, _-_, _<_, _≤_}
+use native.Mathlib.Nat.{mul-le-mul-left, div-lt-iff-lt-mul}
 use native.Mathlib.Omega.{arith}
-use lib.IntN.{ℤ, pos, negsuc, negℤ, _+ℤ_, _-ℤ_, +ℤ-assoc, +ℤ-comm, negℤ-+ℤ, negℤ-negℤ, pos-+ℤ-pos}
-use Rattle.reconciliation.specs.Percent.{percentOf}
+use borrow.Author.Tests.{ne-eqb}
+use lib.Dec.{ltb}
+use lib.IntN.{ℤ, pos, negsuc, negℤ, natAbs, _+ℤ_, _-ℤ_, +ℤ-assoc, +ℤ-comm, negℤ-+ℤ, negℤ-negℤ, pos-+ℤ-pos}
+use Rattle.reconciliation.specs.Percent.{nearest, rounded, percentOf}
 use Rattle.reconciliation.specs.Reconciliation.{icOf, usedOf, ccOf, notChargedOf, nicOf, ncOf, enteredOf, borneOf, reconciliationOf, CostsWithin}
 use Rattle.reconciliation.specs.declared.Costs.{Costs}
 use Rattle.reconciliation.specs.declared.Reconciliation.{Reconciliation}
+use Rattle.reconciliation.specs.declared.Percent.{Percent}
 use Rattle.reconciliation.specs.declared.Percent.the-variants.{Whole, None}
 
 -- a − b − c is a − (b + c)
@@ -45,6 +50,20 @@ reconciles costs ir a share h =
           ∙ ap (λ n. pos n -ℤ pos ir) parts,
     )
 
+-- M9: "−1 of 200 is −1 percent", and "nearest whole, halves away from zero; none where the divisor is 0"
+pub percent-marked-figures :
+    (percentOf (negsuc 0) 200 ≡ Whole (negsuc 0))
+    × (percentOf (pos 1) 200 ≡ Whole (pos 1))
+    × (percentOf (negsuc 0) 201 ≡ Whole (pos 0))
+    × (percentOf (pos 1) 201 ≡ Whole (pos 0))
+    × ((n : ℤ) → percentOf n 0 ≡ None)
+percent-marked-figures = (refl, refl, refl, refl, λ n. refl)
+
+-- a percentage is at most so many percent, up or down
+abbrev pub PercentWithin : ℕ → Percent → Type 0
+PercentWithin limit (Whole n) = natAbs n ≤ limit
+PercentWithin limit None = Unit {0}
+
 -- the limits that a ledger needs, and that every figure fits 64 bits with a sign
 pub record Bounded (r : Reconciliation) : Type 0 where
   pub parts : r .ic ≡ r .me + r .mc + r .ce + r .cc2 + r .tw + r .hr + r .ol
@@ -54,6 +73,42 @@ pub record Bounded (r : Reconciliation) : Type 0 where
   pub cc : r .cc ≤ 1100000000000
   pub borne : r .borne ≤ 1100000000000
   pub entered : r .entered ≡ r .cc + r .borne
+  pub net : pos (r .cc) -ℤ r .nc ≡ r .nic
+  pub nic : natAbs (r .nic) ≤ 3968000000000
+  pub nc : natAbs (r .nc) ≤ 3968000000000
+  pub reliance : PercentWithin 100 (r .reliance)
+  pub upfront : PercentWithin 100 (r .upfront)
+  pub nc-ratio : PercentWithin 396800000000000 (r .«nc_ratio»)
+
+difference-size : (a b limit : ℕ) → a ≤ limit → b ≤ limit → natAbs (pos a -ℤ pos b) ≤ limit
+difference-size a zero limit h k = omega arith
+difference-size a (suc b) limit h k = by (ltb a (suc b))
+  where
+    by : (t : Bool) → natAbs (cond t (negsuc (suc b - suc a)) (pos (a - suc b))) ≤ limit
+    by true = omega arith
+    by false = omega arith
+
+rounded-size : (z : ℤ) (divisor : ℕ) → natAbs (rounded z divisor) ≡ nearest (natAbs z) divisor
+rounded-size (pos n) divisor = refl
+rounded-size (negsuc n) divisor = by (nearest (suc n) divisor)
+  where
+    by : (k : ℕ) → natAbs (negℤ (pos k)) ≡ k
+    by zero = refl
+    by (suc k) = refl
+
+-- a part is at most 100 percent of its whole, and no percentage more than that of a divisor of 1
+part-percent : (n divisor : ℕ) → 0 < divisor → n ≤ divisor → nearest n divisor ≤ 100
+part-percent n divisor some h = omega (arith, div-lt-iff-lt-mul {k = 2 * divisor} {x = 200 * n + divisor} {y = 101} (omega arith) .1 (omega arith))
+
+any-percent : (n divisor limit : ℕ) → 0 < divisor → n ≤ limit → nearest n divisor ≤ 100 * limit
+any-percent n divisor limit some h =
+    let whole : limit * 1 ≤ limit * divisor = mul-le-mul-left limit some in
+    omega (arith, div-lt-iff-lt-mul {k = 2 * divisor} {x = 200 * n + divisor} {y = 100 * limit + 1} (omega arith) .1 (omega arith))
+
+percent-within : (z : ℤ) (divisor limit : ℕ) → (0 < divisor → nearest (natAbs z) divisor ≤ limit) → PercentWithin limit (percentOf z divisor)
+percent-within z zero limit small = tt
+percent-within z (suc d) limit small =
+    rw (ne-eqb (suc d) 0 (λ e. omega arith)) (subst (λ (n : ℕ). n ≤ limit) (sym (rounded-size z (suc d))) (small (omega arith)))
 
 pub reconciliation-bounded :
     {costs : Costs}
@@ -65,6 +120,10 @@ pub reconciliation-bounded :
     → Bounded (reconciliationOf costs ir a share)
 reconciliation-bounded {costs} {ir} {a} {share} w i h s =
     let whole = reconciles costs ir a share h in
+    let cc = ccOf costs ir a share in
+    let borne : usedOf costs ir a share + notChargedOf costs a ≤ 3968000000000 = omega (arith, whole .0) in
+    let nc : natAbs (ncOf costs ir a share) ≤ 3968000000000 =
+    rw (subtract-twice ir (usedOf costs ir a share) (notChargedOf costs a)) (difference-size ir _ _ i borne) in
     record {
       parts = refl;
       ic = omega arith;
@@ -73,16 +132,13 @@ reconciliation-bounded {costs} {ir} {a} {share} w i h s =
       cc = omega (arith, whole .0);
       borne = omega (arith, whole .0);
       entered = sym (whole .0);
+      net = whole .1;
+      nic = difference-size (icOf costs) ir _ (omega arith) i;
+      nc = nc;
+      reliance = percent-within (pos cc) (icOf costs) 100 (λ some. part-percent cc (icOf costs) some (omega (arith, whole .0)));
+      upfront = percent-within (pos cc) (cc + ir) 100 (λ some. part-percent cc (cc + ir) some (omega arith));
+      nc-ratio = percent-within (ncOf costs ir a share) _ _ (λ some. any-percent _ (cc + ir) 3968000000000 some nc);
     }
-
--- M9: "−1 of 200 is −1 percent", and "nearest whole, halves away from zero; none where the divisor is 0"
-pub percent-marked-figures :
-    (percentOf (negsuc 0) 200 ≡ Whole (negsuc 0))
-    × (percentOf (pos 1) 200 ≡ Whole (pos 1))
-    × (percentOf (negsuc 0) 201 ≡ Whole (pos 0))
-    × (percentOf (pos 1) 201 ≡ Whole (pos 0))
-    × ((n : ℤ) → percentOf n 0 ≡ None)
-percent-marked-figures = (refl, refl, refl, refl, λ n. refl)
 
 abbrev pub slipReconciliation : Reconciliation
 slipReconciliation =

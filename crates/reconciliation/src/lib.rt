@@ -160,7 +160,8 @@ pub fn reconcile(costs: Costs, ir: u64, charged: u8, share: u16) -> Reconciliati
     let used = smaller(m, credit);
     let ic = ic_of(costs);
     let cc = cc_of(costs, a, m - used);
-    let ic_borne = used + not_charged_of(costs, a);
+    let not_charged = not_charged_of(costs, a);
+    let ic_borne = used + not_charged;
     Reconciliation {
         me: costs.me,
         mc: costs.mc,

@@ -16,7 +16,8 @@ use Rattle.tagged.specs.File.{refusal}
 use Rattle.tagged.specs.declared.file.Refusal.{Refusal}
 use Rattle.reconciliation.specs.declared.Percent.{Percent}
 use Rattle.reconciliation.specs.declared.Percent.the-variants.{Whole, None}
-use Rattle.charge.specs.declared.Bill.{Bill}
+use Rattle.charge.specs.Price.{priceOf}
+use Rattle.charge.specs.MarkedFigures.{slipBook, slipRequest, slip-priced}
 use Rattle.charge.specs.declared.Pricing.{Pricing}
 use Rattle.charge.specs.declared.Pricing.the-variants.{Priced, NotPriced}
 use Rattle.slip_text.specs.declared.SlipWritten.the-variants.{Written, Refused}
@@ -165,19 +166,11 @@ abbrev pub ascii : String → List ℕ
 ascii none = []
 ascii (c then s) = code c ∷ ascii s
 
--- document 01's eight lines
-pub slip-of-document-01 : (bill : Bill)
-    → bill .reconciliation .cc ≡ 1147630
-    → bill .reconciliation .ic ≡ 1706500
-    → bill .reconciliation .ir ≡ 859800
-    → bill .reconciliation .nic ≡ pos 846700
-    → bill .reconciliation .nc ≡ pos 300930
-    → bill .reconciliation .reliance ≡ Whole (pos 67)
-    → bill .reconciliation .upfront ≡ Whole (pos 57)
-    → bill .reconciliation .«nc_ratio» ≡ Whole (pos 15)
-    → slipOf (Priced bill) ≡ ascii "CC 1147630\nIC 1706500\nIR 859800\nNIC 846700\nNC 300930\nRELIANCE 67\nUPFRONT 57\nNCRATIO 15\n"
+-- document 01's eight lines, from the bytes of its book and request on
+pub slip-of-document-01 :
+    slipOf (priceOf slipBook slipRequest) ≡ ascii "CC 1147630\nIC 1706500\nIR 859800\nNIC 846700\nNC 300930\nRELIANCE 67\nUPFRONT 57\nNCRATIO 15\n"
 unfolding slipOf decimalFrom flatten
-slip-of-document-01 bill a b c d e f g h = rw (a, b, c, d, e, f, g, h)
+slip-of-document-01 = ap slipOf slip-priced
 
 -- a refusal, no percentage, a negative figure, 0
 pub printed-figures : (slipOf (NotPriced (refusal 3 1 87)) ≡ ascii "REFUSED 3 1 87\n") × (percentText None ≡ ascii "-") × (signedDecimal (negsuc 0) ≡ ascii "-1") × (decimal 0 ≡ ascii "0")

@@ -38,11 +38,11 @@ minus-requires-2 c κs = search needs
 x-of-requires : tie.Need-x-of-requires
 x-of-requires c κs = search needs
 
-add-t15 : tie.Need-add-t15
-add-t15 c = search needs
-
 add-t16 : tie.Need-add-t16
 add-t16 c = search needs
+
+add-t17 : tie.Need-add-t17
+add-t17 c = search needs
 
 percent-of-requires : tie.Need-percent-of-requires
 percent-of-requires c κs = search needs
@@ -105,8 +105,8 @@ reconcile-spec =
     minus-requires
     minus-requires-2
     x-of-requires
-    add-t15
     add-t16
+    add-t17
     percent-of-requires
     add-percent-of
     percent-of-requires-2
