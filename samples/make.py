@@ -83,12 +83,20 @@ def slip_files():
     return {"rates.bin": closed(slip_book()), "job.bin": closed(slip_request())}
 
 
+def past_4096(fields, more):
+    """So many bytes past 4,096. The first 4,096 end in a right check and have a field that isn't due, so that they are refused at its
+    offset; the whole file has no tail and would be refused at 0."""
+    used = len(b"".join(fields)) + 3 + 5
+    return closed(fields + [field(0x0D, bytes(4_096 - used))]) + bytes(more)
+
+
 def refused_slip_files():
     files = slip_files()
     rates, job = files["rates.bin"], files["job.bin"]
     bespoke = POSTED_TIERS[:2] + [(2, 200, 12_750)] + POSTED_TIERS[3:]
     return files | {
-        "long_rates.bin": rates + bytes(5_000),
+        "long_rates.bin": past_4096(slip_book(), 5_000),
+        "long_job.bin": past_4096(slip_request(), 1),
         "altered_rates.bin": altered(rates, 20, 1),
         "altered_job.bin": altered(job, 30, 1),
         "rates_term_83.bin": closed(slip_book(term=83)),

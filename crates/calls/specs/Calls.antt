@@ -1,6 +1,6 @@
 -- Each call on a ledger and its table: what it answers and leaves, its promise, and the traces of calls made one after the other.
 use Prim.Native.Nat.{_^_, _<_}
-use mathlib.Core.Path.{_≡_}
+use mathlib.Core.Path.{_≡_, ap}
 use mathlib.Core.List.{List, [], _∷_}
 use mathlib.Core.Bool.{cond}
 use lib.ListN.{length}
@@ -11,6 +11,7 @@ use Rattle.ledger.specs.declared.records.Party.{Party}
 use Rattle.ledger.specs.declared.records.Ledger.{Ledger}
 use Rattle.calls.specs.Decision.{Call, accept, payOut, handOver, Decision, refused, decided, CallAnswer, answerTo}
 use Rattle.calls.specs.Carried.{State, booksOn, carriedOut}
+use Rattle.calls.specs.CallEnding.{callEnding}
 
 abbrev pub stateOf : Ledger → List Party → State
 stateOf ledger table = record { ledger = ledger; table = table }
@@ -26,10 +27,15 @@ answered state call = answerTo (booksOn state) (decidedOn state call)
 unfoldable pub leaves : State → Call → State
 leaves state call = carriedOut state (decidedOn state call)
 
--- what every call promises
+-- what every call promises: its answer, document 01's number and values of it, and ledger and table
 pub record Promised (before : State) (call : Call) (answer : CallAnswer) (after : State) : Type 0 where
   pub answers : answer ≡ answered before call
+  pub ends : callEnding answer ≡ callEnding (answered before call)
   pub leaving : after ≡ leaves before call
+
+pub promise-from : {before : State} {call : Call} {answer : CallAnswer} {after : State} → answer ≡ answered before call → after ≡ leaves before call →
+    Promised before call answer after
+promise-from answers leaving = record { answers = answers; ends = ap callEnding answers; leaving = leaving }
 
 -- calls made one after the other
 pub data Trace : State → List Call → List CallAnswer → State → Type 0 where

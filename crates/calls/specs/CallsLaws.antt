@@ -21,7 +21,7 @@ use Rattle.calls.specs.ListsLaws.{by-cond}
 use Rattle.calls.specs.Verdict.{courseOf, entriesNeeded, entriesLacking, verdict}
 use Rattle.calls.specs.Decision.{Call, accept, payOut, handOver, Decision, accepted, paidOut, handedOver, refused, decidedBy, acceptBy, payOutBy, handOverBy, decided, CallAnswer, isAccepted, isDone, isRefused, answerTo}
 use Rattle.calls.specs.Carried.{State, booksOn, carriedOut}
-use Rattle.calls.specs.Calls.{decidedOn, answered, leaves, Promised}
+use Rattle.calls.specs.Calls.{decidedOn, answered, leaves, Promised, promise-from}
 use Rattle.calls.specs.declared.courses.Verdict.{Verdict}
 
 refused-leaves : (state : State) (books : Books) (decision : Decision) {r : Refusal} → answerTo books decision ≡ isRefused r → carriedOut state decision ≡ state
@@ -39,10 +39,10 @@ refused-changes-nothing state call e = refused-leaves state (booksOn state) (dec
 pub unsound-promised : (state : State) (call : Call) → sound (state .ledger) (state .table) (length (state .table)) ≡ false →
     Promised state call (isRefused (refusal 13 0 0)) state
 unfolding answered leaves
-unsound-promised state call unsound = record { answers = rw unsound; leaving = rw unsound }
+unsound-promised state call unsound = promise-from (rw unsound) (rw unsound)
 
 pub promise-kept : (before : State) (call : Call) → Promised before call (answered before call) (leaves before call)
-promise-kept before call = record { answers = refl; leaving = refl }
+promise-kept before call = promise-from refl refl
 
 -- ---- the numbers that a call refuses with: for accept pricing's 1 to 5 among them
 

@@ -2,8 +2,11 @@ pub mod Rules
 pub mod Verdict
 pub mod Decision
 pub mod Carried
+pub mod CallEnding
 pub mod Calls
 pub mod CallsLaws
+pub mod CallEndingLaws
+pub mod CallEndingRows
 pub mod ListsLaws
 pub mod RulesLaws
 pub mod CreditColumns

@@ -21,7 +21,7 @@ use Rattle.calls.specs.ListsLaws.{by-test, by-cond}
 use Rattle.calls.specs.Decision.{Call, accept, Decision, accepted, paidOut, handedOver, refused, decided, isRefused, ofAccept, ofEntryCall}
 use Rattle.calls.specs.Carried.{State}
 use Rattle.calls.specs.CallsLaws.{unsound-promised}
-use Rattle.calls.specs.Calls.{stateOf, answered, leaves, Promised}
+use Rattle.calls.specs.Calls.{stateOf, answered, leaves, Promised, promise-from}
 use Rattle.acceptance.specs.Plan.{planOf, planTable}
 use Rattle.acceptance.specs.PlanLaws.{plan-refused-13}
 use Rattle.acceptance.specs.PlanFits.{FitsIfAccepted, plan-fits}
@@ -79,7 +79,7 @@ module _ (ledger : Ledger) (parties : List Party) (room : ℕ) where
       Promised before (accept book request) (ofAccept (plan .answer)) (stateOf (plan .ledger) (planTable ledger table plan))
   accept-told book request places =
       by-sound
-      (λ stands entries. let told = plan-is-call ledger table parties book request entries places in record { answers = told .0; leaving = told .1 })
+      (λ stands entries. let told = plan-is-call ledger table parties book request entries places in promise-from (told .0) (told .1))
       (λ unsound. λ fails.
       subst (λ plan. Promised before (accept book request) (ofAccept (plan .answer)) (stateOf (plan .ledger) (planTable ledger table plan)))
       (sym (plan-refused-13 ledger parties (length table) (priceOf book request) unsound))
@@ -108,13 +108,10 @@ module _ (ledger : Ledger) (parties : List Party) (room : ℕ) where
         (accept-told book request places) in
         record {
           promised =
-              record {
-                answers = ap (λ (r : AcceptedTable). ofAccept (r .answer)) made ∙ told .answers;
-                leaving =
-                    ap (λ (r : AcceptedTable). stateOf (r .ledger) (take room (r .parties))) made
-                    ∙ ap (stateOf (plan .ledger)) (plan-take room ledger parties plan)
-                    ∙ told .leaving;
-              };
+              promise-from (ap (λ (r : AcceptedTable). ofAccept (r .answer)) made ∙ told .answers)
+              (ap (λ (r : AcceptedTable). stateOf (r .ledger) (take room (r .parties))) made
+              ∙ ap (stateOf (plan .ledger)) (plan-take room ledger parties plan)
+              ∙ told .leaving);
           past = ap (λ (r : AcceptedTable). drop room (r .parties)) made ∙ plan-drop room ledger parties plan (fits-room room (omega arith));
         }
 
@@ -152,20 +149,17 @@ module _ (ledger : Ledger) (parties : List Party) (room : ℕ) where
           let told : Promised before call (ofEntryCall (change .answer)) (stateOf ledger (changedTable table change)) =
           subst (λ c. Promised before call (ofEntryCall (c .answer)) (stateOf ledger (changedTable table c))) (sym same)
           (by-sound
-          (λ stands entries. let told = is-call entries in record { answers = told .0; leaving = told .1 })
+          (λ stands entries. let told = is-call entries in promise-from (told .0) (told .1))
           (λ unsound. λ fails.
           let refuses : decide (length table) ≡ refusedChange 13 = is (length table) ∙ rw unsound in
           subst (λ c. Promised before call (ofEntryCall (c .answer)) (stateOf ledger (changedTable table c))) (sym refuses)
           (unsound-promised before call fails))) in
           record {
             promised =
-                record {
-                  answers = ap (λ (r : ChangedTable). ofEntryCall (r .answer)) made ∙ told .answers;
-                  leaving =
-                      ap (λ (r : ChangedTable). stateOf ledger (take room (r .parties))) made
-                      ∙ ap (stateOf ledger) (change-take room parties change)
-                      ∙ told .leaving;
-                };
+                promise-from (ap (λ (r : ChangedTable). ofEntryCall (r .answer)) made ∙ told .answers)
+                (ap (λ (r : ChangedTable). stateOf ledger (take room (r .parties))) made
+                ∙ ap (stateOf ledger) (change-take room parties change)
+                ∙ told .leaving);
             past =
                 ap (λ (r : ChangedTable). drop room (r .parties)) made
                 ∙ change-drop room parties change (λ done. omega (arith, place-within done));

@@ -1,13 +1,14 @@
 -- Demand 3: what holds after every list of calls. Each line is held against the history of the calls alone.
 use Prim.Native.Nat.{ℕ, _+_, _≤_, _<_}
 use mathlib.Core.Path.{_≡_}
-use mathlib.Core.List.{List, [], _∷_}
+use mathlib.Core.List.{List, [], _∷_, map}
 use lib.ListN.{length, take, drop}
 use Rattle.ledger.specs.Lists.{sumBy, All}
 use Rattle.ledger.specs.Records.{newLedger}
 use Rattle.ledger.specs.declared.records.Party.{Party}
 use Rattle.calls.specs.Decision.{Call, CallAnswer, isAccepted, isDone, isRefused}
 use Rattle.calls.specs.Carried.{State}
+use Rattle.calls.specs.CallEnding.{callEnding}
 use Rattle.calls.specs.Calls.{stateOf, Trace, AllFit}
 use Rattle.history.specs.Fair.{Fair}
 use Rattle.history.specs.History.{Entering, Account, History, accountOf, cost, fee, joinings, collected, fees, credited, paidOf, standing, capacity, putIns, creditedTo, paidTo, charged, borne, costEntered, openings, times, ledgerIn, partiesIn, historyOf, answersOf}
@@ -64,6 +65,8 @@ pub record HoldsAfter (start : List Party) (history : History) (calls : List Cal
   pub reconciled : costEntered history ≡ charged history + borne history
   -- number, file and place of a refusal and the reconciliation's figures included
   pub answered : answers ≡ answersOf (length start) calls
+  -- and in document 01's numbers and values
+  pub endings : map callEnding answers ≡ map callEnding (answersOf (length start) calls)
   pub never-13 : All Not13 answers
   -- "the ledger and the table show the same": the ledger with all 64 places, the entries, and past the last entry what stood there at the start
   pub ledger-shows : after .ledger ≡ ledgerIn history

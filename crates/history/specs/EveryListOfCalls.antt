@@ -1,7 +1,7 @@
 -- Demand 3: after every list of accept, pay-out and hand-over calls from a new ledger on one party table, refused calls among them.
 use Prim.Native.Nat.{ℕ}
 use mathlib.Core.Path.{_≡_, refl, sym, ap, ap₂, subst, _∙_}
-use mathlib.Core.List.{List, [], _∷_}
+use mathlib.Core.List.{List, [], _∷_, map}
 use lib.ListN.{length, take, drop}
 use lib.Seq.{drop-at}
 use Rattle.ledger.specs.Lists.{All, nil, more}
@@ -9,6 +9,7 @@ use Rattle.ledger.specs.Records.{newLedger}
 use Rattle.ledger.specs.declared.records.Party.{Party}
 use Rattle.calls.specs.Decision.{Call, CallAnswer}
 use Rattle.calls.specs.Carried.{State}
+use Rattle.calls.specs.CallEnding.{callEnding}
 use Rattle.calls.specs.Calls.{stateOf, answered, leaves, Trace, AllFit}
 use Rattle.calls.specs.Calls as calling
 use Rattle.calls.specs.ListsLaws.{all-by-key}
@@ -64,6 +65,7 @@ every-list-of-calls start calls answers after fit trace =
       schemes-opened = schemes-opened h sound;
       reconciled = sound .bills-add-up;
       answered = end .answers-are;
+      endings = ap (map callEnding) (end .answers-are);
       never-13 = end .not-13;
       ledger-shows = ap (λ (state : State). state .ledger) (end .shown .shows);
       entries-show = ap (λ (state : State). take (length (h .entered)) (state .table)) (end .shown .shows) ∙ entries-on start h;
@@ -78,4 +80,4 @@ pub trace-exists : (state : State) (calls : List Call) → (answers : List CallA
 trace-exists state [] = ([], state, calling.none)
 trace-exists state (call ∷ calls) =
     let later = trace-exists (leaves state call) calls in
-    (answered state call ∷ later .0, later .1, calling.more (record { answers = refl; leaving = refl }) (later .2))
+    (answered state call ∷ later .0, later .1, calling.more (calling.promise-from refl refl) (later .2))

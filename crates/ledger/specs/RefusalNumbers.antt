@@ -1,6 +1,6 @@
 -- The numbers that a call refuses with, as a list of them.
 use Prim.Native.Nat.{ℕ, zero, suc, _≤_}
-use mathlib.Core.Path.{_≡_}
+use mathlib.Core.Path.{_≡_, sym, _∙_}
 use mathlib.Core.List.{List, [], _∷_, map}
 use mathlib.Core.Bool.{Bool, true, false, cond, false≢true}
 use mathlib.Core.Logic.{⊎-elim}
@@ -48,3 +48,8 @@ one-to-within (suc most) n h =
     (λ differs. let below = one-to-within most n (rw differs at h) in (below .0, omega arith))
     (λ same. let e = eqb-true n (suc most) same in (omega arith, omega arith))
     (dichotomy (eqb n (suc most)))
+
+-- where 0 is none of the numbers
+pub one-of-positive : (numbers : List ℕ) (n : ℕ) → oneOf numbers 0 ≡ false → oneOf numbers n ≡ true → 1 ≤ n
+one-of-positive numbers zero none h = absurd (false≢true (sym none ∙ h))
+one-of-positive numbers (suc n) none h = omega arith

@@ -15,7 +15,7 @@ use Rattle.ledger.specs.declared.records.Ledger.{Ledger}
 use Rattle.calls.specs.ListsLaws.{by-test}
 use Rattle.calls.specs.Decision.{Call, payOut, handOver, ofEntryCall}
 use Rattle.calls.specs.CallsLaws.{unsound-promised}
-use Rattle.calls.specs.Calls.{stateOf, answered, leaves, Promised}
+use Rattle.calls.specs.Calls.{stateOf, answered, leaves, Promised, promise-from}
 use Rattle.calls.specs.declared.answers.Answer.{Answer}
 use Rattle.calls.specs.declared.answers.Answer.the-variants.{Done, Refused}
 use Rattle.entry_calls.specs.EntryCalls.{refusedChange, payOutChange, handOverChange, changedTable}
@@ -109,7 +109,7 @@ module _ (ledger : Ledger) (table : List Party) where
         Kept c = Promised (stateOf ledger table) call (ofEntryCall (c .answer)) (stateOf ledger (changedTable table c))
 
         standing : sound ledger table (length table) ≡ true → Kept change
-        standing stands = let told = is-call (snapshot-entries ledger table stands) in record { answers = told .0; leaving = told .1 }
+        standing stands = let told = is-call (snapshot-entries ledger table stands) in promise-from (told .0) (told .1)
 
         refused : sound ledger table (length table) ≡ false → Kept change
         refused unsound = subst Kept (sym (unsound-refused unsound)) (unsound-promised (stateOf ledger table) call unsound)

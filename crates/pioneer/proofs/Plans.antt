@@ -19,7 +19,7 @@ use Rattle.ledger.specs.declared.records.Ledger.{Ledger}
 use Rattle.calls.specs.ListsLaws.{by-test}
 use Rattle.calls.specs.Decision.{accept, ofAccept}
 use Rattle.calls.specs.CallsLaws.{unsound-promised}
-use Rattle.calls.specs.Calls.{stateOf, Promised}
+use Rattle.calls.specs.Calls.{stateOf, Promised, promise-from}
 use Rattle.calls.specs.declared.answers.Acceptance.{Acceptance}
 use Rattle.calls.specs.declared.answers.AcceptAnswer.{AcceptAnswer}
 use Rattle.calls.specs.declared.answers.AcceptAnswer.the-variants.{Accepted, NotAccepted}
@@ -143,7 +143,7 @@ module _ (ledger : Ledger) (table : List Party) where
         standing stands =
             let call =
             plan-is-call ledger table (snapshotOf (ledger .entries) table) book request (snapshot-entries ledger table stands) places in
-            record { answers = call .0; leaving = call .1 }
+            promise-from (call .0) (call .1)
 
         refused : Unsound → Kept (planned (priceOf book request))
         refused unsound = subst Kept (sym (refused-13 unsound (priceOf book request))) (unsound-promised (stateOf ledger table) (accept book request) unsound)

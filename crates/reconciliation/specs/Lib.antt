@@ -1,4 +1,5 @@
 pub mod Percent
 pub mod Reconciliation
+pub mod Figures
 pub mod ReconciliationFacts
 pub mod ReconciliationRows

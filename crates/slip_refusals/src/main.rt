@@ -6,6 +6,7 @@ fn unreadable() {
     print_slip(b"missing.bin", b"job.bin");
     print_slip(b"rates.bin", b"missing.bin");
     print_slip(b"long_rates.bin", b"job.bin");
+    print_slip(b"rates.bin", b"long_job.bin");
 }
 
 fn refused() {

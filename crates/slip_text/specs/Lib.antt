@@ -1,3 +1,4 @@
 pub mod Slip
 pub mod SlipFacts
 pub mod AlteredFiles
+pub mod SlipEnding

@@ -100,7 +100,7 @@ pub answer-of-read : (file : List ℕ) (room : ℕ) → storedRead file room .an
 unfolding storedRead
 answer-of-read file room = read-answer newLedger (take room noParties) file
 
-stored-read-refuses : (file : List ℕ) (room : ℕ) → ReadRefuses (storedRead file room .answer)
+pub stored-read-refuses : (file : List ℕ) (room : ℕ) → ReadRefuses (storedRead file room .answer)
 stored-read-refuses file room = subst ReadRefuses (sym (answer-of-read file room)) (read-refusal-numbers (length (take room noParties)) file)
 
 -- each of reading's, the call's and writing's numbers is among them

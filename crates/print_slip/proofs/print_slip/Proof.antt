@@ -8,12 +8,6 @@ use borrow.Author.Needs.{needs}
 use Rattle.print_slip.proofs.print_slip.Statement.{statement}
 use Rattle.print_slip.proofs.print_slip.Tie as tie
 
-buffer-requires : tie.Need-buffer-requires
-buffer-requires c κs = search needs
-
-buffer-requires-2 : tie.Need-buffer-requires-2
-buffer-requires-2 c κs = search needs
-
 slice-aggregate-read-file : tie.Need-slice-aggregate-read-file
 slice-aggregate-read-file c = search needs
 
@@ -29,23 +23,20 @@ read-file-requires-2 c κs = search needs
 array-share-prefix-book-space : tie.Need-array-share-prefix-book-space
 array-share-prefix-book-space c = search needs
 
-slice-aggregate-price : tie.Need-slice-aggregate-price
-slice-aggregate-price c = search needs
+slice-aggregate-files-slip : tie.Need-slice-aggregate-files-slip
+slice-aggregate-files-slip c = search needs
 
 array-share-prefix-request-space : tie.Need-array-share-prefix-request-space
 array-share-prefix-request-space c = search needs
 
-slice-aggregate-price-2 : tie.Need-slice-aggregate-price-2
-slice-aggregate-price-2 c = search needs
+slice-aggregate-files-slip-2 : tie.Need-slice-aggregate-files-slip-2
+slice-aggregate-files-slip-2 c = search needs
 
-price-requires : tie.Need-price-requires
-price-requires c κs = search needs
+slice-aggregate-files-slip-3 : tie.Need-slice-aggregate-files-slip-3
+slice-aggregate-files-slip-3 c = search needs
 
-slice-aggregate-slip-text : tie.Need-slice-aggregate-slip-text
-slice-aggregate-slip-text c = search needs
-
-slip-text-requires : tie.Need-slip-text-requires
-slip-text-requires c κs = search needs
+files-slip-requires : tie.Need-files-slip-requires
+files-slip-requires c κs = search needs
 
 enum-known-written : tie.Need-enum-known-written
 enum-known-written c = search needs
@@ -53,14 +44,15 @@ enum-known-written c = search needs
 -- the slip fits the buffer
 size-fits : (c : tie.After-known-told) → c .before .written .given .0 .0 ≤ 256
 size-fits c =
-    let slip = c .before .before .before .before .slip-text in
-    written-within (c .before .before .before .before .before .before .price .result) (replicate 256 0) (c .before .written .given .0 .0) (sym (slip .ensures .0) ∙ c .before .written .given .1)
+    let slip = c .before .before .before .before .files-slip in
+    written-within _ (replicate 256 0) (c .before .written .given .0 .0) (sym (slip .ensures .0) ∙ c .before .written .given .1)
 
 array-share-prefix-text : tie.Need-array-share-prefix-text
-array-share-prefix-text c = omega (arith, size-fits c, c .before .before .before .before .slip-text .kept .1 .0)
+array-share-prefix-text c = omega (arith, size-fits c, c .before .before .before .before .files-slip .kept .1 .1 .0)
 
 slice-aggregate-write-all : tie.Need-slice-aggregate-write-all
-slice-aggregate-write-all c = sym (length-take-le _ _ (omega (arith, size-fits (c .before), c .before .before .before .before .before .slip-text .kept .1 .0)))
+slice-aggregate-write-all c =
+    sym (length-take-le _ _ (omega (arith, size-fits (c .before), c .before .before .before .before .before .files-slip .kept .1 .1 .0)))
 
 write-all-requires : tie.Need-write-all-requires
 write-all-requires c κs = search needs
@@ -78,19 +70,16 @@ pub print-slip-spec : {M : Type 1} → statement M
 print-slip-spec =
     tie.close
     (tie.spec
-    buffer-requires
-    buffer-requires-2
     slice-aggregate-read-file
     read-file-requires
     slice-aggregate-read-file-2
     read-file-requires-2
     array-share-prefix-book-space
-    slice-aggregate-price
+    slice-aggregate-files-slip
     array-share-prefix-request-space
-    slice-aggregate-price-2
-    price-requires
-    slice-aggregate-slip-text
-    slip-text-requires
+    slice-aggregate-files-slip-2
+    slice-aggregate-files-slip-3
+    files-slip-requires
     enum-known-written
     array-share-prefix-text
     slice-aggregate-write-all
