@@ -11,7 +11,7 @@ use Rattle.tagged.specs.Find.{fieldStart, fieldValue}
 use Rattle.tagged.specs.WalkFacts.{by-test}
 use Rattle.field_values.specs.Judged.{judgeNumbers}
 use Rattle.field_values.specs.JudgedLaws.{judged-within-replicate}
-use Rattle.field_values.specs.Factors.{factorLimits, judgeFactors, factorAt, factorsIn, factorsOf}
+use Rattle.field_values.specs.Factors.{FactorBytes, factorLimits, judgeFactors, factorAt, factorsIn, factorsOf}
 use Rattle.field_values.specs.declared.factors.Factors.{Factors}
 use Rattle.field_values.specs.declared.judged.Judged.the-variants.{Passes}
 
@@ -38,10 +38,12 @@ map-within f most h [] k = zero-le
 map-within f most h (x ∷ l) zero = h x
 map-within f most h (x ∷ l) (suc k) = map-within f most h l k
 
-pub factors-within : (tag : ℕ) (s : List ℕ) → judgeFactors tag s ≡ Passes → 2 ≤ length (fieldValue tag s) → length (fieldValue tag s) ≤ 16 → FactorsWithin (factorsOf tag s)
-factors-within tag s e low high =
+pub factors-within : (tag : ℕ) (s : List ℕ) → judgeFactors tag s ≡ Passes → FactorBytes (fieldValue tag s) → FactorsWithin (factorsOf tag s)
+factors-within tag s e long =
     record {
-      least = omega arith;
-      most = omega arith;
-      each = map-within (λ k. factorAt (fieldValue tag s) (2 * k)) 40000 (factor-within (fieldStart tag s) (fieldValue tag s) e high) (0 ∷ 1 ∷ 2 ∷ 3 ∷ 4 ∷ 5 ∷ 6 ∷ 7 ∷ []);
+      least = omega (arith, long .0);
+      most = omega (arith, long .1);
+      each =
+          map-within (λ k. factorAt (fieldValue tag s) (2 * k)) 40000 (factor-within (fieldStart tag s) (fieldValue tag s) e (long .1))
+          (0 ∷ 1 ∷ 2 ∷ 3 ∷ 4 ∷ 5 ∷ 6 ∷ 7 ∷ []);
     }

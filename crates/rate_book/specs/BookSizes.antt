@@ -1,5 +1,5 @@
 -- The lengths of the values of a book that walks, as its rows give them.
-use Prim.Native.Nat.{ℕ, _+_, _%_, _<_, _≤_}
+use Prim.Native.Nat.{ℕ, _+_, _<_, _≤_}
 use mathlib.Core.Path.{_≡_}
 use mathlib.Core.List.{List, []}
 use native.Mathlib.Omega.{arith}
@@ -7,13 +7,14 @@ use lib.ListN.{length, getD}
 use Rattle.field_walk.specs.Walk.{leastOf, FieldsWalk}
 use Rattle.tagged.specs.Find.{fieldValue, fieldStart}
 use Rattle.tagged.specs.WalkFinds.{Sized, walk-sized}
+use Rattle.field_values.specs.Factors.{FactorBytes}
 use Rattle.book_zones.specs.Rows.{bookRows, book-rows-rise}
 
 pub record BookSizes (s : List ℕ) : Type 0 where
   pub rate : length (fieldValue 2 s) ≡ 2
   pub figures : length (fieldValue 3 s) ≡ 40
-  pub distribution : (2 ≤ length (fieldValue 4 s)) × (length (fieldValue 4 s) ≤ 16) × (length (fieldValue 4 s) % 2 ≡ 0)
-  pub transmission : (2 ≤ length (fieldValue 5 s)) × (length (fieldValue 5 s) ≤ 16) × (length (fieldValue 5 s) % 2 ≡ 0)
+  pub distribution : FactorBytes (fieldValue 4 s)
+  pub transmission : FactorBytes (fieldValue 5 s)
   pub terms : length (fieldValue 6 s) ≡ 14
   pub charged : length (fieldValue 7 s) ≡ 3
   pub terms-within : fieldStart 6 s + 14 ≤ length s

@@ -20,7 +20,7 @@ use Rattle.book_zones.specs.Zones.{zoneStarts, zoneRates}
 use Rattle.book_zones.specs.ZonesStand.{zones-stand}
 use Rattle.book_zones.specs.ZonesLaws.{length-eight}
 use Rattle.book_zones.specs.ZonesWithin.{RatesWithin, zone-numbers-rise, zone-rates-within}
-use Rattle.rate_book.specs.BookSizes.{book-sizes}
+use Rattle.rate_book.specs.BookSizes.{BookSizes, book-sizes}
 use Rattle.rate_book.specs.Book.{rateLimits, chargedLimits, sumFrom, sumJudgements, termJudgements, bookJudgements, judgeBook, bookValues, bookOf}
 use Rattle.rate_book.specs.BookFacts.{accepted-stands, accepted-passes, accepted-values, book-walks}
 use Rattle.rate_book.specs.declared.book.Book.{Book}
@@ -68,8 +68,8 @@ module _ (s : List ℕ) (walks : FieldsWalk bookRows s) (passes : judgeBook s �
         opex = leb-true _ _ (judge-passes _ _ (sums 0));
         revenue = ltb-true _ _ (judge-passes _ _ (sums 1));
         revenue-below = sum-below (fieldValue 3 s) 4 (bytes-of 3) (omega (arith, sizes .figures));
-        distribution = factors-within 4 s (pass 3) (sizes .distribution .0) (sizes .distribution .1);
-        transmission = factors-within 5 s (pass 4) (sizes .transmission .0) (sizes .transmission .1);
+        distribution = factors-within 4 s (pass 3) (sizes .distribution);
+        transmission = factors-within 5 s (pass 4) (sizes .transmission);
         threshold = leb-true _ _ (judge-passes _ _ (terms 0));
         fee = leb-true _ _ (judge-passes _ _ (terms 1));
         minimum = leb-true _ _ (judge-passes _ _ (terms 2));
@@ -87,6 +87,10 @@ module _ (s : List ℕ) (walks : FieldsWalk bookRows s) (passes : judgeBook s �
   rates-within = zone-rates-within s (zones-stand s walks) (first-failure-passes (bookJudgements s) passes 7)
 
 module _ (number : ℕ) (file : List ℕ) (accepted : bookOf number file .answer ≡ Stands) where
+  -- its values have the lengths that document 01 gives them: a list of factors has an even number of bytes, 2 to 16
+  pub accepted-book-sizes : BookSizes (fieldsPart file)
+  accepted-book-sizes = book-sizes (fieldsPart file) (book-walks number file (accepted-stands number file accepted))
+
   pub book-within-limits : Bytes file → BookWithin (bookOf number file .book)
   book-within-limits bytes =
       subst BookWithin (sym (accepted-values number file accepted))

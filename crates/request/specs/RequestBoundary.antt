@@ -13,6 +13,7 @@ use Rattle.tagged.specs.declared.file.Standing.{Standing}
 use Rattle.tagged.specs.declared.file.Standing.the-variants.{Stands, Refused}
 use Rattle.field_values.specs.Judged.{judgeNumbers, sameBytes}
 use Rattle.request.specs.Request.{requestOf}
+use Rattle.request.specs.declared.values.Request.{Request}
 
 -- the numbers of a request, field by field from 01 on: how many bytes each takes
 abbrev pub requestWidths : List (List ℕ)
@@ -58,7 +59,7 @@ sample =
     (6001 ∷ []) ∷
     (7001 ∷ 7002 ∷ []) ∷
     (8001 ∷ 8002 ∷ 8003 ∷ []) ∷
-    (24315 ∷ 9001 ∷ 11 ∷ 1 ∷ []) ∷
+    (24315 ∷ 9001 ∷ 11 ∷ 0 ∷ []) ∷
     []
 
 -- with another number k in the field of this tag
@@ -183,8 +184,19 @@ pub sample-read :
             month = 24315;
             capacity = 9001;
             scheme = 11;
-            mark = 1;
+            mark = 0;
           };
     }
 unfolding number bytesOf flatMap checkFrom dueFrom allHad frontOf walkFrom fieldsFrom firstWith judgeNumbers sameBytes requestOf
 sample-read = refl
+
+-- modes, class and mark, of which the sample has some alike: no two of them are alike in both
+abbrev otherCases : List (List ℕ)
+otherCases = put 12 3 1 (put 6 0 2 (put 6 3 2 (put 6 6 1 (put 6 9 0 (put 6 12 0 sample)))))
+
+abbrev casesOf : Request → List ℕ
+casesOf request = request .class ∷ request .mark ∷ request .modes
+
+pub other-cases-read : casesOf (requestOf 2 (requestFile otherCases) .request) ≡ 1 ∷ 1 ∷ 2 ∷ 2 ∷ 1 ∷ 0 ∷ 0 ∷ []
+unfolding number bytesOf flatMap checkFrom dueFrom allHad frontOf walkFrom fieldsFrom firstWith judgeNumbers sameBytes requestOf
+other-cases-read = refl

@@ -8,6 +8,7 @@ use lib.Dec.{lit<, lit≤}
 use Rattle.field_walk.specs.Walk.{leastOf, FieldsWalk}
 use Rattle.tagged.specs.Find.{fieldValue}
 use Rattle.tagged.specs.WalkFinds.{Sized, walk-sized}
+use Rattle.field_values.specs.Factors.{FactorBytes}
 use Rattle.request.specs.Rows.{requestRows, request-rows-rise}
 
 pub record RequestSizes (s : List ℕ) : Type 0 where
@@ -18,10 +19,9 @@ pub record RequestSizes (s : List ℕ) : Type 0 where
   pub tiers : length (fieldValue 6 s) ≡ 45
   pub added : length (fieldValue 7 s) ≡ 20
   pub revenues : length (fieldValue 8 s) ≡ 8
-  -- 1 to 8 factors of 2 bytes
-  pub part-year : (2 ≤ length (fieldValue 9 s)) × (length (fieldValue 9 s) ≤ 16)
-  pub distribution : (2 ≤ length (fieldValue 10 s)) × (length (fieldValue 10 s) ≤ 16)
-  pub transmission : (2 ≤ length (fieldValue 11 s)) × (length (fieldValue 11 s) ≤ 16)
+  pub part-year : FactorBytes (fieldValue 9 s)
+  pub distribution : FactorBytes (fieldValue 10 s)
+  pub transmission : FactorBytes (fieldValue 11 s)
   pub connection : length (fieldValue 12 s) ≡ 9
 
 pub request-sizes : (s : List ℕ) → FieldsWalk requestRows s → RequestSizes s

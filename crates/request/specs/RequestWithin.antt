@@ -98,9 +98,9 @@ values-within s bytes sizes passes =
       added-demands = each-at-most 1000000 (fiveFrom (fieldValue 7 s) 0 4) (added 0 tt .1, (added 1 tt .1, (added 2 tt .1, (added 3 tt .1, (added 4 tt .1, tt)))));
       distribution-revenue = revenue 0 tt .1;
       transmission-revenue = revenue 1 tt .1;
-      part-year = factors-within 9 s (judged 5) (sizes .part-year .0) (sizes .part-year .1);
-      distribution-tariff = factors-within 10 s (judged 6) (sizes .distribution .0) (sizes .distribution .1);
-      transmission-tariff = factors-within 11 s (judged 7) (sizes .transmission .0) (sizes .transmission .1);
+      part-year = factors-within 9 s (judged 5) (sizes .part-year);
+      distribution-tariff = factors-within 10 s (judged 6) (sizes .distribution);
+      transmission-tariff = factors-within 11 s (judged 7) (sizes .transmission);
       month = omega (arith, connection 0 tt .1);
       some-capacity = connection 1 tt .0;
       capacity = connection 1 tt .1;
@@ -108,10 +108,14 @@ values-within s bytes sizes passes =
       mark = connection 3 tt .1;
     }
 
+-- The values of an accepted request have the lengths that document 01 gives them: a list of factors has an even number of bytes, 2 to 16.
+pub accepted-request-sizes : (number : ℕ) (file : List ℕ) → requestOf number file .answer ≡ Stands → RequestSizes (fieldsPart file)
+accepted-request-sizes number file e =
+    let walks = stands-means requestRows number file (request-accepted number file e .stands) in
+    request-sizes (fieldsPart file) (walks .field-list, walks .walks)
+
 pub request-within-limits : (number : ℕ) (file : List ℕ) → Bytes file → requestOf number file .answer ≡ Stands → RequestWithin (requestOf number file .request)
 request-within-limits number file bytes e =
     let accepted = request-accepted number file e in
-    let walks = stands-means requestRows number file (accepted .stands) in
-    let s = fieldsPart file in
     subst RequestWithin (ap (λ read. read .request) (sym (accepted .values)))
-    (values-within s (Bytes-take (length file - 5) file bytes) (request-sizes s (walks .field-list, walks .walks)) (accepted .passes))
+    (values-within (fieldsPart file) (Bytes-take (length file - 5) file bytes) (accepted-request-sizes number file e) (accepted .passes))
