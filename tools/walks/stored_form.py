@@ -5,7 +5,7 @@ from writer import *
 
 def write():
     """let parties = party_table::snapshot(table, ledger.entries);
-    stored::writing::write(ledger, parties, table.len(), out)"""
+    stored_writing::write(ledger, parties, table.len(), out)"""
     definitions = """\
   abbrev parties : List Party
   parties = snapshotOf (ledger .entries) table
@@ -20,7 +20,7 @@ def write():
     types += [reference("mut", "erased", U8), slice_of("mut", "erased", U8)]
     answer = "(writtenAnswer ledger table (length table) out)"
     walk = Walk(
-        "pioneer", "write", [("ledger", LEDGER), ("table", TABLE_SEEN), ("out", BYTES)], types, ["party_table::snapshot", "stored::writing::write"],
+        "pioneer", "write", [("ledger", LEDGER), ("table", TABLE_SEEN), ("out", BYTES)], types, ["party_table::snapshot", "stored_writing::write"],
         definitions, result=(WRITTEN, answer), says="(refl, refl)",
         imports=[
             "use Rattle.party_table.specs.PartyTable.{snapshotOf}",
@@ -38,7 +38,7 @@ def write():
     arguments = [("ledger", LEDGER, "ledger-fits"), copied, ("(length table)", USIZE, "(table-fits .0)"), walk.lend_again("out")]
     ensures = "told ≡ writtenAnswer ledger parties (length table) out"
     more = "last .1 .1 .1 .0 ≡ writtenOutput ledger parties (length table) out"
-    walk.call("stored::writing::write", arguments, ["_1", "_4", "_5", "_7"], WRITTEN, "told", ensures, more=more)
+    walk.call("stored_writing::write", arguments, ["_1", "_4", "_5", "_7"], WRITTEN, "told", ensures, more=more)
     walk.got(WRITTEN, "told", "_0", answer, "told-is ∙ snapshot-written ledger table out")
     walk.comes_back("out", "(last .1 .1 .1 .0)")
     walk.as_list("told-more ∙ snapshot-output ledger table out", "out")
@@ -47,7 +47,7 @@ def write():
 
 
 def read():
-    """let back = stored::reading::read(ledger, table.len(), file);
+    """let back = stored_reading::read(ledger, table.len(), file);
     if read_refused(back) { return read_result(back); }
     party_table::store_each(table, entries_of(back), parties_of(back));
     read_result(back)"""
@@ -72,7 +72,7 @@ def read():
     result = "(readResult (end .answer) (end .ledger))"
     walk = Walk(
         "pioneer", "read", [("ledger", LEDGER), ("table", TABLE), ("file", BYTES_SEEN)], types,
-        ["stored::reading::read", "read_refused", "read_result", "entries_of", "parties_of", "party_table::store_each"], definitions,
+        ["stored_reading::read", "read_refused", "read_result", "entries_of", "parties_of", "party_table::store_each"], definitions,
         result=(READ_RESULT, result), says="(refl, refl, refl)",
         imports=[
             "use mathlib.Core.List.{_++_}",
@@ -85,7 +85,7 @@ def read():
     )
     walk.length("_5")
     arguments = [("ledger", LEDGER, "ledger-fits"), ("(length table)", USIZE, "(table-fits .0)"), walk.handed_on("file")]
-    walk.call("stored::reading::read", arguments, ["_1", "_5", "_3"], READ_BACK, "found", "found ≡ back")
+    walk.call("stored_reading::read", arguments, ["_1", "_5", "_3"], READ_BACK, "found", "found ≡ back")
     found = walk.got_value(READ_BACK, "found", "_4", "back")
     walk.call("read_refused", [found], ["_4"], TRUTH, "refused", "refused ≡ readRefused (back .answer)")
     walk.got_truth("refused", "_6", "(readRefused (back .answer))")

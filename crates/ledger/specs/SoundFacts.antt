@@ -1,4 +1,4 @@
--- What a sound ledger has, condition by condition, and back; a new ledger is sound.
+-- What a sound ledger has, condition by condition, and back; a new ledger is sound. The literal rows stand before all that is shown of the conditions.
 use Prim.Native.Nat.{ℕ, zero, suc, _+_, _*_, _-_, _<_, _≤_, min, zero-le}
 use mathlib.Core.Path.{_≡_, refl, sym, subst, _∙_}
 use mathlib.Core.List.{List, [], _∷_, map}
@@ -15,6 +15,7 @@ use Rattle.ledger.specs.ColumnsLaws.{column-at, sum-le, sum-at-most, fir
 use Rattle.ledger.specs.Lookup.{schemePlace}
 use Rattle.ledger.specs.LookupLaws.{Placed, by-number, scheme-placed, placed-scheme}
 use Rattle.ledger.specs.Sound.{allHold, hasPlace, figuresWithin, countsSound, sumsSound, partySound, partiesSound, schemeSound, schemesSound, isZero, allZero, sound}
+pub use Rattle.ledger.specs.SoundRows.{sound-rows-hold}
 use Rattle.ledger.specs.declared.lookup.SchemeAt.the-variants as SchemeAt
 use Rattle.ledger.specs.declared.records.Scheme.{Scheme}
 use Rattle.ledger.specs.declared.records.Party.{Party}

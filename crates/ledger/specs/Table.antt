@@ -2,7 +2,7 @@
 use Prim.Native.Nat.{ℕ, _+_, _<_, _^_}
 use mathlib.Core.List.{List, [], _∷_}
 use lib.ListN.{getD}
-use Rattle.ledger.specs.Records.{partyOf, noParty}
+use Rattle.ledger.specs.Records.{noParty}
 use Rattle.ledger.specs.Updates.{withCredited}
 use Rattle.ledger.specs.declared.records.Party.{Party}
 
@@ -19,7 +19,3 @@ creditEach (party ∷ parties) (credit ∷ credits) = creditedMore party credit 
 -- each entry can take its credit
 abbrev pub CreditsFit : ℕ → List Party → List ℕ → Type 0
 CreditsFit entries table credits = (i : ℕ) → i < entries → getD table i noParty .credited + getD credits i 0 < 2 ^ 64
-
--- a new entry: nothing is credited or paid out yet
-abbrev pub newEntry : ℕ → ℕ → ℕ → ℕ → Party
-newEntry scheme person capacity putIn = partyOf scheme person capacity putIn 0 0

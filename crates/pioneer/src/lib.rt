@@ -136,7 +136,7 @@ pub fn write(ledger: Ledger, table: &[Party], out: &mut [u8]) -> Written
         ⌝ }
 {
     let parties = party_table::snapshot(table, ledger.entries);
-    stored::writing::write(ledger, parties, table.len(), out)
+    stored_writing::write(ledger, parties, table.len(), out)
 }
 
 pub struct ReadResult {
@@ -181,7 +181,7 @@ pub fn read(ledger: Ledger, table: &mut [Party], file: &[u8]) -> ReadResult
         × (now (table .exit) ≡ readOf ledger (now (table .entry)) (now (file .entry)) .table)
         ⌝ }
 {
-    let back = stored::reading::read(ledger, table.len(), file);
+    let back = stored_reading::read(ledger, table.len(), file);
     if read_refused(back) {
         return read_result(back);
     }

@@ -96,7 +96,7 @@ fn change_entry(state: State, hands_over: bool, figures: &[u8]) -> State {
 
 // What is read; a new ledger with no entries where the reading is refused.
 fn read_bytes(file: &[u8]) -> State {
-    let read = stored::reading::read(ledger::records::new_ledger(), 512, file);
+    let read = stored_reading::read(ledger::records::new_ledger(), 512, file);
     let answer = read.answer;
     lines::write_standing(answer);
     let ledger = read.ledger;
@@ -144,7 +144,7 @@ fn write_form(state: State, out: &mut [u8]) -> usize
     write(b" bytes: ");
     let ledger = state.ledger;
     let parties = state.parties;
-    let written = stored::writing::write(ledger, parties, 512, out);
+    let written = stored_writing::write(ledger, parties, 512, out);
     let size = written_size(written);
     within(size, out)
 }

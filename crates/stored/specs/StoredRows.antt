@@ -1,8 +1,8 @@
 -- The stored form's bytes, and how small files read: each refusal of reading and of writing, at its limit and one past it.
-use Prim.Native.Nat.{ℕ}
+use Prim.Native.Nat.{ℕ, _-_}
 use mathlib.Core.Path.{_≡_, refl}
 use mathlib.Core.List.{List, [], _∷_, _++_, map, flatMap}
-use lib.ListN.{length, replicate}
+use lib.ListN.{length, take, replicate}
 use Rattle.numbers.specs.BigEndian.{number, bytesOf}
 use Rattle.numbers.specs.Check.{checkFrom}
 use Rattle.field_walk.specs.Walk.{dueFrom, allHad, frontOf, walkFrom}
@@ -11,6 +11,7 @@ use Rattle.tagged.specs.File.{refusal}
 use Rattle.tagged.specs.declared.file.Standing.{Standing}
 use Rattle.tagged.specs.declared.file.Standing.the-variants as standing
 use Rattle.field_values.specs.Judged.{sameBytes}
+use Rattle.ledger.specs.Lists.{atStart}
 use Rattle.ledger.specs.Records.{noScheme, noParty, newLedger}
 use Rattle.ledger.specs.Columns.{sumOver, firstPutIn}
 use Rattle.ledger.specs.Sound.{partiesSound, schemesSound, allZero, sound}
@@ -69,10 +70,13 @@ abbrev pub joinedForm : List ℕ
 joinedForm =
     1 ∷ 0 ∷ 4 ∷ 80 ∷ 73 ∷ 79 ∷ 78 ∷ 2 ∷ 0 ∷ 22 ∷ 0 ∷ 12 ∷ 0 ∷ 0 ∷ 0 ∷ 2 ∷ 0 ∷ 0 ∷ 0 ∷ 0 ∷ 0 ∷ 0 ∷ 1 ∷ 44 ∷ 0 ∷ 0 ∷ 0 ∷ 0 ∷ 0 ∷ 0 ∷ 0 ∷ 7 ∷ 3 ∷ 0 ∷ 24 ∷ 0 ∷ 0 ∷ 0 ∷ 50 ∷ 0 ∷ 0 ∷ 0 ∷ 1 ∷ 0 ∷ 0 ∷ 0 ∷ 2 ∷ 0 ∷ 6 ∷ 0 ∷ 84 ∷ 0 ∷ 0 ∷ 0 ∷ 0 ∷ 0 ∷ 0 ∷ 0 ∷ 1 ∷ 4 ∷ 0 ∷ 30 ∷ 0 ∷ 1 ∷ 0 ∷ 1 ∷ 17 ∷ 112 ∷ 0 ∷ 0 ∷ 0 ∷ 3 ∷ 0 ∷ 0 ∷ 0 ∷ 50 ∷ 0 ∷ 0 ∷ 0 ∷ 0 ∷ 0 ∷ 0 ∷ 0 ∷ 24 ∷ 0 ∷ 0 ∷ 0 ∷ 0 ∷ 0 ∷ 0 ∷ 0 ∷ 7 ∷ 4 ∷ 0 ∷ 30 ∷ 0 ∷ 1 ∷ 0 ∷ 0 ∷ 0 ∷ 9 ∷ 0 ∷ 0 ∷ 0 ∷ 3 ∷ 0 ∷ 0 ∷ 0 ∷ 25 ∷ 0 ∷ 0 ∷ 0 ∷ 0 ∷ 0 ∷ 0 ∷ 0 ∷ 0 ∷ 0 ∷ 0 ∷ 0 ∷ 0 ∷ 0 ∷ 0 ∷ 0 ∷ 0 ∷ 255 ∷ 0 ∷ 2 ∷ 37 ∷ 254 ∷ []
 
+-- a form with other bytes from a place on, and with this check
+abbrev pub formWith : List ℕ → ℕ → List ℕ → List ℕ → List ℕ
+formWith form at bytes check = take (length form - 2) (atStart (take at form ++ bytes) form) ++ check
+
 -- put in 6, not the cost
 abbrev pub unsoundForm : List ℕ
-unsoundForm =
-    1 ∷ 0 ∷ 4 ∷ 80 ∷ 73 ∷ 79 ∷ 78 ∷ 2 ∷ 0 ∷ 22 ∷ 0 ∷ 12 ∷ 0 ∷ 0 ∷ 0 ∷ 1 ∷ 0 ∷ 0 ∷ 0 ∷ 0 ∷ 0 ∷ 0 ∷ 1 ∷ 44 ∷ 0 ∷ 0 ∷ 0 ∷ 0 ∷ 0 ∷ 0 ∷ 0 ∷ 7 ∷ 3 ∷ 0 ∷ 24 ∷ 0 ∷ 0 ∷ 0 ∷ 5 ∷ 0 ∷ 0 ∷ 0 ∷ 1 ∷ 0 ∷ 0 ∷ 0 ∷ 2 ∷ 0 ∷ 6 ∷ 0 ∷ 84 ∷ 0 ∷ 0 ∷ 0 ∷ 0 ∷ 0 ∷ 0 ∷ 0 ∷ 0 ∷ 4 ∷ 0 ∷ 30 ∷ 0 ∷ 1 ∷ 0 ∷ 1 ∷ 17 ∷ 112 ∷ 0 ∷ 0 ∷ 0 ∷ 3 ∷ 0 ∷ 0 ∷ 0 ∷ 6 ∷ 0 ∷ 0 ∷ 0 ∷ 0 ∷ 0 ∷ 0 ∷ 0 ∷ 0 ∷ 0 ∷ 0 ∷ 0 ∷ 0 ∷ 0 ∷ 0 ∷ 0 ∷ 0 ∷ 255 ∷ 0 ∷ 2 ∷ 65 ∷ 55 ∷ []
+unsoundForm = formWith oneForm 75 (6 ∷ []) (65 ∷ 55 ∷ [])
 
 pub forms :
     (storedForm newLedger [] ≡ newForm) × (storedForm oneScheme (oneParty ∷ noParty ∷ []) ≡ oneForm) × (storedForm joinedScheme joinedParties ≡ joinedForm)
@@ -86,14 +90,17 @@ refused n file place = standing.Refused (refusal n file place)
 abbrev pub readRows : List ((ℕ × List ℕ) × Standing)
 readRows =
     ((0, []), refused 1 1 0) ∷
-    ((0, 1 ∷ 0 ∷ 4 ∷ 80 ∷ 73 ∷ 79 ∷ 78 ∷ 2 ∷ 0 ∷ 22 ∷ 0 ∷ 0 ∷ 0 ∷ 0 ∷ 0 ∷ 0 ∷ 0 ∷ 0 ∷ 0 ∷ 0 ∷ 0 ∷ 0 ∷ 0 ∷ 0 ∷ 0 ∷ 0 ∷ 0 ∷ 0 ∷ 0 ∷ 0 ∷ 0 ∷ 0 ∷ 255 ∷ 0 ∷ 2 ∷ 90 ∷ 115 ∷ []), refused 2 1 35) ∷
-    ((0, 1 ∷ 0 ∷ 4 ∷ 80 ∷ 73 ∷ 79 ∷ 77 ∷ 2 ∷ 0 ∷ 22 ∷ 0 ∷ 0 ∷ 0 ∷ 0 ∷ 0 ∷ 0 ∷ 0 ∷ 0 ∷ 0 ∷ 0 ∷ 0 ∷ 0 ∷ 0 ∷ 0 ∷ 0 ∷ 0 ∷ 0 ∷ 0 ∷ 0 ∷ 0 ∷ 0 ∷ 0 ∷ 255 ∷ 0 ∷ 2 ∷ 253 ∷ 157 ∷ []), refused 3 1 3) ∷
+    ((0, formWith newForm 0 [] (90 ∷ 115 ∷ [])), refused 2 1 35) ∷
+    ((0, formWith newForm 6 (77 ∷ []) (253 ∷ 157 ∷ [])), refused 3 1 3) ∷
     ((0, newForm), standing.Stands) ∷
     ((1, oneForm), standing.Stands) ∷
     ((0, oneForm), refused 9 0 0) ∷
     ((2, joinedForm), standing.Stands) ∷
     ((1, joinedForm), refused 9 0 0) ∷
     ((1, unsoundForm), refused 13 0 0) ∷
+    -- 3 before 9, and 9 before 13
+    ((0, formWith oneForm 6 (77 ∷ []) (32 ∷ 21 ∷ [])), refused 3 1 3) ∷
+    ((0, unsoundForm), refused 9 0 0) ∷
     []
 
 pub read-rows-hold : map (λ row. readAnswer (row .0 .0) (row .0 .1)) readRows ≡ map (λ row. row .1) readRows

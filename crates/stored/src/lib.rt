@@ -1,5 +1,6 @@
 // The stored ledger: document 01, 'Stored form'. A ledger and its entries, a by-value snapshot of
-// the party table, are written as the bytes of a file and read back.
+// the party table, as the bytes of a file: its fields, what the bytes are and what they are read as.
+// Crates above write and read them.
 pub mod reading;
 pub mod rows;
 pub mod writing;

@@ -1,7 +1,7 @@
 -- A new ledger's bytes, and the first calls on them. The table's length, where it makes the answer 9, and one record more.
 use Prim.Native.Nat.{ℕ}
 use mathlib.Core.Path.{_≡_, refl, ap}
-use mathlib.Core.List.{List, [], flatMap}
+use mathlib.Core.List.{List, [], _∷_, _++_, flatMap}
 use lib.ListN.{replicate}
 use Rattle.numbers.specs.BigEndian.{number, bytesOf}
 use Rattle.numbers.specs.Check.{checkFrom}
@@ -19,7 +19,7 @@ use Rattle.ledger.specs.Columns.{sumOver, firstPutIn}
 use Rattle.ledger.specs.Sound.{partiesSound, schemesSound, allZero, sound}
 use Rattle.ledger.specs.Lookup.{schemePlace}
 use Rattle.calls.specs.Verdict.{verdict}
-use Rattle.calls.specs.Decision.{accept, handOver, acceptBy, answerTo}
+use Rattle.calls.specs.Decision.{accept, payOut, handOver, acceptBy, answerTo}
 use Rattle.calls.specs.Carried.{State, booksOn, carriedOut}
 use Rattle.calls.specs.Calls.{answered, leaves}
 use Rattle.calls.specs.declared.answers.JoiningAnswer.{JoiningAnswer}
@@ -30,7 +30,7 @@ use Rattle.stored.specs.Layout.{recordBytes, valuesAt, placed}
 use Rattle.stored.specs.Form.{schemeParts, partyParts, storedForm, schemesIn, entriesIn, noSchemes, storedLedger}
 use Rattle.stored.specs.Writing.{writtenAnswer, writeOf}
 use Rattle.stored.specs.Reading.{tableAnswer, readAnswer}
-use Rattle.stored.specs.StoredRows.{newForm, oneForm, joinedForm, joinedScheme}
+use Rattle.stored.specs.StoredRows.{newForm, oneForm, joinedForm, joinedScheme, formWith}
 use Rattle.stored_calls.specs.StoredCalls.{StoredCallAnswer, notRead, notMade, madeAccepted, madeDone, storedRead, endBy, storedCallOf, countsOf, newStoredOf, checkStoredOf}
 use Rattle.stored_calls.specs.StoredCallsRefusals.{stateRead}
 use Rattle.stored_calls.specs.declared.StoredCheck.the-variants as StoredCheck
@@ -48,6 +48,14 @@ pub hand-over-rows-hold :
     (storedCallOf [] 512 (handOver 1 5) [] ≡ record { answer = notRead (refusal 1 1 0); output = [] })
 unfolding storedRead noParties answered leaves readAnswer tableAnswer entriesIn schemesIn storedLedger placed noSchemes valuesAt number checkFrom dueFrom allHad frontOf walkFrom fieldsFrom firstWith fieldsWith sameBytes sound partiesSound schemePlace schemesSound allZero sumOver firstPutIn
 hand-over-rows-hold = (refl, refl)
+
+-- the whole standing credit of the first entry paid out, and one cent more, which is told before the output is too short; the second entry handed over
+pub entry-rows-hold :
+    (storedCallOf joinedForm 2 (payOut 1 17) (replicate 131 7) ≡ record { answer = madeDone 130; output = formWith joinedForm 91 (24 ∷ []) (3 ∷ 244 ∷ []) ++ (7 ∷ []) }) ×
+    (storedCallOf joinedForm 2 (payOut 1 18) [] ≡ record { answer = notMade (refusal 12 0 0); output = [] }) ×
+    (storedCallOf joinedForm 2 (handOver 2 70001) (replicate 130 7) ≡ record { answer = madeDone 130; output = formWith joinedForm 97 (0 ∷ 1 ∷ 17 ∷ 113 ∷ []) (100 ∷ 126 ∷ []) })
+unfolding storedRead noParties answered leaves writtenAnswer storedForm schemeParts partyParts recordBytes bytesOf flatMap readAnswer tableAnswer entriesIn schemesIn storedLedger placed noSchemes valuesAt number checkFrom dueFrom allHad frontOf walkFrom fieldsFrom firstWith fieldsWith sameBytes sound partiesSound schemePlace schemesSound allZero sumOver firstPutIn
+entry-rows-hold = (refl, refl, refl)
 
 -- no bytes; and two entries, whose table has one record, then two
 pub check-rows-hold :

@@ -57,7 +57,7 @@ pub enum StoredCheck {
 fn read_stored(file: &[u8], room: usize) -> ReadBack
     ensures { λ r. ⌜ readEnd room r ≡ storedRead (now (file .entry)) room ⌝ }
 {
-    stored::reading::read(
+    stored_reading::read(
         ledger::records::new_ledger(),
         calls_by_value::records_of(room),
         file,
@@ -95,7 +95,7 @@ fn write_accepted(accepted: AcceptedTable, out: &mut [u8]) -> StoredAccept
         AcceptAnswer::Accepted(acceptance) => {
             let ledger = accepted.ledger;
             let parties = accepted.parties;
-            let written = stored::writing::write_form(ledger, parties, out);
+            let written = stored_writing::write_form(ledger, parties, out);
             written_accept(acceptance, written)
         }
         AcceptAnswer::NotAccepted(refusal) => StoredAccept::NotAccepted(refusal),
@@ -112,7 +112,7 @@ fn write_changed(ledger: Ledger, changed: ChangedTable, out: &mut [u8]) -> Store
     match answer {
         Answer::Done => {
             let parties = changed.parties;
-            let written = stored::writing::write_form(ledger, parties, out);
+            let written = stored_writing::write_form(ledger, parties, out);
             written_call(written)
         }
         Answer::Refused(refusal) => StoredAnswer::Refused(refusal),
@@ -194,7 +194,7 @@ pub fn new_stored(out: &mut [u8]) -> StoredAnswer
     ensures { λ _. ⌜ now (out .exit) ≡ newStoredOf (now (out .entry)) .output ⌝ }
 {
     let parties = ledger::records::no_parties();
-    let written = stored::writing::write_form(ledger::records::new_ledger(), parties, out);
+    let written = stored_writing::write_form(ledger::records::new_ledger(), parties, out);
     written_call(written)
 }
 

@@ -50,7 +50,7 @@ fn write_form(size: usize, same: bool) {
 
 // Writes a ledger into a lent buffer, and holds its stored form against a file.
 fn write_back(ledger: Ledger, parties: [Party; 512], room: usize, out: &mut [u8], file: &[u8]) {
-    let written = stored::writing::write(ledger, parties, room, out);
+    let written = stored_writing::write(ledger, parties, room, out);
     match written {
         Written::Refused(refusal) => write_refusal(refusal),
         Written::Length(size) => write_form(size, check::same(&out[..size], file)),
@@ -64,7 +64,7 @@ fn show(name: &[u8], room: usize, out: &mut [u8]) {
     let file = &space[..size];
     write(name);
     write_length(b" TABLE", room);
-    let read = stored::reading::read(ledger::records::new_ledger(), room, file);
+    let read = stored_reading::read(ledger::records::new_ledger(), room, file);
     let answer = read.answer;
     match answer {
         Standing::Refused(refusal) => {

@@ -53,10 +53,10 @@ use Rattle.party_table.proofs.snapshot as party-table-snapshot′
 use Rattle.party_table.proofs.snapshot.Symbol as party-table-snapshot-def
 use Rattle.party_table.proofs.snapshot.Symbol.{name as #party_table·snapshot}
 use Rattle.party_table.proofs.snapshot.Met as party-table-snapshot-thm
-use Rattle.stored.proofs.writing.write as stored-writing-write′
-use Rattle.stored.proofs.writing.write.Symbol as stored-writing-write-def
-use Rattle.stored.proofs.writing.write.Symbol.{name as #stored·writing·write}
-use Rattle.stored.proofs.writing.write.Met as stored-writing-write-thm
+use Rattle.stored_writing.proofs.write as stored-writing-write′
+use Rattle.stored_writing.proofs.write.Symbol as stored-writing-write-def
+use Rattle.stored_writing.proofs.write.Symbol.{name as #stored_writing·write}
+use Rattle.stored_writing.proofs.write.Met as stored-writing-write-thm
 use Rattle.pioneer.proofs.write.Key.{name as #pioneer·write}
 use Rattle.pioneer.proofs.write as write′
 use Rattle.pioneer.proofs.write.Statement as stated
@@ -118,7 +118,7 @@ module _ {M : Type 1} (𝓤 : URA M) (H : Heap 𝓤) (A : Atoms 𝓤) (W : Given
 
   module _ (𝓣 : Tables 𝓤 H) (fm : FmC 𝓤 H (W .laws) (𝓣 .C)) (known-party-table-snapshot : Triple 𝓤 (𝓣 .C #party_table·snapshot)
       (tripleOf 𝓤 H A party-table-snapshot′.signature (party-table-snapshot′.spec 𝓤 H A mem run)))
-      (known-stored-writing-write : Triple 𝓤 (𝓣 .C #stored·writing·write) (tripleOf 𝓤 H A stored-writing-write′.signature
+      (known-stored-writing-write : Triple 𝓤 (𝓣 .C #stored_writing·write) (tripleOf 𝓤 H A stored-writing-write′.signature
       (stored-writing-write′.spec 𝓤 H A mem run))) where
     walk : ent 𝓤 (onEntry 𝓤 H A write′.signature (κ₀, (κ₁, tt)) (q₀, (q₁, tt)) arguments values)
         (WpFn 𝓤 H (𝓣 .C) (𝓣 .Λ) code.function (ledger-value ledger ∷ table-value ∷ out-value ∷ []) Post)
@@ -172,7 +172,7 @@ module _ {M : Type 1} (𝓤 : URA M) (H : Heap 𝓤) (A : Atoms 𝓤) (W : Given
         (named 1) (named 0) out (length out) refl) $
         await ! tt $ pick ! (λ δ.
         split ! $
-        -- `stored::writing::write`
+        -- `stored_writing::write`
         nothing ! $ move ! (1 ∷ 0 ∷ []) $ fjoin ! $ owned ! usize (Is usize) (uint-makes 𝓤 H A W w64) (length table) _ (refl, (table-fits .0)) $
         fjoin ! $ owned ! (ArrayRow PartyRow 512) (Is (ArrayRow PartyRow 512)) (array-makes 𝓤 H A W PartyRow (party-makes 𝓤 H A W) 512) parties _
         copied-known $
@@ -236,7 +236,7 @@ module _ {M : Type 1} (𝓤 : URA M) (H : Heap 𝓤) (A : Atoms 𝓤) (W : Given
 module _ {M : Type 1} (𝓤 : URA M) (H : Heap 𝓤) (A : Atoms 𝓤) (W : Given 𝓤 H A) (mem : Memory → SProp 𝓤) (run : Routine → Fun 𝓤)
     (𝓣 : Tables 𝓤 H) (known-party-table-snapshot : Triple 𝓤 (𝓣 .C #party_table·snapshot)
     (tripleOf 𝓤 H A party-table-snapshot′.signature (party-table-snapshot′.spec 𝓤 H A mem run)))
-    (known-stored-writing-write : Triple 𝓤 (𝓣 .C #stored·writing·write) (tripleOf 𝓤 H A stored-writing-write′.signature
+    (known-stored-writing-write : Triple 𝓤 (𝓣 .C #stored_writing·write) (tripleOf 𝓤 H A stored-writing-write′.signature
     (stored-writing-write′.spec 𝓤 H A mem run))) where
   walks : Walks 𝓤 H A write′.ended stayed (WpFn 𝓤 H (𝓣 .C) (𝓣 .Λ) code.function) (write′.clauses 𝓤 H A mem run)
   walks =
@@ -270,5 +270,5 @@ write-spec 𝓤 H 𝓜 𝓖 𝓡 =
     #party_table·snapshot
     party-table-snapshot-def.routine code.calls-party-table·snapshot (party-table-snapshot-thm.met 𝓤 H 𝓜 𝓖 𝓡))
     (cited 𝓤 H (tripleOf 𝓤 H (𝓖 .A) stored-writing-write′.signature (stored-writing-write′.spec 𝓤 H (𝓖 .A) (𝓜 .mem) (𝓡 .run))) 𝓜 𝓡 code.env
-    #stored·writing·write
-    stored-writing-write-def.routine code.calls-stored·writing·write (stored-writing-write-thm.met 𝓤 H 𝓜 𝓖 𝓡)))
+    #stored_writing·write
+    stored-writing-write-def.routine code.calls-stored-writing·write (stored-writing-write-thm.met 𝓤 H 𝓜 𝓖 𝓡)))

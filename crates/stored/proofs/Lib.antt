@@ -1,2 +1,0 @@
-pub mod Collecting
-pub mod Fields

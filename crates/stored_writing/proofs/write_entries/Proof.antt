@@ -1,0 +1,84 @@
+use Prim.Native.Nat.{_-_, _<_, _≤_}
+use mathlib.Core.Path.{_≡_, refl, sym, _∙_}
+use mathlib.Core.List.{flatMap, map}
+use lib.ListN.{length, take}
+use Rattle.numbers.specs.BigEndian.{written}
+use Rattle.tagged.specs.WalkFinds.{joined}
+use Rattle.ledger.specs.Records.{noParty}
+use Rattle.stored.specs.LayoutLaws.{written-none}
+use Rattle.stored.specs.Form.{partyPart}
+use Rattle.stored.specs.FormLaws.{party-size}
+use Rattle.stored_writing.proofs.Fields.{one-more}
+use native.Mathlib.Omega.{arith}
+use borrow.Author.Needs.{needs}
+use Rattle.stored_writing.proofs.write_entries.Statement.{statement}
+use Rattle.stored_writing.proofs.write_entries.Tie as tie
+
+abbrev Inv-loop : tie.InvT-loop
+Inv-loop out₀ at entries parties i₀ out i = (out ≡ written out₀ at (joined (map partyPart (take i parties)))) × (length out ≡ length out₀) × (i ≤ entries)
+
+abbrev μ-loop : tie.MeasureT-loop
+μ-loop out₀ at entries parties i₀ out i = entries - i
+
+loop-holds : tie.Need-loop-holds Inv-loop μ-loop
+unfolding flatMap
+loop-holds c = (sym (written-none (c .before .args .out .now) (c .before .args .at)), refl, omega arith)
+
+mul-write-party : tie.Need-mul-write-party Inv-loop μ-loop
+mul-write-party c = search needs
+
+add-write-party : tie.Need-add-write-party Inv-loop μ-loop
+add-write-party c = search needs
+
+mul-write-party-2 : tie.Need-mul-write-party-2 Inv-loop μ-loop
+mul-write-party-2 c = search needs
+
+array-copy-out-write-party : tie.Need-array-copy-out-write-party Inv-loop μ-loop
+array-copy-out-write-party c = search needs
+
+write-party-requires : tie.Need-write-party-requires Inv-loop μ-loop
+write-party-requires c κs = search needs
+
+add-i : tie.Need-add-i Inv-loop μ-loop
+add-i c = search needs
+
+loop-less : tie.Need-loop-less Inv-loop μ-loop
+loop-less c = search needs
+
+loop-again : tie.Need-loop-again Inv-loop μ-loop
+loop-again c =
+    let head = c .before .before .before .before .before .before in
+    let start = head .before .before in
+    let i = head .loop .i in
+    let more : i < length (start .args .t3) = search needs in (
+      c .before .before .write-party .ensures
+          ∙ rw (head .loop .inv .0) (one-more partyPart 30 party-size (start .args .out .now) (start .args .at) (start .args .t3) i noParty more (omega arith)),
+      search needs,
+      omega arith,
+    )
+
+same-length : tie.Need-same-length Inv-loop μ-loop
+same-length c = search needs
+
+returns : tie.Need-returns Inv-loop μ-loop
+returns c =
+    let all : c .before .loop .i ≡ c .before .before .before .args .entries = omega arith in
+    rw all at (c .before .loop .inv .0)
+
+pub write-entries-spec : {M : Type 1} → statement M
+write-entries-spec =
+    tie.close
+    (tie.spec
+    Inv-loop
+    μ-loop
+    loop-holds
+    mul-write-party
+    add-write-party
+    mul-write-party-2
+    array-copy-out-write-party
+    write-party-requires
+    add-i
+    loop-less
+    loop-again
+    same-length
+    returns)

@@ -1,0 +1,173 @@
+// Writing a ledger and its entries as their stored form.
+use ledger::records::Ledger;
+use ledger::records::Party;
+use ledger::records::Scheme;
+use numbers::big_endian::write_u8;
+use numbers::big_endian::write_u16;
+use numbers::big_endian::write_u32;
+use numbers::big_endian::write_u64;
+use stored::writing::Written;
+use tagged::file::Refusal;
+ghost use mathlib.Core.Path.{_≡_};
+ghost use mathlib.Core.List.{[], _∷_, _++_, map};
+ghost use Prim.Native.Nat.{_+_, _*_, _≤_};
+ghost use lib.ListN.{length, take};
+ghost use Rattle.numbers.specs.BigEndian.{bytesOf, written};
+ghost use Rattle.numbers.specs.Check.{check};
+ghost use Rattle.tagged.specs.File.{refusal};
+ghost use Rattle.tagged.specs.WalkFinds.{joined};
+ghost use Rattle.stored.specs.Form.{lettersPart, headPart, schemePart, partyPart, storedParts, formLength};
+ghost use Rattle.stored.specs.Writing.{formAnswer, formOutput, writtenAnswer, writtenOutput};
+
+fn refused(number: u8) -> Written
+    ensures { λ r. ⌜ r ≡ Written.Refused (refusal number 0 0) ⌝ }
+{
+    Written::Refused(Refusal {
+        number,
+        file: 0,
+        place: 0,
+    })
+}
+
+fn form_length(count: u32, entries: u32) -> usize
+    ensures { λ r. ⌜ r ≡ formLength count entries ⌝ }
+{
+    37 + 27 * count as usize + 33 * entries as usize
+}
+
+// A field's tag and length.
+fn write_start(out: &mut [u8], at: usize, tag: u8, len: u16)
+    requires { ⌜ at + 3 ≤ length (now out) ⌝ }
+    ensures { λ _. ⌜ now (out .exit) ≡ written (now (out .entry)) at (tag ∷ bytesOf 2 len) ⌝ }
+{
+    write_u8(out, at, tag);
+    write_u16(out, at + 1, len);
+}
+
+// Field 01, which the form starts with.
+fn write_letters(out: &mut [u8])
+    requires { ⌜ 7 ≤ length (now out) ⌝ }
+    ensures { λ _. ⌜ now (out .exit) ≡ written (now (out .entry)) 0 (joined (lettersPart ∷ [])) ⌝ }
+{
+    write_start(out, 0, 1, 4);
+    write_u8(out, 3, b'P');
+    write_u8(out, 4, b'I');
+    write_u8(out, 5, b'O');
+    write_u8(out, 6, b'N');
+}
+
+// Field 02, which stands after it.
+fn write_head(out: &mut [u8], month: u16, connections: u32, charged: u64, borne: u64)
+    requires { ⌜ 32 ≤ length (now out) ⌝ }
+    ensures { λ _. ⌜ now (out .exit) ≡ written (now (out .entry)) 7 (joined (headPart (month ∷ connections ∷ charged ∷ borne ∷ []) ∷ [])) ⌝ }
+{
+    write_start(out, 7, 2, 22);
+    write_u16(out, 10, month);
+    write_u32(out, 12, connections);
+    write_u64(out, 16, charged);
+    write_u64(out, 24, borne);
+}
+
+fn write_scheme(out: &mut [u8], at: usize, scheme: Scheme)
+    requires { ⌜ at + 27 ≤ length (now out) ⌝ }
+    ensures { λ _. ⌜ now (out .exit) ≡ written (now (out .entry)) at (joined (schemePart scheme ∷ [])) ⌝ }
+{
+    write_start(out, at, 3, 24);
+    write_u32(out, at + 3, scheme.cost);
+    write_u32(out, at + 7, scheme.fee);
+    write_u32(out, at + 11, scheme.minimum);
+    write_u16(out, at + 15, scheme.opening);
+    write_u16(out, at + 17, scheme.term);
+    write_u64(out, at + 19, scheme.fees);
+}
+
+fn write_party(out: &mut [u8], at: usize, party: Party)
+    requires { ⌜ at + 33 ≤ length (now out) ⌝ }
+    ensures { λ _. ⌜ now (out .exit) ≡ written (now (out .entry)) at (joined (partyPart party ∷ [])) ⌝ }
+{
+    write_start(out, at, 4, 30);
+    write_u16(out, at + 3, party.scheme);
+    write_u32(out, at + 5, party.person);
+    write_u32(out, at + 9, party.capacity);
+    write_u32(out, at + 13, party.put_in);
+    write_u64(out, at + 17, party.credited);
+    write_u64(out, at + 25, party.paid_out);
+}
+
+fn write_schemes(out: &mut [u8], at: usize, schemes: [Scheme; 64], count: usize)
+    requires { ⌜ (count ≤ 64) × (at + 27 * count ≤ length (now out)) ⌝ }
+    ensures { λ _. ⌜ now (out .exit) ≡ written (now (out .entry)) at (joined (map schemePart (take count schemes))) ⌝ }
+{
+    let mut i: usize = 0;
+    while i < count {
+        write_scheme(out, at + 27 * i, schemes[i]);
+        i += 1;
+    }
+}
+
+fn write_entries(out: &mut [u8], at: usize, parties: [Party; 512], entries: usize)
+    requires { ⌜ (entries ≤ 512) × (at + 33 * entries ≤ length (now out)) ⌝ }
+    ensures { λ _. ⌜ now (out .exit) ≡ written (now (out .entry)) at (joined (map partyPart (take entries parties))) ⌝ }
+{
+    let mut i: usize = 0;
+    while i < entries {
+        write_party(out, at + 33 * i, parties[i]);
+        i += 1;
+    }
+}
+
+// All fields but the last, from the start of the output on.
+fn write_fields(out: &mut [u8], ledger: Ledger, parties: [Party; 512])
+    requires { ⌜ (ledger .count ≤ 64) × (ledger .entries ≤ 512) × (formLength (ledger .count) (ledger .entries) ≤ length (now out)) ⌝ }
+    ensures { λ _. ⌜ now (out .exit) ≡ written (now (out .entry)) 0 (joined (storedParts ledger parties)) ⌝ }
+{
+    let schemes = ledger.schemes;
+    let count = ledger.count as usize;
+    write_letters(out);
+    write_head(
+        out,
+        ledger.month,
+        ledger.connections,
+        ledger.charged,
+        ledger.borne,
+    );
+    write_schemes(out, 32, schemes, count);
+    write_entries(out, 32 + 27 * count, parties, ledger.entries as usize);
+}
+
+// The last field, at the end of the others: the check of all bytes before its value.
+fn write_check(out: &mut [u8], at: usize)
+    requires { ⌜ at + 5 ≤ length (now out) ⌝ }
+    ensures { λ _. ⌜ now (out .exit) ≡ written (now (out .entry)) at (255 ∷ 0 ∷ 2 ∷ bytesOf 2 (check (take at (now (out .entry)) ++ 255 ∷ 0 ∷ 2 ∷ []))) ⌝ }
+{
+    write_start(out, at, 255, 2);
+    let end = at + 3;
+    let check = numbers::check::check(&out[..end]);
+    write_u16(out, end, check as u16);
+}
+
+// The stored form at the start of a lent buffer, of a ledger that was tested already.
+pub fn write_form(ledger: Ledger, parties: [Party; 512], out: &mut [u8]) -> Written
+    requires { ⌜ (ledger .count ≤ 64) × (ledger .entries ≤ 512) ⌝ }
+    ensures { λ r. ⌜ r ≡ formAnswer ledger parties (now (out .entry)) ⌝ }
+    ensures { λ _. ⌜ now (out .exit) ≡ formOutput ledger parties (now (out .entry)) ⌝ }
+{
+    let size = form_length(ledger.count, ledger.entries);
+    if out.len() < size {
+        return refused(14);
+    }
+    write_fields(out, ledger, parties);
+    write_check(out, size - 5);
+    Written::Length(size)
+}
+
+// The same once the ledger is found to be sound; `room` is the table's length.
+pub fn write(ledger: Ledger, parties: [Party; 512], room: usize, out: &mut [u8]) -> Written
+    ensures { λ r. ⌜ r ≡ writtenAnswer ledger parties room (now (out .entry)) ⌝ }
+    ensures { λ _. ⌜ now (out .exit) ≡ writtenOutput ledger parties room (now (out .entry)) ⌝ }
+{
+    if !ledger::sound::sound(ledger, parties, room) {
+        return refused(13);
+    }
+    write_form(ledger, parties, out)
+}
