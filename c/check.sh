@@ -11,7 +11,7 @@ library=${FIKREM_LIB:-$here/../target/staticlib}/libquoting_unit.a
 data=$here/../crates/slip/data
 
 flags=(-Wall -Wextra -Werror -pedantic -I "$here/../include")
-for program in quote every_call; do
+for program in quote every_call stack; do
   gcc -std=c11 -O2 "${flags[@]}" -o "$build/$program" "$here/$program.c" "$library"
 done
 if command -v g++ >/dev/null 2>&1; then
@@ -21,9 +21,10 @@ fi
 # Where there are no files, the slip is a refusal.
 (cd "$data" && "$build/quote") >"$build/quote.txt"
 (cd "$build/no_files" && "$build/quote") >>"$build/quote.txt"
-# On the stack that the header names, nothing of it taken by the environment.
-(ulimit -s 256 && env -i "$build/every_call" "$data/rates.bin" "$data/job.bin") >"$build/every_call.txt"
-for program in quote every_call; do
+for program in every_call stack; do
+  "$build/$program" "$data/rates.bin" "$data/job.bin" >"$build/$program.txt"
+done
+for program in quote every_call stack; do
   diff "$here/$program.txt" "$build/$program.txt"
 done
 echo "C programs: as expected"

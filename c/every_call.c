@@ -1,15 +1,15 @@
 /* Makes every call of fikrem.h: done, refused, and with each buffer too short in turn. Prints how it ends, and after a refusal
  * whether the lent buffers are unchanged. Arguments: the rate book's file, the request's file. */
 #include "fikrem.h"
+#include "files.h"
 
 #include <inttypes.h>
 #include <stdio.h>
-#include <stdlib.h>
 #include <string.h>
 
-enum { FILE_SIZE = 4096, MARK = 0xA5 };
+enum { MARK = 0xA5 };
 
-/* Everything that a call is lent. The answer stands last, since a refusal may change it alone. */
+/* Everything that a call is lent. */
 struct buffers {
     uint8_t book[FILE_SIZE], request[FILE_SIZE], stored[FIKREM_LEDGER_SIZE];
     uint8_t text[FIKREM_TEXT_SIZE], out[FIKREM_LEDGER_SIZE];
@@ -19,39 +19,6 @@ struct buffers {
 
 static struct buffers lent, before;
 static size_t book_size, request_size, stored_size, table_size = FIKREM_TABLE_SIZE;
-
-/* The files. */
-
-static size_t read_file(const char *name, uint8_t *bytes)
-{
-    FILE *file = fopen(name, "rb");
-    if (file == NULL) {
-        perror(name);
-        exit(2);
-    }
-    size_t size = fread(bytes, 1, FILE_SIZE, file);
-    fclose(file);
-    return size;
-}
-
-static uint8_t *value_of(uint8_t *file, uint8_t tag)
-{
-    while (file[0] != tag) {
-        file += 3 + 256 * file[1] + file[2];
-    }
-    return file + 3;
-}
-
-/* The check that goes with the file's other bytes. */
-static void set_check(uint8_t *file, size_t size)
-{
-    uint32_t h = 0;
-    for (size_t place = 0; place < size - 2; place++) {
-        h = (h * 257 + file[place] + 1) % 65521;
-    }
-    file[size - 2] = (uint8_t)(h / 256);
-    file[size - 1] = (uint8_t)(h % 256);
-}
 
 static void join_scheme(uint8_t scheme)
 {
@@ -70,45 +37,44 @@ static void mark(void)
     memcpy(&before, &lent, sizeof lent);
 }
 
-static uint32_t price(size_t figures_places, size_t answer_places)
+static uint64_t price(size_t figures_places)
 {
     mark();
-    return fikrem_price(lent.book, book_size, lent.request, request_size, lent.figures, figures_places,
-                        lent.answer, answer_places);
+    return fikrem_price(lent.book, book_size, lent.request, request_size, lent.figures, figures_places);
 }
 
-static uint32_t slip_text(size_t text_size, size_t answer_places)
+static uint64_t slip_text(size_t text_size, size_t answer_places)
 {
     mark();
     return fikrem_slip_text(lent.book, book_size, lent.request, request_size, lent.text, text_size, lent.answer, answer_places);
 }
 
-static uint32_t new_ledger(size_t out_size, size_t answer_places)
+static uint64_t new_ledger(size_t out_size, size_t answer_places)
 {
     mark();
     return fikrem_new_ledger(lent.out, out_size, lent.answer, answer_places);
 }
 
-static uint32_t accept(size_t out_size, size_t figures_places, size_t answer_places)
+static uint64_t accept(size_t out_size, size_t figures_places, size_t answer_places)
 {
     mark();
     return fikrem_accept(lent.stored, stored_size, table_size, lent.book, book_size, lent.request, request_size,
                          lent.out, out_size, lent.figures, figures_places, lent.answer, answer_places);
 }
 
-static uint32_t pay_out(uint32_t entry, uint64_t amount, size_t out_size, size_t answer_places)
+static uint64_t pay_out(uint32_t entry, uint64_t amount, size_t out_size, size_t answer_places)
 {
     mark();
     return fikrem_pay_out(lent.stored, stored_size, table_size, entry, amount, lent.out, out_size, lent.answer, answer_places);
 }
 
-static uint32_t hand_over(uint32_t entry, uint32_t person, size_t out_size, size_t answer_places)
+static uint64_t hand_over(uint32_t entry, uint32_t person, size_t out_size, size_t answer_places)
 {
     mark();
     return fikrem_hand_over(lent.stored, stored_size, table_size, entry, person, lent.out, out_size, lent.answer, answer_places);
 }
 
-static uint32_t check_ledger(size_t answer_places)
+static uint64_t check_ledger(size_t answer_places)
 {
     mark();
     return fikrem_check_ledger(lent.stored, stored_size, table_size, lent.answer, answer_places);
@@ -116,27 +82,24 @@ static uint32_t check_ledger(size_t answer_places)
 
 /* How they end. */
 
-static const char *unchanged(size_t size)
+static void tell_refusal(const char *call, uint64_t result)
 {
-    return memcmp(&lent, &before, size) == 0 ? "unchanged" : "CHANGED";
+    printf("%s: refused by %" PRIu64 ", file %" PRIu64 ", place %" PRIu64 "%s; all %s\n", call, FIKREM_NUMBER(result),
+           FIKREM_FILE(result), FIKREM_PLACE(result), FIKREM_OF_LEDGER(result) ? ", of the stored ledger" : "",
+           memcmp(&lent, &before, sizeof lent) == 0 ? "unchanged" : "CHANGED");
 }
 
-static void tell(const char *call, uint32_t result)
+static void tell(const char *call, uint64_t result)
 {
-    printf("%s: result %" PRIu32 ", answer", call, result);
+    if (result != FIKREM_DONE) {
+        tell_refusal(call, result);
+        return;
+    }
+    printf("%s: done, answer", call);
     for (int place = 0; place < FIKREM_ANSWER; place++) {
         printf(" %" PRIu64, lent.answer[place]);
     }
-    if (result != FIKREM_DONE) {
-        printf("; all but the answer %s", unchanged(offsetof(struct buffers, answer)));
-    }
     printf("\n");
-}
-
-/* Of a call that a buffer is too short for: it may not change the answer either. */
-static void tell_short(const char *call, uint32_t result)
-{
-    printf("%s: result %" PRIu32 "; all %s\n", call, result, unchanged(sizeof lent));
 }
 
 static void tell_figures(void)
@@ -159,13 +122,14 @@ static void keep(void)
 
 static void try_price(void)
 {
-    tell("price", price(FIKREM_FIGURES, FIKREM_ANSWER));
+    if (price(FIKREM_FIGURES) == FIKREM_DONE) {
+        puts("price: done");
+    }
     tell_figures();
     lent.request[0] ^= 1;
-    tell("price, a byte of the request altered", price(FIKREM_FIGURES, FIKREM_ANSWER));
+    tell("price, a byte of the request altered", price(FIKREM_FIGURES));
     lent.request[0] ^= 1;
-    tell_short("price, 20 figures", price(FIKREM_FIGURES - 1, FIKREM_ANSWER));
-    tell_short("price, 7 places of the answer", price(FIKREM_FIGURES, FIKREM_ANSWER - 1));
+    tell("price, 20 figures", price(FIKREM_FIGURES - 1));
 }
 
 static void try_slip_text(void)
@@ -173,16 +137,16 @@ static void try_slip_text(void)
     tell("slip text", slip_text(sizeof lent.text, FIKREM_ANSWER));
     size_t size = lent.answer[FIKREM_WRITTEN];
     fwrite(lent.text, 1, size, stdout);
-    tell_short("slip text, a byte short", slip_text(size - 1, FIKREM_ANSWER));
-    tell_short("slip text, 7 places of the answer", slip_text(size, FIKREM_ANSWER - 1));
+    tell("slip text, a byte short", slip_text(size - 1, FIKREM_ANSWER));
+    tell("slip text, 3 places of the answer", slip_text(size, FIKREM_ANSWER - 1));
 }
 
 static void try_new_ledger(void)
 {
     tell("new ledger", new_ledger(sizeof lent.out, FIKREM_ANSWER));
     keep();
-    tell_short("new ledger, a byte short", new_ledger(stored_size - 1, FIKREM_ANSWER));
-    tell_short("new ledger, 7 places of the answer", new_ledger(stored_size, FIKREM_ANSWER - 1));
+    tell("new ledger, a byte short", new_ledger(stored_size - 1, FIKREM_ANSWER));
+    tell("new ledger, 3 places of the answer", new_ledger(stored_size, FIKREM_ANSWER - 1));
 }
 
 /* A request that opens nothing, then under a threshold of 0 one that opens a scheme and one that joins it. */
@@ -203,9 +167,9 @@ static void try_accept(void)
     join_scheme(1);
     tell("accept, joining", accept(sizeof lent.out, FIKREM_FIGURES, FIKREM_ANSWER));
     size_t size = lent.answer[FIKREM_WRITTEN];
-    tell_short("accept, a byte short", accept(size - 1, FIKREM_FIGURES, FIKREM_ANSWER));
-    tell_short("accept, 20 figures", accept(size, FIKREM_FIGURES - 1, FIKREM_ANSWER));
-    tell_short("accept, 7 places of the answer", accept(size, FIKREM_FIGURES, FIKREM_ANSWER - 1));
+    tell("accept, a byte short", accept(size - 1, FIKREM_FIGURES, FIKREM_ANSWER));
+    tell("accept, 20 figures", accept(size, FIKREM_FIGURES - 1, FIKREM_ANSWER));
+    tell("accept, 3 places of the answer", accept(size, FIKREM_FIGURES, FIKREM_ANSWER - 1));
     accept(size, FIKREM_FIGURES, FIKREM_ANSWER);
     keep();
 }
@@ -216,8 +180,8 @@ static void try_pay_out(void)
     keep();
     tell("pay-out, above the credit", pay_out(1, 400000, stored_size, FIKREM_ANSWER));
     tell("pay-out, no such entry", pay_out(3, 0, stored_size, FIKREM_ANSWER));
-    tell_short("pay-out, a byte short", pay_out(1, 0, stored_size - 1, FIKREM_ANSWER));
-    tell_short("pay-out, 7 places of the answer", pay_out(1, 0, stored_size, FIKREM_ANSWER - 1));
+    tell("pay-out, a byte short", pay_out(1, 0, stored_size - 1, FIKREM_ANSWER));
+    tell("pay-out, 3 places of the answer", pay_out(1, 0, stored_size, FIKREM_ANSWER - 1));
 }
 
 static void try_hand_over(void)
@@ -225,14 +189,14 @@ static void try_hand_over(void)
     tell("hand-over", hand_over(2, 4712, stored_size, FIKREM_ANSWER));
     keep();
     tell("hand-over, no such entry", hand_over(3, 4712, stored_size, FIKREM_ANSWER));
-    tell_short("hand-over, a byte short", hand_over(2, 4712, stored_size - 1, FIKREM_ANSWER));
-    tell_short("hand-over, 7 places of the answer", hand_over(2, 4712, stored_size, FIKREM_ANSWER - 1));
+    tell("hand-over, a byte short", hand_over(2, 4712, stored_size - 1, FIKREM_ANSWER));
+    tell("hand-over, 3 places of the answer", hand_over(2, 4712, stored_size, FIKREM_ANSWER - 1));
 }
 
 static void try_check_ledger(void)
 {
     tell("check", check_ledger(FIKREM_ANSWER));
-    tell_short("check, 7 places of the answer", check_ledger(FIKREM_ANSWER - 1));
+    tell("check, 3 places of the answer", check_ledger(FIKREM_ANSWER - 1));
 }
 
 /* Each call on a stored ledger that is refused itself. */

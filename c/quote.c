@@ -9,7 +9,10 @@ int main(void)
     FILE *rates = fopen("rates.bin", "rb"), *job = fopen("job.bin", "rb");
     size_t book_size = rates ? fread(book, 1, sizeof book, rates) : 0;
     size_t request_size = job ? fread(request, 1, sizeof request, job) : 0;
-    uint32_t result = fikrem_slip_text(book, book_size, request, request_size, text, sizeof text, answer, FIKREM_ANSWER);
+    uint64_t result = fikrem_slip_text(book, book_size, request, request_size, text, sizeof text, answer, FIKREM_ANSWER);
+    if (result != FIKREM_DONE) {
+        return (int)FIKREM_NUMBER(result);
+    }
     fwrite(text, 1, answer[FIKREM_WRITTEN], stdout);
-    return (int)result;
+    return 0;
 }

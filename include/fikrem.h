@@ -1,11 +1,13 @@
 /* Fikrem for the firmware of quoting units: connection charges and pioneer ledgers on lent buffers.
  *
- * Link target/staticlib/libquoting_unit.a (x86-64). No call allocates, keeps anything or writes past the sizes that it is handed.
- * Each needs less than 256 KiB of stack. Every buffer is a pointer and its size in elements. No pointer is NULL, also where its
- * size is 0, and no two buffers of one call overlap where one of them is written.
+ * Link target/staticlib/libquoting_unit.a (x86-64). It needs memcpy and memset, which every C library has, and nothing else. No
+ * call allocates, keeps anything or writes past the sizes that it is handed. Every buffer is a pointer and its size in elements.
+ * No pointer is NULL, also where its size is 0, and no two buffers of one call overlap where one of them is written.
  *
- * Each result is FIKREM_DONE, or the number of the refusal. A refused call changes no byte of any buffer but the answer, and
- * FIKREM_SHORT_BUFFER not even that.
+ * Money is in whole cents, capacity in hundredths of a kVA; a month is year * 12 + (month - 1), so that April 2026 is 24315.
+ *
+ * A call takes at most this much stack, in KiB, as c/stack.c measures it on a painted stack with the longest ledger: price 4, slip
+ * text 12, new ledger 40, check 80, pay-out and hand-over 112, accept 128.
  */
 #ifndef FIKREM_H
 #define FIKREM_H
@@ -13,120 +15,140 @@
 #include <stddef.h>
 #include <stdint.h>
 
-/* The refusals in document 01's words. 14 is also where a slip's text, an answer or figures are too short. */
-enum fikrem_result {
+/* The version of this interface. */
+#define FIKREM_VERSION 2
+
+/* Each result is FIKREM_DONE, or a refusal: its number, its file, whether it is of the stored ledger itself, and its place, which
+ * these take out of it. A refused call has written nothing: every byte of every buffer is as it was.
+ *
+ * File: 1 the book, or the stored ledger where that is refused itself; 2 the request, and for 4 and 5; 0 from number 6 on.
+ * Of ledger: 1 where the stored ledger itself is refused, so that file 1 is not mistaken for the book; otherwise 0.
+ * Place: the offset of a byte in the file for 1 to 3, the tier, 1 to 5, for 5, otherwise 0. For 1 the offset of the first field
+ * that can't stand there, or 0 where the last five bytes are wrong; for 2 of the check; for 3 of the value's first byte. */
+#define FIKREM_NUMBER(result) ((result) % 16)
+#define FIKREM_FILE(result) ((result) / 16 % 4)
+#define FIKREM_OF_LEDGER(result) ((result) / 64 % 2)
+#define FIKREM_PLACE(result) ((result) / 256)
+
+/* FIKREM_NUMBER of a result. */
+enum fikrem_number {
     FIKREM_DONE = 0,
-    FIKREM_NO_WALK = 1,        /* file doesn't walk as above */
-    FIKREM_CHECK = 2,          /* check differs */
-    FIKREM_VALUE = 3,          /* value or letters not as listed; in a stored ledger only the letters */
-    FIKREM_ZONE = 4,           /* zone not in the book */
-    FIKREM_BESPOKE = 5,        /* bespoke rate not allowed */
-    FIKREM_NO_SCHEME = 6,      /* scheme never opened */
-    FIKREM_MONTH = 7,          /* month before the last accepted */
-    FIKREM_SCHEMES_FULL = 8,   /* 64 schemes, one must open */
-    FIKREM_ENTRIES_FULL = 9,   /* no table entry left, one is needed */
-    FIKREM_CONNECTIONS = 10,   /* 1,000,000 connections taken */
-    FIKREM_NO_ENTRY = 11,      /* no such entry */
-    FIKREM_ABOVE_CREDIT = 12,  /* pay-out above standing credit */
-    FIKREM_UNSOUND = 13,       /* ledger unsound, or table shorter than its entries */
-    FIKREM_SHORT_BUFFER = 14   /* output shorter than the stored form */
+    FIKREM_NO_WALK = 1,        /* a field can't stand at the place, or the file's last five bytes are wrong */
+    FIKREM_CHECK = 2,          /* the file's check differs */
+    FIKREM_VALUE = 3,          /* a value is past its limits, or the file's letters differ; in a stored ledger only the letters */
+    FIKREM_ZONE = 4,           /* the request's zone is not in the book */
+    FIKREM_BESPOKE = 5,        /* a bespoke rate is not allowed */
+    FIKREM_NO_SCHEME = 6,      /* the scheme that the request joins was never opened */
+    FIKREM_MONTH = 7,          /* the month is before the last accepted */
+    FIKREM_SCHEMES_FULL = 8,   /* there are 64 schemes, and one must open */
+    FIKREM_ENTRIES_FULL = 9,   /* the table has fewer records than the stored ledger has entries, or none left where accept needs one */
+    FIKREM_CONNECTIONS = 10,   /* 1,000,000 connections are taken */
+    FIKREM_NO_ENTRY = 11,      /* there is no such entry */
+    FIKREM_ABOVE_CREDIT = 12,  /* the pay-out is above the standing credit */
+    FIKREM_UNSOUND = 13,       /* the stored ledger is unsound */
+    FIKREM_SHORT_BUFFER = 14   /* the output, the answer or the figures are too short */
 };
 
-/* The answer: at least FIKREM_ANSWER places. Where it has fewer, or the figures fewer than FIKREM_FIGURES, the result is
- * FIKREM_SHORT_BUFFER before anything else. Places past these are left as they were. */
+/* The answer of a done call: at least FIKREM_ANSWER places. Where it has fewer, or the figures fewer than FIKREM_FIGURES, the
+ * result is FIKREM_SHORT_BUFFER before anything else. Places past these are left as they were, and a place that a call has
+ * nothing for is 0. */
 enum fikrem_answer {
-    FIKREM_NUMBER = 0,         /* number, file and place of the refusal, as document 01 gives them; 0 where the call is done */
-    FIKREM_FILE = 1,           /* 1 book or a file read alone, 2 request, 0 from number 6 on */
-    FIKREM_PLACE = 2,
-    FIKREM_OF_LEDGER = 3,      /* 1 where the stored ledger itself is refused, so that file 1 is not mistaken for the book */
-    FIKREM_SCHEME_ANSWER = 4,  /* accept: one of enum fikrem_scheme_answer */
-    FIKREM_WHICH = 5,          /* accept: the scheme's number where one opened, the entry's where one joined */
-    FIKREM_COLLECTED = 6,      /* accept: the contribution G that was collected, in cents */
-    FIKREM_WRITTEN = 7,        /* bytes written into text or out */
-    FIKREM_ANSWER = 8
+    FIKREM_SCHEME_ANSWER = 0,  /* accept: one of enum fikrem_scheme_answer */
+    FIKREM_WHICH = 1,          /* accept: the scheme's number where one opened, the entry's where one joined */
+    FIKREM_COLLECTED = 2,      /* accept: the contribution G that was collected, in cents */
+    FIKREM_WRITTEN = 3,        /* bytes written into text or out */
+    FIKREM_ANSWER = 4
 };
 
-/* Places 4 to 7 where fikrem_check_ledger is done. */
-enum fikrem_checked { FIKREM_SCHEMES = 4, FIKREM_ENTRIES = 5, FIKREM_CONNECTED = 6, FIKREM_LAST_MONTH = 7 };
+/* The same places where fikrem_check_ledger is done: schemes, entries, connections, the last accepted month. */
+enum fikrem_checked { FIKREM_SCHEMES = 0, FIKREM_ENTRIES = 1, FIKREM_CONNECTED = 2, FIKREM_LAST_MONTH = 3 };
 
 enum fikrem_scheme_answer {
-    FIKREM_PLAIN = 1,
-    FIKREM_OPENED = 2,
-    FIKREM_JOINED = 3,
-    FIKREM_SMALL = 4,
-    FIKREM_ENDED = 5
+    FIKREM_PLAIN = 1,          /* no scheme is opened or joined */
+    FIKREM_OPENED = 2,         /* a scheme opened, and the applicant is its first entry */
+    FIKREM_JOINED = 3,         /* the applicant joined a scheme: G was collected, and earlier entries are credited */
+    FIKREM_SMALL = 4,          /* G would be below the scheme's minimum: nothing is collected */
+    FIKREM_ENDED = 5           /* the scheme's term has ended: nothing is collected */
 };
 
-/* The figures: at least FIKREM_FIGURES places, whole cents. Written only where the call is done. A percentage has two places:
- * 1 and the percentage, or 0 and 0 where there is none. */
+/* The figures of a done call: at least FIKREM_FIGURES places, in cents. A percentage has two places: 1 and the percentage, or 0
+ * and 0 where there is none. CC holds no pioneer contribution: a joiner owes CC and what was collected. */
 enum fikrem_figure {
-    FIKREM_ME = 0,
-    FIKREM_MC = 1,
-    FIKREM_CE = 2,
-    FIKREM_CC2 = 3,
-    FIKREM_TW = 4,
-    FIKREM_HR = 5,
-    FIKREM_OL = 6,
-    FIKREM_IC = 7,
-    FIKREM_IR = 8,
-    FIKREM_CC = 9,
-    FIKREM_NIC = 10,
-    FIKREM_NC = 11,
-    FIKREM_X = 12,
-    FIKREM_ENTERED = 13,
-    FIKREM_BORNE = 14,
+    FIKREM_ME = 0,             /* minimum scheme extension */
+    FIKREM_MC = 1,             /* capacity: the demands of the five tiers at their rates */
+    FIKREM_CE = 2,             /* customer enhancement extension */
+    FIKREM_CC2 = 3,            /* capacity of the customer's enhancement: its added demands at the same rates */
+    FIKREM_TW = 4,             /* transmission works */
+    FIKREM_HR = 5,             /* historical cost recovery */
+    FIKREM_OL = 6,             /* operating loading */
+    FIKREM_IC = 7,             /* incremental cost: the seven above */
+    FIKREM_IR = 8,             /* incremental revenue: the lines charges of the years to come, discounted */
+    FIKREM_CC = 9,             /* connection charge */
+    FIKREM_NIC = 10,           /* net incremental cost, IC - IR; may be negative */
+    FIKREM_NC = 11,            /* network contribution, CC - NIC; may be negative */
+    FIKREM_X = 12,             /* cost of the scheme that this connection opens, if it opens one */
+    FIKREM_ENTERED = 13,       /* cost entered: IC and the distributor's enhancement */
+    FIKREM_BORNE = 14,         /* borne by the company; with CC, the cost entered */
     FIKREM_HAS_RELIANCE = 15,
-    FIKREM_RELIANCE = 16,
+    FIKREM_RELIANCE = 16,      /* CC / IC */
     FIKREM_HAS_UPFRONT = 17,
-    FIKREM_UPFRONT = 18,
+    FIKREM_UPFRONT = 18,       /* CC / (CC + IR) */
     FIKREM_HAS_NCRATIO = 19,
-    FIKREM_NCRATIO = 20,
+    FIKREM_NCRATIO = 20,       /* NC / (CC + IR); may be negative */
     FIKREM_FIGURES = 21
 };
+
+/* The longest book and request, in bytes; longer ones are refused by 1 or 2. */
+#define FIKREM_BOOK_SIZE 313
+#define FIKREM_REQUEST_SIZE 205
 
 /* The longest slip, and the longest stored ledger: 7 + 25 + 64 * 27 + 512 * 33 + 5 bytes. */
 #define FIKREM_TEXT_SIZE 256
 #define FIKREM_LEDGER_SIZE 18661
 
-/* The longest party table. A call's table_size is the length of the unit's own in records; a longer one than this counts as this.
- * A stored ledger that has more entries than the table has records is refused by 9. */
+/* The longest party table. A call's table_size is the length of the unit's own in records; a longer one than this counts as this. */
 #define FIKREM_TABLE_SIZE 512
 
 #ifdef __cplusplus
 extern "C" {
 #endif
 
-/* The reconciliation of a request by a rate book, into the figures. Refusals: 1 to 5, 14. */
-uint32_t fikrem_price(const uint8_t *book, size_t book_size, const uint8_t *request, size_t request_size,
-                      int64_t *figures, size_t figures_places, uint64_t *answer, size_t answer_places);
+/* The reconciliation of a request by a rate book, into the figures. Refusals in turn: 14; the book's 1 to 3, the request's 1 to 3;
+ * 4, 5. */
+uint64_t fikrem_price(const uint8_t *book, size_t book_size, const uint8_t *request, size_t request_size,
+                      int64_t *figures, size_t figures_places);
 
-/* The slip's lines into text, FIKREM_TEXT_SIZE bytes at most, without a closing 0. A request that is not priced has a slip too,
- * the line `REFUSED n file place`: then too the call is done. Refusals: 14. */
-uint32_t fikrem_slip_text(const uint8_t *book, size_t book_size, const uint8_t *request, size_t request_size,
+/* The slip's lines into text, FIKREM_TEXT_SIZE bytes at most, without a closing 0; how many in FIKREM_WRITTEN. A request that is not
+ * priced has a slip too, the line `REFUSED n file place`: then too the call is done. Refusals: 14. */
+uint64_t fikrem_slip_text(const uint8_t *book, size_t book_size, const uint8_t *request, size_t request_size,
                           uint8_t *text, size_t text_size, uint64_t *answer, size_t answer_places);
 
-/* The stored form of a new ledger into out. Refusals: 14. */
-uint32_t fikrem_new_ledger(uint8_t *out, size_t out_size, uint64_t *answer, size_t answer_places);
+/* The calls on a ledger take its stored form and write the ledger after them into out, FIKREM_LEDGER_SIZE bytes at most. After a
+ * done call out holds the ledger: its first answer[FIKREM_WRITTEN] bytes are the next call's stored, and that number is its
+ * stored_size. After a refused one stored is still the ledger. */
 
-/* Accepts a request: the ledger after it into out, FIKREM_LEDGER_SIZE bytes at most, and the reconciliation into the figures.
- * Refusals in turn: the stored ledger's 1, 2, 3, 9, 13; book and request 1 to 3; 4, 5, 10, 7, 6, 8, 9; 14. */
-uint32_t fikrem_accept(const uint8_t *stored, size_t stored_size, size_t table_size, const uint8_t *book, size_t book_size,
+/* The stored form of a new ledger into out. Refusals: 14. */
+uint64_t fikrem_new_ledger(uint8_t *out, size_t out_size, uint64_t *answer, size_t answer_places);
+
+/* Accepts a request: the ledger after it into out, the reconciliation into the figures. Refusals in turn: 14 for the answer or the
+ * figures; the stored ledger's 1, 2, 3, 9, 13; the book's 1 to 3, the request's 1 to 3; 4, 5, 10, 7, 6, 8, 9; 14 for out. */
+uint64_t fikrem_accept(const uint8_t *stored, size_t stored_size, size_t table_size, const uint8_t *book, size_t book_size,
                        const uint8_t *request, size_t request_size, uint8_t *out, size_t out_size,
                        int64_t *figures, size_t figures_places, uint64_t *answer, size_t answer_places);
 
-/* Pays an amount in cents out to an entry, numbered from 1: the ledger after it into out. Refusals in turn: the stored ledger's
- * 1, 2, 3, 9, 13; 11, 12, 14. */
-uint32_t fikrem_pay_out(const uint8_t *stored, size_t stored_size, size_t table_size, uint32_t entry, uint64_t amount,
+/* Pays an amount in cents out to an entry, numbered from 1: the ledger after it into out. Refusals in turn: 14 for the answer; the
+ * stored ledger's 1, 2, 3, 9, 13; 11, 12; 14 for out. */
+uint64_t fikrem_pay_out(const uint8_t *stored, size_t stored_size, size_t table_size, uint32_t entry, uint64_t amount,
                         uint8_t *out, size_t out_size, uint64_t *answer, size_t answer_places);
 
-/* Gives an entry another person number: the ledger after it into out. Refusals in turn: the stored ledger's 1, 2, 3, 9, 13;
- * 11, 14. */
-uint32_t fikrem_hand_over(const uint8_t *stored, size_t stored_size, size_t table_size, uint32_t entry, uint32_t person,
+/* Gives an entry another person number: the ledger after it into out. Refusals in turn: 14 for the answer; the stored ledger's 1, 2,
+ * 3, 9, 13; 11; 14 for out. */
+uint64_t fikrem_hand_over(const uint8_t *stored, size_t stored_size, size_t table_size, uint32_t entry, uint32_t person,
                           uint8_t *out, size_t out_size, uint64_t *answer, size_t answer_places);
 
-/* Whether a stored ledger can be read; where it can, schemes, entries, connections and the last accepted month are in places 4
- * to 7 of the answer. Refusals in turn: 14; the stored ledger's 1, 2, 3, 9, 13. */
-uint32_t fikrem_check_ledger(const uint8_t *stored, size_t stored_size, size_t table_size,
+/* Whether a stored ledger can be read; where it can, the answer has what it holds. Refusals in turn: 14; the stored ledger's 1, 2,
+ * 3, 9, 13. */
+uint64_t fikrem_check_ledger(const uint8_t *stored, size_t stored_size, size_t table_size,
                              uint64_t *answer, size_t answer_places);
 
 #ifdef __cplusplus

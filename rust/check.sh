@@ -1,6 +1,11 @@
 #!/usr/bin/env bash
 # Builds the workspace offline and runs every test of it. The library must stand in FIKREM_LIB, or in target/staticlib.
 set -euo pipefail
+# from the root on: cargo runs elsewhere
+if [ -n "${FIKREM_LIB:-}" ]; then
+  FIKREM_LIB="$(cd "$FIKREM_LIB" && pwd)"
+  export FIKREM_LIB
+fi
 cd -P "$(dirname "${BASH_SOURCE[0]}")"
 # Outside the source tree, and another for each place of the repository: cargo takes files of two copies for the same.
 export CARGO_TARGET_DIR="${CARGO_TARGET_DIR:-${TMPDIR:-/tmp}/fikrem-cargo-$(pwd | cksum | cut -d' ' -f1)}"

@@ -10,6 +10,8 @@ fn main() {
         Some(folder) => PathBuf::from(folder),
         None => PathBuf::from(env::var_os("CARGO_MANIFEST_DIR").expect("cargo sets it")).join("../../target/staticlib"),
     };
+    // cargo runs this in the package's folder and the linker in another, so that a relative folder would be two
+    assert!(folder.is_absolute(), "FIKREM_LIB is {}: name the folder from the root on", folder.display());
     let library = folder.join("libquoting_unit.a");
     println!("cargo:rerun-if-changed={}", library.display());
     assert!(library.exists(), "there is no {}: build it by 'rt staticlib quoting_unit'", library.display());

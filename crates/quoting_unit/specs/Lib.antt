@@ -1,7 +1,10 @@
 pub mod Interface
+pub mod Places
 pub mod Unit
 pub mod UnitBuffers
 pub mod UnitFacts
+pub mod UnitPlaces
 pub mod UnitRefusals
 pub mod UnitResults
 pub mod UnitRows
+pub mod UnitTold

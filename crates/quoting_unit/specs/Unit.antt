@@ -1,17 +1,19 @@
 -- What each call of the unit leaves, by its inputs alone. Where the answer or the figures are too short for their places that is 14 and every buffer as it
--- was; otherwise the result is 0 or the refusal's number, and the answer says more. `tableSize` is the party table's length in records; more than 512
+-- was; otherwise the result is 0 or the refusal, and where it is 0 the answer says more. `tableSize` is the party table's length in records; more than 512
 -- counts as 512.
 use Prim.Native.Nat.{ℕ}
-use mathlib.Core.Bool.{cond}
+use mathlib.Core.Path.{_≡_, refl}
+use mathlib.Core.Bool.{Bool, true, cond}
 use mathlib.Core.List.{List, [], _∷_}
 use lib.IntN.{ℤ}
+use Rattle.tagged.specs.File.{refusal}
 use Rattle.charge.specs.Price.{priceOf}
 use Rattle.charge.specs.declared.Pricing.{Pricing}
 use Rattle.charge.specs.declared.Pricing.the-variants.{Priced, NotPriced}
 use Rattle.slip_text.specs.Slip.{slipWritten, slipBuffer}
 use Rattle.slip_text.specs.declared.SlipWritten.{SlipWritten}
 use Rattle.slip_text.specs.declared.SlipWritten.the-variants.{Written, Refused}
-use Rattle.calls.specs.Decision.{accept, payOut, handOver}
+use Rattle.calls.specs.Decision.{Call, accept, payOut, handOver}
 use Rattle.calls.specs.declared.answers.JoiningAnswer.{JoiningAnswer}
 use Rattle.calls.specs.declared.answers.JoiningAnswer.the-variants.{NotAsked, Ended, Small, Joined}
 use Rattle.calls.specs.declared.answers.OpeningAnswer.{OpeningAnswer}
@@ -19,60 +21,42 @@ use Rattle.calls.specs.declared.answers.OpeningAnswer.the-variants.{NotOpened, 
 use Rattle.stored_calls.specs.StoredCalls.{StoredCallAnswer, notRead, notMade, madeAccepted, madeDone, CallEnd, newStoredOf, storedCallOf, checkStoredOf}
 use Rattle.stored_calls.specs.declared.StoredCheck.{StoredCheck}
 use Rattle.stored_calls.specs.declared.StoredCheck.the-variants as StoredCheck
-use Rattle.quoting_unit.specs.Interface.{done, refused, answerAfter, figuresAfter, answerShort, anyShort}
-use Rattle.quoting_unit.specs.declared.Outcome.{Outcome}
+use Rattle.quoting_unit.specs.Interface.{UnitEnding, isDone, isRefused, outcomeOf, Lent, answerAfter, figuresAfter, answerShort, figuresShort}
 
--- ---- what a call leaves: its result, and its lent buffers
+-- the calls: those on a stored ledger with its bytes and the table's length
+pub data UnitCall : Type 0 where
+  price : List ℕ → List ℕ → UnitCall
+  slipText : List ℕ → List ℕ → UnitCall
+  newLedger : UnitCall
+  onLedger : List ℕ → ℕ → Call → UnitCall
+  checkLedger : List ℕ → ℕ → UnitCall
 
-pub record PriceEnd : Type 0 where
-  pub result : ℕ
-  pub figures : List ℤ
-  pub answer : List ℕ
+-- the figures are lent to price and accept, the answer to all but price
+abbrev pub tooShort : UnitCall → Lent → Bool
+tooShort (price book request) lent = figuresShort lent
+tooShort (slipText book request) lent = answerShort lent
+tooShort newLedger lent = answerShort lent
+tooShort (onLedger stored tableSize (accept book request)) lent = cond (answerShort lent) true (figuresShort lent)
+tooShort (onLedger stored tableSize (payOut entry amount)) lent = answerShort lent
+tooShort (onLedger stored tableSize (handOver entry person)) lent = answerShort lent
+tooShort (checkLedger stored tableSize) lent = answerShort lent
 
-pub record OutputEnd : Type 0 where
-  pub result : ℕ
+-- ---- what a call comes to where no place is missing: how it ends, and output and figures after it
+
+pub record Made : Type 0 where
+  pub ending : UnitEnding
   pub output : List ℕ
-  pub answer : List ℕ
-
-pub record AcceptEnd : Type 0 where
-  pub result : ℕ
-  pub output : List ℕ
   pub figures : List ℤ
-  pub answer : List ℕ
 
-pub record CheckEnd : Type 0 where
-  pub result : ℕ
-  pub answer : List ℕ
+-- price: figures are written only where a reconciliation comes out
+abbrev pub priceMade : Pricing → Lent → Made
+priceMade (Priced bill) lent = record { ending = isDone []; output = lent .output; figures = figuresAfter (bill .reconciliation) (lent .figures) }
+priceMade (NotPriced r) lent = record { ending = isRefused r 0; output = lent .output; figures = lent .figures }
 
--- ---- price: figures are written only where a reconciliation comes out
-
-abbrev pub priceEnd : Pricing → List ℤ → List ℕ → PriceEnd
-priceEnd (Priced bill) figures answer =
-    record { result = 0; figures = figuresAfter (bill .reconciliation) figures; answer = answerAfter (done (0 ∷ 0 ∷ 0 ∷ 0 ∷ [])) answer }
-priceEnd (NotPriced r) figures answer = record { result = r .number; figures = figures; answer = answerAfter (refused r 0) answer }
-
-abbrev pub priceCall : List ℕ → List ℕ → List ℤ → List ℕ → PriceEnd
-priceCall book request figures answer =
-    cond (anyShort figures answer) (record { result = 14; figures = figures; answer = answer }) (priceEnd (priceOf book request) figures answer)
-
--- ---- the slip's text, which is its output
-
--- a call with one output: what it was before and is after it
-abbrev pub outputCall : Outcome → List ℕ → List ℕ → List ℕ → OutputEnd
-outputCall outcome before after answer =
-    cond (answerShort answer) (record { result = 14; output = before; answer = answer })
-    (record { result = outcome .refusal .number; output = after; answer = answerAfter outcome answer })
-
-abbrev pub slipOutcome : SlipWritten → Outcome
-slipOutcome (Written size) = done (0 ∷ 0 ∷ 0 ∷ size ∷ [])
-slipOutcome (Refused r) = refused r 0
-
-abbrev pub slipTextCall : List ℕ → List ℕ → List ℕ → List ℕ → OutputEnd
-slipTextCall book request text answer =
-    let pricing = priceOf book request in
-    outputCall (slipOutcome (slipWritten pricing text)) text (slipBuffer pricing text) answer
-
--- ---- a call on a stored ledger
+-- the slip's text, which is its output: its length
+abbrev pub slipEnding : SlipWritten → UnitEnding
+slipEnding (Written size) = isDone (0 ∷ 0 ∷ 0 ∷ size ∷ [])
+slipEnding (Refused r) = isRefused r 0
 
 -- 1 plain, 2 opened and the scheme's number, 3 joined and the entry's number and G, 4 small, 5 ended; the new form's length. A request that asks for a
 -- joining opens no scheme.
@@ -83,56 +67,66 @@ acceptanceTold (Joined collected) opening size = 3 ∷ collected .entry ∷ coll
 acceptanceTold Small opening size = 4 ∷ 0 ∷ 0 ∷ size ∷ []
 acceptanceTold Ended opening size = 5 ∷ 0 ∷ 0 ∷ size ∷ []
 
--- pay-out and hand-over tell the new form's length too
-abbrev pub callOutcome : StoredCallAnswer → Outcome
-callOutcome (notRead r) = refused r 1
-callOutcome (notMade r) = refused r 0
-callOutcome (madeAccepted acceptance size) = done (acceptanceTold (acceptance .joining) (acceptance .opening) size)
-callOutcome (madeDone size) = done (0 ∷ 0 ∷ 0 ∷ size ∷ [])
+pub answers-placed :
+    (acceptanceTold NotAsked NotOpened 32 ≡ 1 ∷ 0 ∷ 0 ∷ 32 ∷ [])
+    × (acceptanceTold NotAsked (Opened 7) 32 ≡ 2 ∷ 7 ∷ 0 ∷ 32 ∷ [])
+    × (acceptanceTold (Joined (record { entry = 8; contribution = 9 })) NotOpened 32 ≡ 3 ∷ 8 ∷ 9 ∷ 32 ∷ [])
+    × (acceptanceTold Small NotOpened 32 ≡ 4 ∷ 0 ∷ 0 ∷ 32 ∷ [])
+    × (acceptanceTold Ended NotOpened 32 ≡ 5 ∷ 0 ∷ 0 ∷ 32 ∷ [])
+answers-placed = (refl, refl, refl, refl, refl)
 
-abbrev pub storedCall : CallEnd → List ℕ → List ℕ → OutputEnd
-storedCall called out answer = outputCall (callOutcome (called .answer)) out (called .output) answer
+-- the new ledger, pay-out and hand-over tell the new form's length too
+abbrev pub callEnding : StoredCallAnswer → UnitEnding
+callEnding (notRead r) = isRefused r 1
+callEnding (notMade r) = isRefused r 0
+callEnding (madeAccepted acceptance size) = isDone (acceptanceTold (acceptance .joining) (acceptance .opening) size)
+callEnding (madeDone size) = isDone (0 ∷ 0 ∷ 0 ∷ size ∷ [])
 
-abbrev pub newLedgerCall : List ℕ → List ℕ → OutputEnd
-newLedgerCall out answer = storedCall (newStoredOf out) out answer
-
-abbrev pub payOutCall : List ℕ → ℕ → ℕ → ℕ → List ℕ → List ℕ → OutputEnd
-payOutCall stored tableSize entry amount out answer = storedCall (storedCallOf stored tableSize (payOut entry amount) out) out answer
-
-abbrev pub handOverCall : List ℕ → ℕ → ℕ → ℕ → List ℕ → List ℕ → OutputEnd
-handOverCall stored tableSize entry person out answer = storedCall (storedCallOf stored tableSize (handOver entry person) out) out answer
-
--- ---- accept on a stored ledger: figures are written only where it is accepted
-
+-- accept: figures are written only where it is accepted
 abbrev pub figuresBy : StoredCallAnswer → List ℤ → List ℤ
 figuresBy (notRead r) figures = figures
 figuresBy (notMade r) figures = figures
 figuresBy (madeAccepted acceptance size) figures = figuresAfter (acceptance .reconciliation) figures
 figuresBy (madeDone size) figures = figures
 
-abbrev pub acceptEnd : StoredCallAnswer → List ℕ → List ℤ → List ℕ → AcceptEnd
-acceptEnd called output figures answer =
+abbrev pub ledgerMade : CallEnd → Lent → Made
+ledgerMade called lent =
+    record { ending = callEnding (called .answer); output = called .output; figures = figuresBy (called .answer) (lent .figures) }
+
+-- schemes, entries, connections, the last accepted month
+abbrev pub checkEnding : StoredCheck → UnitEnding
+checkEnding (StoredCheck.NotRead r) = isRefused r 1
+checkEnding (StoredCheck.Sound counts) = isDone (counts .schemes ∷ counts .entries ∷ counts .connections ∷ counts .month ∷ [])
+
+-- no bytes as a stored ledger, and as a book
+pub ledger-told-apart :
+    (outcomeOf (callEnding (notRead (refusal 1 1 0))) .result ≡ 81)
+    × (outcomeOf (callEnding (notMade (refusal 1 1 0))) .result ≡ 17)
+    × (outcomeOf (checkEnding (StoredCheck.NotRead (refusal 1 1 0))) .result ≡ 81)
+ledger-told-apart = (refl, refl, refl)
+
+abbrev pub made : UnitCall → Lent → Made
+made (price book request) lent = priceMade (priceOf book request) lent
+made (slipText book request) lent =
+    let pricing = priceOf book request in
+    record { ending = slipEnding (slipWritten pricing (lent .output)); output = slipBuffer pricing (lent .output); figures = lent .figures }
+made newLedger lent = ledgerMade (newStoredOf (lent .output)) lent
+made (onLedger stored tableSize call) lent = ledgerMade (storedCallOf stored tableSize call (lent .output)) lent
+made (checkLedger stored tableSize) lent =
+    record { ending = checkEnding (checkStoredOf stored tableSize); output = lent .output; figures = lent .figures }
+
+-- ---- what a call leaves: its result, and its lent buffers
+
+pub record CallLeaves : Type 0 where
+  pub result : ℕ
+  pub lent : Lent
+
+abbrev pub leavesBy : Made → Lent → CallLeaves
+leavesBy call lent =
     record {
-      result = callOutcome called .refusal .number;
-      output = output;
-      figures = figuresBy called figures;
-      answer = answerAfter (callOutcome called) answer;
+      result = outcomeOf (call .ending) .result;
+      lent = record { output = call .output; figures = call .figures; answer = answerAfter (outcomeOf (call .ending)) (lent .answer) };
     }
 
-abbrev pub acceptCall : List ℕ → ℕ → List ℕ → List ℕ → List ℕ → List ℤ → List ℕ → AcceptEnd
-acceptCall stored tableSize book request out figures answer =
-    let called = storedCallOf stored tableSize (accept book request) out in
-    cond (anyShort figures answer) (record { result = 14; output = out; figures = figures; answer = answer })
-    (acceptEnd (called .answer) (called .output) figures answer)
-
--- ---- the check of a stored ledger: schemes, entries, connections, the last accepted month
-
-abbrev pub checkOutcome : StoredCheck → Outcome
-checkOutcome (StoredCheck.NotRead r) = refused r 1
-checkOutcome (StoredCheck.Sound counts) = done (counts .schemes ∷ counts .entries ∷ counts .connections ∷ counts .month ∷ [])
-
-abbrev pub checkLedgerCall : List ℕ → ℕ → List ℕ → CheckEnd
-checkLedgerCall stored tableSize answer =
-    let outcome = checkOutcome (checkStoredOf stored tableSize) in
-    cond (answerShort answer) (record { result = 14; answer = answer })
-    (record { result = outcome .refusal .number; answer = answerAfter outcome answer })
+abbrev pub unitCall : UnitCall → Lent → CallLeaves
+unitCall call lent = cond (tooShort call lent) (record { result = 14; lent = lent }) (leavesBy (made call lent) lent)

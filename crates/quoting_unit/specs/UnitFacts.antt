@@ -18,7 +18,7 @@ use Rattle.charge.specs.declared.Pricing.the-variants.{Priced, NotPriced}
 use Rattle.ledger.specs.Books.{Books}
 use Rattle.ledger.specs.Sound.{sound}
 use Rattle.calls.specs.Verdict.{verdict}
-use Rattle.calls.specs.Decision.{Call, accept, Decision, refused, decided, decidedBy, acceptBy, CallAnswer, isAccepted, isDone, isRefused, acceptanceOf, answerTo}
+use Rattle.calls.specs.Decision.{accept, refused, decided, decidedBy, acceptBy, CallAnswer, isAccepted, isDone, isRefused, answerTo}
 use Rattle.calls.specs.Carried.{State, booksOn}
 use Rattle.calls.specs.Calls.{answered, leaves}
 use Rattle.calls.specs.declared.answers.Acceptance.{Acceptance}

@@ -1,6 +1,6 @@
 // The static library for the firmware of quoting units: the calls of document 01 on numbers and lent buffers of numbers alone. Each
-// result is 0 where the call is done, otherwise the refusal's number. Short answer or figures are 14 before anything else.
-// `table_size` is the party table's length in records; more than 512 counts as 512.
+// result is 0 where the call is done, otherwise the refusal in one number; a refusal changes no lent buffer. Short answer or figures
+// are 14 before anything else. `table_size` is the party table's length in records; more than 512 counts as 512.
 use calls::answers::JoiningAnswer;
 use calls::answers::OpeningAnswer;
 use charge::Pricing;
@@ -14,94 +14,95 @@ use stored_calls::StoredAnswer;
 use stored_calls::StoredCheck;
 use tagged::file::Refusal;
 ghost use mathlib.Core.Path.{_≡_};
-ghost use Prim.Native.Nat.{_≤_};
+ghost use Prim.Native.Nat.{_≤_, _<_};
 ghost use mathlib.Core.List.{_++_};
 ghost use lib.ListN.{length, drop};
+ghost use Rattle.reconciliation.specs.Figures.{percentTold, percentFigure, figuresTold};
 ghost use Rattle.reconciliation.specs.ReconciliationFacts.{Bounded};
+ghost use Rattle.calls.specs.Decision.{accept, payOut, handOver};
 ghost use Rattle.stored_calls.specs.StoredCalls.{ofStoredAccept, ofStoredAnswer};
-ghost use Rattle.quoting_unit.specs.Interface.{answerPlaces, figurePlaces, percentTold, percentFigure, done, refused, answerAfter, figuresAfter};
-ghost use Rattle.quoting_unit.specs.Unit.{priceCall, slipOutcome, slipTextCall, acceptanceTold, acceptCall, callOutcome, newLedgerCall, payOutCall, handOverCall, checkOutcome, checkLedgerCall};
+ghost use Rattle.quoting_unit.specs.Interface.{placeTold, resultOf, isDone, isRefused, outcomeOf, answerAfter, figuresAfter, lentFigures, lentOutput, lentBoth, lentAnswer};
+ghost use Rattle.quoting_unit.specs.Unit.{price, slipText, newLedger, onLedger, checkLedger, unitCall, slipEnding, acceptanceTold, callEnding, checkEnding};
 
 // How many places an answer and the figures have.
-const ANSWER: usize = 8;
+const ANSWER: usize = 4;
 
 const FIGURES: usize = 21;
 
-// What a call tells its caller in the answer's places.
+// The highest place that a result can tell: 2^56 − 1.
+const HIGHEST_PLACE: u64 = 72057594037927935;
+
+// How a call ends.
 struct Outcome {
-    // number 0 where the call is done
-    refusal: Refusal,
-    // 1 where the refusal is of the stored ledger itself
-    of_ledger: u8,
-    told: [u64; 4],
+    // 0 where the call is done
+    result: u64,
+    // what a done call tells in the answer's places
+    told: [u64; ANSWER],
 }
 
-fn done(told: [u64; 4]) -> Outcome
-    ensures { λ r. ⌜ r ≡ done told ⌝ }
+fn place_told(place: usize) -> u64
+    ensures { λ r. ⌜ r ≡ placeTold place ⌝ }
+    ensures { λ r. ⌜ r < 72057594037927936 ⌝ }
 {
-    Outcome {
-        refusal: Refusal {
-            number: 0,
-            file: 0,
-            place: 0,
-        },
-        of_ledger: 0,
-        told,
+    let told = place as u64;
+    if told > HIGHEST_PLACE {
+        return HIGHEST_PLACE;
     }
+    told
+}
+
+// A refusal in one number: its number in the lowest four bits, its file in the next two, whether it is of the stored ledger itself in
+// the next one, and its place from bit 8 on. The remainders take nothing from any refusal; by them every sum fits.
+fn result_of(refusal: Refusal, of_ledger: u8) -> u64
+    ensures { λ r. ⌜ r ≡ resultOf refusal «of_ledger» ⌝ }
+{
+    let number = refusal.number as u64;
+    let file = refusal.file as u64;
+    let ledger = of_ledger as u64;
+    let low = number % 16 + 16 * (file % 4) + 64 * (ledger % 2);
+    let place = place_told(refusal.place);
+    low + 256 * place
+}
+
+fn done(told: [u64; ANSWER]) -> Outcome
+    ensures { λ r. ⌜ r ≡ outcomeOf (isDone told) ⌝ }
+{
+    Outcome { result: 0, told }
 }
 
 fn refused(refusal: Refusal, of_ledger: u8) -> Outcome
-    ensures { λ r. ⌜ r ≡ refused refusal «of_ledger» ⌝ }
+    ensures { λ r. ⌜ r ≡ outcomeOf (isRefused refusal «of_ledger») ⌝ }
 {
-    let told = [0; 4];
-    Outcome {
-        refusal,
-        of_ledger,
-        told,
-    }
+    let told = [0; ANSWER];
+    let result = result_of(refusal, of_ledger);
+    Outcome { result, told }
 }
 
-fn answer_places(outcome: Outcome) -> [u64; ANSWER]
-    ensures { λ r. ⌜ r ≡ answerPlaces outcome ⌝ }
+// What a done call tells, at the start of a lent buffer.
+fn write_places(told: [u64; ANSWER], answer: &mut [u64])
+    requires { ⌜ 4 ≤ length (now answer) ⌝ }
+    ensures { λ _. ⌜ now (answer .exit) ≡ told ++ drop 4 (now (answer .entry)) ⌝ }
 {
-    let told = outcome.told;
-    [
-        outcome.refusal.number as u64,
-        outcome.refusal.file as u64,
-        outcome.refusal.place as u64,
-        outcome.of_ledger as u64,
-        told[0],
-        told[1],
-        told[2],
-        told[3],
-    ]
-}
-
-// The answer's places at the start of a lent buffer.
-fn write_places(outcome: Outcome, answer: &mut [u64])
-    requires { ⌜ 8 ≤ length (now answer) ⌝ }
-    ensures { λ _. ⌜ now (answer .exit) ≡ answerPlaces outcome ++ drop 8 (now (answer .entry)) ⌝ }
-{
-    let places = answer_places(outcome);
     let mut i: usize = 0;
     while i < ANSWER {
-        answer[i] = places[i];
+        answer[i] = told[i];
         i += 1;
     }
 }
 
-// The answer, and the result. 14 changes no buffer at all: it has no file and no place to tell.
-fn write_answer(outcome: Outcome, answer: &mut [u64]) -> u32
-    requires { ⌜ 8 ≤ length (now answer) ⌝ }
-    ensures { λ r. ⌜ r ≡ outcome .refusal .number ⌝ }
+// The result, and the answer where the call is done.
+fn write_answer(outcome: Outcome, answer: &mut [u64]) -> u64
+    requires { ⌜ 4 ≤ length (now answer) ⌝ }
+    ensures { λ r. ⌜ r ≡ outcome .result ⌝ }
     ensures { λ _. ⌜ now (answer .exit) ≡ answerAfter outcome (now (answer .entry)) ⌝ }
 {
-    let number = outcome.refusal.number as u32;
-    if number == 14 {
-        return number;
+    let result = outcome.result;
+    if result != 0 {
+        return result;
     }
-    write_places(outcome, answer);
-    number
+    let told = outcome.told;
+    write_places(told, answer);
+    result
 }
 
 fn percent_told(percent: Percent) -> i64
@@ -124,7 +125,7 @@ fn percent_figure(percent: Percent) -> i64
 
 fn figure_places(r: Reconciliation) -> [i64; FIGURES]
     requires { ⌜ Bounded r ⌝ }
-    ensures { λ places. ⌜ places ≡ figurePlaces r ⌝ }
+    ensures { λ places. ⌜ places ≡ figuresTold r ⌝ }
 {
     let reliance = r.reliance;
     let upfront = r.upfront;
@@ -169,20 +170,12 @@ fn write_figures(r: Reconciliation, figures: &mut [i64])
 
 // The reconciliation of a request by a rate book, into the figures.
 #[no_mangle]
-pub extern "C" fn fikrem_price(
-    book: &[u8],
-    request: &[u8],
-    figures: &mut [i64],
-    answer: &mut [u64],
-) -> u32
+pub extern "C" fn fikrem_price(book: &[u8], request: &[u8], figures: &mut [i64]) -> u64
     ensures { λ r. ⌜ (
-        let end = priceCall (now (book .entry)) (now (request .entry)) (now (figures .entry)) (now (answer .entry)) in
-        (r ≡ end .result) × (now (figures .exit) ≡ end .figures) × (now (answer .exit) ≡ end .answer)
+        let end = unitCall (price (now (book .entry)) (now (request .entry))) (lentFigures (now (figures .entry))) in
+        (r ≡ end .result) × (now (figures .exit) ≡ end .lent .figures)
         ) ⌝ }
 {
-    if answer.len() < ANSWER {
-        return 14;
-    }
     if figures.len() < FIGURES {
         return 14;
     }
@@ -190,14 +183,14 @@ pub extern "C" fn fikrem_price(
     match pricing {
         Pricing::Priced(bill) => {
             write_figures(bill.reconciliation, figures);
-            write_answer(done([0; 4]), answer)
+            0
         }
-        Pricing::NotPriced(refusal) => write_answer(refused(refusal, 0), answer),
+        Pricing::NotPriced(refusal) => result_of(refusal, 0),
     }
 }
 
 fn slip_outcome(written: SlipWritten) -> Outcome
-    ensures { λ r. ⌜ r ≡ slipOutcome written ⌝ }
+    ensures { λ r. ⌜ r ≡ outcomeOf (slipEnding written) ⌝ }
 {
     match written {
         SlipWritten::Written(length) => done([0, 0, 0, length as u64]),
@@ -212,10 +205,10 @@ pub extern "C" fn fikrem_slip_text(
     request: &[u8],
     text: &mut [u8],
     answer: &mut [u64],
-) -> u32
+) -> u64
     ensures { λ r. ⌜ (
-        let end = slipTextCall (now (book .entry)) (now (request .entry)) (now (text .entry)) (now (answer .entry)) in
-        (r ≡ end .result) × (now (text .exit) ≡ end .output) × (now (answer .exit) ≡ end .answer)
+        let end = unitCall (slipText (now (book .entry)) (now (request .entry))) (lentOutput (now (text .entry)) (now (answer .entry))) in
+        (r ≡ end .result) × (now (text .exit) ≡ end .lent .output) × (now (answer .exit) ≡ end .lent .answer)
         ) ⌝ }
 {
     if answer.len() < ANSWER {
@@ -228,7 +221,7 @@ pub extern "C" fn fikrem_slip_text(
 
 // What pay-out, hand-over and the new ledger tell: the new form's length.
 fn call_outcome(answer: StoredAnswer) -> Outcome
-    ensures { λ r. ⌜ r ≡ callOutcome (ofStoredAnswer answer) ⌝ }
+    ensures { λ r. ⌜ r ≡ outcomeOf (callEnding (ofStoredAnswer answer)) ⌝ }
 {
     match answer {
         StoredAnswer::NotRead(refusal) => refused(refusal, 1),
@@ -239,10 +232,10 @@ fn call_outcome(answer: StoredAnswer) -> Outcome
 
 // The stored form of a new ledger, into the lent output.
 #[no_mangle]
-pub extern "C" fn fikrem_new_ledger(out: &mut [u8], answer: &mut [u64]) -> u32
+pub extern "C" fn fikrem_new_ledger(out: &mut [u8], answer: &mut [u64]) -> u64
     ensures { λ r. ⌜ (
-        let end = newLedgerCall (now (out .entry)) (now (answer .entry)) in
-        (r ≡ end .result) × (now (out .exit) ≡ end .output) × (now (answer .exit) ≡ end .answer)
+        let end = unitCall newLedger (lentOutput (now (out .entry)) (now (answer .entry))) in
+        (r ≡ end .result) × (now (out .exit) ≡ end .lent .output) × (now (answer .exit) ≡ end .lent .answer)
         ) ⌝ }
 {
     if answer.len() < ANSWER {
@@ -253,7 +246,7 @@ pub extern "C" fn fikrem_new_ledger(out: &mut [u8], answer: &mut [u64]) -> u32
 }
 
 // What accept tells: 1 plain, 2 opened, 3 joined, 4 small, 5 ended; the scheme's or the entry's number; G; the new form's length.
-fn acceptance_told(joining: JoiningAnswer, opening: OpeningAnswer, length: usize) -> [u64; 4]
+fn acceptance_told(joining: JoiningAnswer, opening: OpeningAnswer, length: usize) -> [u64; ANSWER]
     ensures { λ r. ⌜ r ≡ acceptanceTold joining opening length ⌝ }
 {
     let size = length as u64;
@@ -276,7 +269,7 @@ fn acceptance_told(joining: JoiningAnswer, opening: OpeningAnswer, length: usize
 }
 
 fn acceptance_outcome(accepted: StoredAcceptance) -> Outcome
-    ensures { λ r. ⌜ r ≡ callOutcome (ofStoredAccept (StoredAccept.Accepted accepted)) ⌝ }
+    ensures { λ r. ⌜ r ≡ outcomeOf (callEnding (ofStoredAccept (StoredAccept.Accepted accepted))) ⌝ }
 {
     let acceptance = accepted.acceptance;
     let joining = acceptance.joining;
@@ -294,16 +287,16 @@ pub extern "C" fn fikrem_accept(
     out: &mut [u8],
     figures: &mut [i64],
     answer: &mut [u64],
-) -> u32
+) -> u64
     ensures { λ r. ⌜ (
-        let end = acceptCall (now (stored .entry)) «table_size» (now (book .entry)) (now (request .entry)) (now (out .entry)) (now (figures .entry)) (now (answer .entry)) in
-        (r ≡ end .result) × (now (out .exit) ≡ end .output) × (now (figures .exit) ≡ end .figures) × (now (answer .exit) ≡ end .answer)
+        let call = onLedger (now (stored .entry)) «table_size» (accept (now (book .entry)) (now (request .entry))) in
+        let end = unitCall call (lentBoth (now (out .entry)) (now (figures .entry)) (now (answer .entry))) in
+        (r ≡ end .result) × (now (out .exit) ≡ end .lent .output) × (now (figures .exit) ≡ end .lent .figures) × (now (answer .exit) ≡ end .lent .answer)
         ) ⌝ }
 {
     if answer.len() < ANSWER {
         return 14;
     }
-    // before the new stored form is written: a refusal changes nothing
     if figures.len() < FIGURES {
         return 14;
     }
@@ -327,10 +320,11 @@ pub extern "C" fn fikrem_pay_out(
     amount: u64,
     out: &mut [u8],
     answer: &mut [u64],
-) -> u32
+) -> u64
     ensures { λ r. ⌜ (
-        let end = payOutCall (now (stored .entry)) «table_size» entry amount (now (out .entry)) (now (answer .entry)) in
-        (r ≡ end .result) × (now (out .exit) ≡ end .output) × (now (answer .exit) ≡ end .answer)
+        let call = onLedger (now (stored .entry)) «table_size» (payOut entry amount) in
+        let end = unitCall call (lentOutput (now (out .entry)) (now (answer .entry))) in
+        (r ≡ end .result) × (now (out .exit) ≡ end .lent .output) × (now (answer .exit) ≡ end .lent .answer)
         ) ⌝ }
 {
     if answer.len() < ANSWER {
@@ -349,10 +343,11 @@ pub extern "C" fn fikrem_hand_over(
     person: u32,
     out: &mut [u8],
     answer: &mut [u64],
-) -> u32
+) -> u64
     ensures { λ r. ⌜ (
-        let end = handOverCall (now (stored .entry)) «table_size» entry person (now (out .entry)) (now (answer .entry)) in
-        (r ≡ end .result) × (now (out .exit) ≡ end .output) × (now (answer .exit) ≡ end .answer)
+        let call = onLedger (now (stored .entry)) «table_size» (handOver entry person) in
+        let end = unitCall call (lentOutput (now (out .entry)) (now (answer .entry))) in
+        (r ≡ end .result) × (now (out .exit) ≡ end .lent .output) × (now (answer .exit) ≡ end .lent .answer)
         ) ⌝ }
 {
     if answer.len() < ANSWER {
@@ -364,7 +359,7 @@ pub extern "C" fn fikrem_hand_over(
 
 // What the check tells: schemes, entries, connections, the last accepted month.
 fn check_outcome(check: StoredCheck) -> Outcome
-    ensures { λ r. ⌜ r ≡ checkOutcome check ⌝ }
+    ensures { λ r. ⌜ r ≡ outcomeOf (checkEnding check) ⌝ }
 {
     match check {
         StoredCheck::NotRead(refusal) => refused(refusal, 1),
@@ -379,10 +374,10 @@ fn check_outcome(check: StoredCheck) -> Outcome
 
 // Whether a stored ledger can be read.
 #[no_mangle]
-pub extern "C" fn fikrem_check_ledger(stored: &[u8], table_size: usize, answer: &mut [u64]) -> u32
+pub extern "C" fn fikrem_check_ledger(stored: &[u8], table_size: usize, answer: &mut [u64]) -> u64
     ensures { λ r. ⌜ (
-        let end = checkLedgerCall (now (stored .entry)) «table_size» (now (answer .entry)) in
-        (r ≡ end .result) × (now (answer .exit) ≡ end .answer)
+        let end = unitCall (checkLedger (now (stored .entry)) «table_size») (lentAnswer (now (answer .entry))) in
+        (r ≡ end .result) × (now (answer .exit) ≡ end .lent .answer)
         ) ⌝ }
 {
     if answer.len() < ANSWER {

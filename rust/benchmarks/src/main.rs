@@ -74,6 +74,12 @@ impl Times {
         [spread(&self.library)[0], spread(&self.reference)[0]]
     }
 
+    /// The lowest times of all runs, and the median ratio.
+    fn in_short(&self) -> String {
+        let ([library, reference], [_, ratio, _]) = (self.lowest(), spread(&self.ratios()));
+        format!("{library:.0} / {reference:.0}, {ratio:.2}")
+    }
+
     fn print(&self, name: &str) {
         let [library, reference] = self.lowest();
         let [low, middle, high] = spread(&self.ratios());
@@ -102,9 +108,9 @@ impl Bench {
     }
 
     fn price(&self) -> Times {
-        let (mut figures, mut answer) = ([0; FIGURES], [0; ANSWER]);
+        let mut figures = [0; FIGURES];
         let mut library = || {
-            let result = raw::price(black_box(&self.book), black_box(&self.request), &mut figures, &mut answer);
+            let result = raw::price(black_box(&self.book), black_box(&self.request), &mut figures);
             assert_eq!(black_box(result), 0);
         };
         let mut reference = || {
@@ -120,7 +126,7 @@ impl Bench {
         let mut library = || {
             let (stored, book, request) = black_box((&self.stored, &self.book, &self.request));
             let result = raw::accept(stored, LONGEST_TABLE, book, request, &mut out, &mut figures, &mut answer);
-            assert_eq!((black_box(result), answer[4]), (0, 3));
+            assert_eq!((black_box(result), answer[raw::SCHEME_ANSWER]), (0, 3));
         };
         let joining = Call::Accept { book: self.book.clone(), request: self.request.clone() };
         self.beside(&mut library, &joining)
@@ -174,21 +180,22 @@ fn beside() {
     Bench::of(64, 512).hand_over().print("read, hand-over and write of the same");
 }
 
-/// From 8 to 512 entries of one scheme; where the cost is linear, one more entry costs about the same all along.
+/// From 2 to 512 entries of one scheme; where the cost is linear, one more entry costs about the same all along.
 fn growth() {
-    println!("\nGrowth: nanoseconds a call, library / reference, by the entries that one scheme has after it.");
     println!(
-        "{:>7} {:>20} {:>20} {:>20}   the library's for one more entry",
+        "\nGrowth: nanoseconds a call, library / reference and the median ratio, by the entries that one scheme has after it."
+    );
+    println!(
+        "{:>7} {:>27} {:>27} {:>27}   the library's for one more entry",
         "entries", "joining", "check", "hand-over"
     );
     let mut last: Option<(usize, [f64; 3])> = None;
-    for entries in [8, 16, 32, 64, 128, 256, 512] {
+    for entries in [2, 4, 8, 12, 16, 24, 32, 64, 128, 256, 512] {
         let (before, bench) = (Bench::of(1, entries - 1), Bench::of(1, entries));
         let times = [before.joining(), bench.check(), bench.hand_over()];
-        let lowest = times.each_ref().map(Times::lowest);
-        let [joining, check, hand_over] = lowest.map(|[library, reference]| format!("{library:.0} / {reference:.0}"));
-        print!("{entries:>7} {joining:>20} {check:>20} {hand_over:>20}");
-        let library = lowest.map(|[library, _]| library);
+        let [joining, check, hand_over] = times.each_ref().map(Times::in_short);
+        print!("{entries:>7} {joining:>27} {check:>27} {hand_over:>27}");
+        let library = times.each_ref().map(|times| times.lowest()[0]);
         if let Some((fewer, cost)) = last {
             for call in 0..3 {
                 print!(" {:>6.0}", (library[call] - cost[call]) / (entries - fewer) as f64);

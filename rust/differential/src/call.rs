@@ -27,10 +27,10 @@ impl<'a> LibraryCall<'a> {
     }
 
     /// Makes the call of the library; a slip's text is written to `out`.
-    pub fn run(&self, buffers: &mut Buffers) -> u32 {
+    pub fn run(&self, buffers: &mut Buffers) -> u64 {
         let Buffers { out, figures, answer } = buffers;
         match *self {
-            LibraryCall::Price { book, request } => raw::price(book, request, figures, answer),
+            LibraryCall::Price { book, request } => raw::price(book, request, figures),
             LibraryCall::SlipText { book, request } => raw::slip_text(book, request, out, answer),
             LibraryCall::NewLedger => raw::new_ledger(out, answer),
             LibraryCall::Accept { stored, table_size, book, request } => {

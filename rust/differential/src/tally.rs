@@ -2,6 +2,7 @@
 
 use crate::call::{Buffers, LibraryCall};
 use crate::wanted;
+use fikrem::raw;
 use std::collections::BTreeMap;
 use std::time::Instant;
 
@@ -16,7 +17,7 @@ pub struct Tally {
     started: Instant,
     cases_before: u64,
     cases: u64,
-    /// By result: 0 done, otherwise the refusal's number.
+    /// By the result's number: 0 done, otherwise the refusal's.
     results: [u64; NUMBERS + 1],
     /// Those of them that are of the stored ledger itself.
     of_ledger: [u64; NUMBERS + 1],
@@ -43,39 +44,42 @@ impl Tally {
         println!("{name}: {cases} cases in {seconds:.1} s");
     }
 
-    /// The call on both sides with roomy buffers; what they hold after it.
-    pub fn compare(&mut self, call: &LibraryCall) -> Buffers {
+    /// The call on both sides with roomy buffers; the result, and what they hold after it.
+    pub fn compare(&mut self, call: &LibraryCall) -> (u64, Buffers) {
         self.compare_on(call, Buffers::roomy())
     }
 
-    /// The call on both sides with these buffers; what they hold after it.
-    pub fn compare_on(&mut self, call: &LibraryCall, before: Buffers) -> Buffers {
-        let (mut seen, mut wanted) = (before.clone(), before);
+    /// The call on both sides with these buffers; the result, and what they hold after it.
+    pub fn compare_on(&mut self, call: &LibraryCall, before: Buffers) -> (u64, Buffers) {
+        let (mut seen, mut wanted) = (before.clone(), before.clone());
         let result = call.run(&mut seen);
         let wanted_result = wanted::run(call, &mut wanted);
-        let difference = if result == wanted_result {
-            seen.difference(&wanted)
-        } else {
+        let difference = if result != wanted_result {
             Some(format!("the result is {result}, wanted {wanted_result}"))
+        } else if result != 0 {
+            seen.difference(&before)
+        } else {
+            seen.difference(&wanted)
         };
         if let Some(difference) = difference {
             let case = self.cases - self.cases_before;
             panic!("{}, case {case}, {}: {difference}\n{call:?}", self.section, call.name());
         }
         self.count(call, result, &seen);
-        seen
+        (result, seen)
     }
 
     /// Counts a call that both sides agree on.
-    pub fn count(&mut self, call: &LibraryCall, result: u32, seen: &Buffers) {
+    pub fn count(&mut self, call: &LibraryCall, result: u64, seen: &Buffers) {
+        let number = raw::number(result) as usize;
         self.cases += 1;
         *self.calls.entry(call.name()).or_default() += 1;
-        self.results[result as usize] += 1;
-        if seen.answer.get(3) == Some(&1) {
-            self.of_ledger[result as usize] += 1;
+        self.results[number] += 1;
+        if raw::of_ledger(result) == 1 {
+            self.of_ledger[number] += 1;
         }
-        if matches!(call, LibraryCall::Accept { .. }) && result == 0 {
-            self.answers[seen.answer[4] as usize - 1] += 1;
+        if matches!(call, LibraryCall::Accept { .. }) && result == raw::DONE {
+            self.answers[seen.answer[raw::SCHEME_ANSWER] as usize - 1] += 1;
         }
     }
 

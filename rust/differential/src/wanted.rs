@@ -20,28 +20,31 @@ impl From<Refusal> for Refused {
     }
 }
 
-/// The last four places of an answer.
-type Places = [u64; 4];
+impl Refused {
+    /// The refusal as the library's result: number + 16 × file + 64 × whether it is of the stored ledger + 256 × place.
+    fn result(&self) -> u64 {
+        let Refusal { number, file, place } = self.refusal;
+        u64::from(number) + 16 * u64::from(file) + 64 * u64::from(self.stored) + 256 * place as u64
+    }
+}
 
-/// Makes the call by the reference implementation; the result and what stands in the buffers after it.
-pub fn run(call: &LibraryCall, buffers: &mut Buffers) -> u32 {
-    let figures_written = matches!(call, LibraryCall::Price { .. } | LibraryCall::Accept { .. });
-    if buffers.answer.len() < ANSWER || (figures_written && buffers.figures.len() < FIGURES) {
-        return u32::from(OUTPUT.number);
+/// The places of an answer.
+type Places = [u64; ANSWER];
+
+/// Makes the call by the reference implementation; the result and what stands in the buffers after it. A refusal
+/// changes none of them.
+pub fn run(call: &LibraryCall, buffers: &mut Buffers) -> u64 {
+    let priced = matches!(call, LibraryCall::Price { .. });
+    let figures_written = priced || matches!(call, LibraryCall::Accept { .. });
+    if (!priced && buffers.answer.len() < ANSWER) || (figures_written && buffers.figures.len() < FIGURES) {
+        return Refused::from(OUTPUT).result();
     }
-    let mut places = [0; ANSWER];
     match places_of(call, &mut buffers.out, &mut buffers.figures) {
-        Ok(last) => places[4..].copy_from_slice(&last),
-        Err(Refused { refusal, stored }) => {
-            places[..3].copy_from_slice(&[refusal.number.into(), refusal.file.into(), refusal.place as u64]);
-            places[3] = stored.into();
-        }
+        Ok(places) if !priced => buffers.answer[..ANSWER].copy_from_slice(&places),
+        Ok(_) => {}
+        Err(refused) => return refused.result(),
     }
-    // 14 changes no buffer at all
-    if places[0] != u64::from(OUTPUT.number) {
-        buffers.answer[..ANSWER].copy_from_slice(&places);
-    }
-    places[0] as u32
+    0
 }
 
 fn places_of(call: &LibraryCall, out: &mut [u8], figures: &mut [i64]) -> Result<Places, Refused> {
@@ -99,7 +102,7 @@ fn on_stored(stored: &[u8], table_size: usize, call: &Call, out: &mut [u8]) -> R
     Ok([kind, number, collected, write_ledger(&ledger, &parties, out)? as u64])
 }
 
-/// Places 4 to 6 for accept's answer.
+/// The first three places for accept's answer.
 pub fn places_of_answer(answer: Answer) -> [u64; 3] {
     match answer {
         Answer::Plain => [1, 0, 0],

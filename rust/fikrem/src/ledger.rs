@@ -59,10 +59,10 @@ pub struct Holdings {
 }
 
 /// The bytes that a call on a stored ledger has written, or its refusal.
-fn written(result: u32, answer: &[u64; ANSWER]) -> Result<usize, Refused> {
+fn written(result: u64, answer: &[u64; ANSWER]) -> Result<usize, Refused> {
     match result {
         raw::DONE => Ok(answer[raw::WRITTEN] as usize),
-        _ => Err(Refused::of(result, answer)),
+        _ => Err(Refused::of(result)),
     }
 }
 
@@ -80,7 +80,7 @@ pub fn new_ledger_into(out: &mut [u8]) -> Result<usize, Refusal> {
     let mut answer = [0; ANSWER];
     match raw::new_ledger(out, &mut answer) {
         raw::DONE => Ok(answer[raw::WRITTEN] as usize),
-        result => Err(Refusal::of(result, &answer)),
+        result => Err(Refusal::of(result)),
     }
 }
 
@@ -158,6 +158,6 @@ pub fn check_ledger(stored: &[u8], table_size: usize) -> Result<Holdings, Refusa
             connections: answer[raw::CONNECTED] as u32,
             month: answer[raw::LAST_MONTH] as u16,
         }),
-        result => Err(Refusal::of(result, &answer)),
+        result => Err(Refusal::of(result)),
     }
 }

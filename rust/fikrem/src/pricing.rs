@@ -27,7 +27,7 @@ pub struct Bill {
     pub ic: u64,
     /// IR sums all years, distribution and transmission
     pub ir: u64,
-    /// the connection charge CC
+    /// the connection charge CC, which holds no pioneer contribution: a joiner owes it and what was collected
     pub cc: u64,
     /// NIC = IC − IR
     pub nic: i64,
@@ -77,10 +77,10 @@ impl Bill {
 
 /// Prices a request by a book.
 pub fn price(book: &[u8], request: &[u8]) -> Result<Bill, Refusal> {
-    let (mut figures, mut answer) = ([0; FIGURES], [0; ANSWER]);
-    match raw::price(book, request, &mut figures, &mut answer) {
+    let mut figures = [0; FIGURES];
+    match raw::price(book, request, &mut figures) {
         raw::DONE => Ok(Bill::of(&figures)),
-        result => Err(Refusal::of(result, &answer)),
+        result => Err(Refusal::of(result)),
     }
 }
 
@@ -98,6 +98,6 @@ pub fn slip_text_into(book: &[u8], request: &[u8], text: &mut [u8]) -> Result<us
     let mut answer = [0; ANSWER];
     match raw::slip_text(book, request, text, &mut answer) {
         raw::DONE => Ok(answer[raw::WRITTEN] as usize),
-        result => Err(Refusal::of(result, &answer)),
+        result => Err(Refusal::of(result)),
     }
 }

@@ -1,41 +1,60 @@
 //! `include/fikrem.h` in Rust: its numbers under its names, and its functions on slices. Every result is `DONE` or a
-//! refusal's number.
+//! refusal, which has written nothing.
 
 #![allow(unsafe_code)]
 
-// Results.
-pub const DONE: u32 = 0;
-pub const NO_WALK: u32 = 1;
-pub const CHECK: u32 = 2;
-pub const VALUE: u32 = 3;
-pub const ZONE: u32 = 4;
-pub const BESPOKE: u32 = 5;
-pub const NO_SCHEME: u32 = 6;
-pub const MONTH: u32 = 7;
-pub const SCHEMES_FULL: u32 = 8;
-pub const ENTRIES_FULL: u32 = 9;
-pub const CONNECTIONS: u32 = 10;
-pub const NO_ENTRY: u32 = 11;
-pub const ABOVE_CREDIT: u32 = 12;
-pub const UNSOUND: u32 = 13;
-pub const SHORT_BUFFER: u32 = 14;
+// The version of the interface.
+pub const VERSION: u64 = 2;
 
-// Places of an answer, and how many it has.
-pub const NUMBER: usize = 0;
-pub const FILE: usize = 1;
-pub const PLACE: usize = 2;
-pub const OF_LEDGER: usize = 3;
-pub const SCHEME_ANSWER: usize = 4;
-pub const WHICH: usize = 5;
-pub const COLLECTED: usize = 6;
-pub const WRITTEN: usize = 7;
-pub const ANSWER: usize = 8;
+// `number` of a result.
+pub const DONE: u64 = 0;
+pub const NO_WALK: u64 = 1;
+pub const CHECK: u64 = 2;
+pub const VALUE: u64 = 3;
+pub const ZONE: u64 = 4;
+pub const BESPOKE: u64 = 5;
+pub const NO_SCHEME: u64 = 6;
+pub const MONTH: u64 = 7;
+pub const SCHEMES_FULL: u64 = 8;
+pub const ENTRIES_FULL: u64 = 9;
+pub const CONNECTIONS: u64 = 10;
+pub const NO_ENTRY: u64 = 11;
+pub const ABOVE_CREDIT: u64 = 12;
+pub const UNSOUND: u64 = 13;
+pub const SHORT_BUFFER: u64 = 14;
 
-// The last four where `check_ledger` is done.
-pub const SCHEMES: usize = 4;
-pub const ENTRIES: usize = 5;
-pub const CONNECTED: usize = 6;
-pub const LAST_MONTH: usize = 7;
+/// The number of the refusal that a result is.
+pub fn number(result: u64) -> u64 {
+    result % 16
+}
+
+/// Its file.
+pub fn file(result: u64) -> u64 {
+    result / 16 % 4
+}
+
+/// 1 where it is of the stored ledger itself.
+pub fn of_ledger(result: u64) -> u64 {
+    result / 64 % 2
+}
+
+/// Its place.
+pub fn place(result: u64) -> u64 {
+    result / 256
+}
+
+// Places of the answer of a done call, and how many it has.
+pub const SCHEME_ANSWER: usize = 0;
+pub const WHICH: usize = 1;
+pub const COLLECTED: usize = 2;
+pub const WRITTEN: usize = 3;
+pub const ANSWER: usize = 4;
+
+// The same places where `check_ledger` is done.
+pub const SCHEMES: usize = 0;
+pub const ENTRIES: usize = 1;
+pub const CONNECTED: usize = 2;
+pub const LAST_MONTH: usize = 3;
 
 // What accept answers, in place `SCHEME_ANSWER`.
 pub const PLAIN: u64 = 1;
@@ -68,7 +87,9 @@ pub const HAS_NCRATIO: usize = 19;
 pub const NCRATIO: usize = 20;
 pub const FIGURES: usize = 21;
 
-// The most bytes of a slip and of a stored ledger, and the records of the longest party table.
+// The most bytes of a book, a request, a slip and a stored ledger, and the records of the longest party table.
+pub const BOOK_SIZE: usize = 313;
+pub const REQUEST_SIZE: usize = 205;
 pub const TEXT_SIZE: usize = 256;
 pub const LEDGER_SIZE: usize = 18_661;
 pub const TABLE_SIZE: usize = 512;
@@ -82,9 +103,7 @@ mod declared {
             request_size: usize,
             figures: *mut i64,
             figures_places: usize,
-            answer: *mut u64,
-            answer_places: usize,
-        ) -> u32;
+        ) -> u64;
         pub fn fikrem_slip_text(
             book: *const u8,
             book_size: usize,
@@ -94,8 +113,8 @@ mod declared {
             text_size: usize,
             answer: *mut u64,
             answer_places: usize,
-        ) -> u32;
-        pub fn fikrem_new_ledger(out: *mut u8, out_size: usize, answer: *mut u64, answer_places: usize) -> u32;
+        ) -> u64;
+        pub fn fikrem_new_ledger(out: *mut u8, out_size: usize, answer: *mut u64, answer_places: usize) -> u64;
         pub fn fikrem_accept(
             stored: *const u8,
             stored_size: usize,
@@ -110,7 +129,7 @@ mod declared {
             figures_places: usize,
             answer: *mut u64,
             answer_places: usize,
-        ) -> u32;
+        ) -> u64;
         pub fn fikrem_pay_out(
             stored: *const u8,
             stored_size: usize,
@@ -121,7 +140,7 @@ mod declared {
             out_size: usize,
             answer: *mut u64,
             answer_places: usize,
-        ) -> u32;
+        ) -> u64;
         pub fn fikrem_hand_over(
             stored: *const u8,
             stored_size: usize,
@@ -132,21 +151,21 @@ mod declared {
             out_size: usize,
             answer: *mut u64,
             answer_places: usize,
-        ) -> u32;
+        ) -> u64;
         pub fn fikrem_check_ledger(
             stored: *const u8,
             stored_size: usize,
             table_size: usize,
             answer: *mut u64,
             answer_places: usize,
-        ) -> u32;
+        ) -> u64;
     }
 }
 
 // Safety of every call below: the library reads and writes only within the slices that it is given, keeps none of
 // them, and Rust lends the written ones to nobody else meanwhile.
 
-pub fn price(book: &[u8], request: &[u8], figures: &mut [i64], answer: &mut [u64]) -> u32 {
+pub fn price(book: &[u8], request: &[u8], figures: &mut [i64]) -> u64 {
     unsafe {
         declared::fikrem_price(
             book.as_ptr(),
@@ -155,13 +174,11 @@ pub fn price(book: &[u8], request: &[u8], figures: &mut [i64], answer: &mut [u64
             request.len(),
             figures.as_mut_ptr(),
             figures.len(),
-            answer.as_mut_ptr(),
-            answer.len(),
         )
     }
 }
 
-pub fn slip_text(book: &[u8], request: &[u8], text: &mut [u8], answer: &mut [u64]) -> u32 {
+pub fn slip_text(book: &[u8], request: &[u8], text: &mut [u8], answer: &mut [u64]) -> u64 {
     unsafe {
         declared::fikrem_slip_text(
             book.as_ptr(),
@@ -176,7 +193,7 @@ pub fn slip_text(book: &[u8], request: &[u8], text: &mut [u8], answer: &mut [u64
     }
 }
 
-pub fn new_ledger(out: &mut [u8], answer: &mut [u64]) -> u32 {
+pub fn new_ledger(out: &mut [u8], answer: &mut [u64]) -> u64 {
     unsafe { declared::fikrem_new_ledger(out.as_mut_ptr(), out.len(), answer.as_mut_ptr(), answer.len()) }
 }
 
@@ -188,7 +205,7 @@ pub fn accept(
     out: &mut [u8],
     figures: &mut [i64],
     answer: &mut [u64],
-) -> u32 {
+) -> u64 {
     unsafe {
         declared::fikrem_accept(
             stored.as_ptr(),
@@ -208,7 +225,7 @@ pub fn accept(
     }
 }
 
-pub fn pay_out(stored: &[u8], table_size: usize, entry: u32, amount: u64, out: &mut [u8], answer: &mut [u64]) -> u32 {
+pub fn pay_out(stored: &[u8], table_size: usize, entry: u32, amount: u64, out: &mut [u8], answer: &mut [u64]) -> u64 {
     unsafe {
         declared::fikrem_pay_out(
             stored.as_ptr(),
@@ -224,7 +241,7 @@ pub fn pay_out(stored: &[u8], table_size: usize, entry: u32, amount: u64, out: &
     }
 }
 
-pub fn hand_over(stored: &[u8], table_size: usize, entry: u32, person: u32, out: &mut [u8], answer: &mut [u64]) -> u32 {
+pub fn hand_over(stored: &[u8], table_size: usize, entry: u32, person: u32, out: &mut [u8], answer: &mut [u64]) -> u64 {
     unsafe {
         declared::fikrem_hand_over(
             stored.as_ptr(),
@@ -240,7 +257,7 @@ pub fn hand_over(stored: &[u8], table_size: usize, entry: u32, person: u32, out:
     }
 }
 
-pub fn check_ledger(stored: &[u8], table_size: usize, answer: &mut [u64]) -> u32 {
+pub fn check_ledger(stored: &[u8], table_size: usize, answer: &mut [u64]) -> u64 {
     unsafe {
         declared::fikrem_check_ledger(stored.as_ptr(), stored.len(), table_size, answer.as_mut_ptr(), answer.len())
     }

@@ -1,24 +1,24 @@
 //! Refusals: "A refusal returns number, file and place, and changes nothing."
 
-use crate::raw::{self, ANSWER};
+use crate::raw;
 use std::fmt;
 
-/// Document 01's words for the refusals, from number 1 on.
+/// The refusals in the header's words, from number 1 on.
 const WORDS: [&str; 14] = [
-    "file doesn't walk as above",
-    "check differs",
-    "value or letters not as listed; in a stored ledger only the letters",
-    "zone not in the book",
-    "bespoke rate not allowed",
-    "scheme never opened",
-    "month before the last accepted",
-    "64 schemes, one must open",
-    "no table entry left, one is needed",
-    "1,000,000 connections taken",
-    "no such entry",
-    "pay-out above standing credit",
-    "ledger unsound, or table shorter than its entries",
-    "output shorter than the stored form",
+    "a field can't stand at the place, or the file's last five bytes are wrong",
+    "the file's check differs",
+    "a value is past its limits, or the file's letters differ; in a stored ledger only the letters",
+    "the request's zone is not in the book",
+    "a bespoke rate is not allowed",
+    "the scheme that the request joins was never opened",
+    "the month is before the last accepted",
+    "there are 64 schemes, and one must open",
+    "the table has fewer records than the stored ledger has entries, or none left where accept needs one",
+    "1,000,000 connections are taken",
+    "there is no such entry",
+    "the pay-out is above the standing credit",
+    "the stored ledger is unsound",
+    "the output, the answer or the figures are too short",
 ];
 
 /// A refusal: its number, 1 to 14, the file it is about and the place in it.
@@ -27,19 +27,20 @@ pub struct Refusal {
     pub number: u8,
     /// "1 book or a file read alone; 2 request, and for 4 and 5; 0 from 6 on"
     pub file: u8,
+    /// An offset in the file for 1 to 3, the tier for 5, otherwise 0.
     pub place: usize,
 }
 
 impl Refusal {
-    /// The number is the result's: 14 leaves the answer, which holds zeros before the call.
-    pub(crate) fn of(result: u32, answer: &[u64; ANSWER]) -> Refusal {
-        Refusal { number: result as u8, file: answer[raw::FILE] as u8, place: answer[raw::PLACE] as usize }
+    pub(crate) fn of(result: u64) -> Refusal {
+        let [number, file] = [raw::number(result), raw::file(result)].map(|told| told as u8);
+        Refusal { number, file, place: raw::place(result) as usize }
     }
 
-    /// Document 01's words for the number.
+    /// The number in words.
     pub fn words(&self) -> &'static str {
         let index = usize::from(self.number).wrapping_sub(1);
-        WORDS.get(index).copied().unwrap_or("no refusal of document 01")
+        WORDS.get(index).copied().unwrap_or("no refusal")
     }
 }
 
@@ -61,11 +62,11 @@ pub enum Refused {
 }
 
 impl Refused {
-    pub(crate) fn of(result: u32, answer: &[u64; ANSWER]) -> Refused {
-        if answer[raw::OF_LEDGER] == 1 {
-            Refused::Stored(Refusal::of(result, answer))
+    pub(crate) fn of(result: u64) -> Refused {
+        if raw::of_ledger(result) == 1 {
+            Refused::Stored(Refusal::of(result))
         } else {
-            Refused::Call(Refusal::of(result, answer))
+            Refused::Call(Refusal::of(result))
         }
     }
 

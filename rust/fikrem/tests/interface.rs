@@ -47,9 +47,10 @@ fn kind_of_c(kind: &str) -> String {
     .to_string()
 }
 
-/// `uint32_t name(const uint8_t *book, size_t book_size, …);`
+/// `uint64_t name(const uint8_t *book, size_t book_size, …);`
 fn functions_of_header() -> BTreeMap<String, Function> {
     let header = without_comments(&text(HEADER));
+    let header = header.lines().filter(|line| !line.starts_with('#')).collect::<Vec<_>>().join("\n");
     let mut functions = BTreeMap::new();
     for declaration in header.split(';').filter(|part| part.contains('(')) {
         let (head, parameters) = split(declaration, "(");
@@ -66,7 +67,7 @@ fn functions_of_header() -> BTreeMap<String, Function> {
     functions
 }
 
-/// `name(book: *const u8, …) -> u32`, whatever follows; the parameters as they stand.
+/// `name(book: *const u8, …) -> u64`, whatever follows; the parameters as they stand.
 fn function_of_rust(text: &str) -> (String, Function) {
     let (name, rest) = split(text, "(");
     let (parameters, rest) = split(rest, ") -> ");
@@ -122,6 +123,7 @@ fn numbers_of_header() -> BTreeMap<String, String> {
     let enums = header.split("enum ").skip(1).map(|part| split(split(part, "{").1, "}").0);
     let enumerators = enums.flat_map(|body| body.split(',')).map(|enumerator| split(enumerator, " = "));
     let sizes = header.lines().filter_map(|line| line.strip_prefix("#define ")?.split_once(' '));
+    let sizes = sizes.filter(|(name, _)| !name.contains('('));
     let named = enumerators.chain(sizes).map(|(name, value)| (split(name, "FIKREM_").1, value.trim()));
     named.map(|(name, value)| (name.to_string(), value.to_string())).collect()
 }
@@ -151,10 +153,36 @@ fn the_same_numbers() {
     assert_eq!(fikrem::LONGEST_TABLE.to_string(), header["TABLE_SIZE"]);
 }
 
+/// `#define FIKREM_NAME(result) ((result) …)`, each as `name`, `result …`.
+fn parts_of_header() -> BTreeMap<String, String> {
+    let header = text(HEADER);
+    let macros = header.lines().filter_map(|line| line.strip_prefix("#define FIKREM_")?.split_once("(result) "));
+    macros
+        .map(|(name, body)| {
+            let body =
+                body.strip_prefix('(').and_then(|body| body.strip_suffix(')')).expect("a macro's body in brackets");
+            (name.to_lowercase(), body.replace("(result)", "result"))
+        })
+        .collect()
+}
+
+/// `pub fn name(result: u64) -> u64 {` and, on the next line, what it is.
+fn parts_of_raw() -> BTreeMap<String, String> {
+    let raw = text(RAW);
+    let functions = raw.split("pub fn ").filter_map(|function| function.split_once("(result: u64) -> u64 {\n"));
+    functions.map(|(name, body)| (name.to_string(), split(body, "\n").0.trim().to_string())).collect()
+}
+
+#[test]
+fn the_same_parts_of_a_result() {
+    assert_eq!(parts_of_header().len(), 4);
+    assert_eq!(parts_of_raw(), parts_of_header(), "{RAW} and {HEADER}");
+}
+
 #[test]
 fn the_same_words() {
     let header = text(HEADER);
-    let results = split(split(&header, "enum fikrem_result {").1, "};").0;
+    let results = split(split(&header, "enum fikrem_number {").1, "};").0;
     let mut refusals = results.lines().map(str::trim).filter(|line| line.contains("/*"));
     for number in 1..=14 {
         let line = refusals.next().unwrap_or_default();

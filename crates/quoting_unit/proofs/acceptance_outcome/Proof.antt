@@ -1,6 +1,6 @@
 use mathlib.Core.Path.{ap, _∙_}
 use borrow.Author.Needs.{needs}
-use Rattle.quoting_unit.specs.Interface.{done}
+use Rattle.quoting_unit.specs.Interface.{isDone, outcomeOf}
 use Rattle.quoting_unit.proofs.acceptance_outcome.Statement.{statement}
 use Rattle.quoting_unit.proofs.acceptance_outcome.Tie as tie
 
@@ -11,7 +11,7 @@ done-requires : tie.Need-done-requires
 done-requires c κs = search needs
 
 returns : tie.Need-returns
-returns c = c .done .ensures ∙ ap done (c .before .acceptance-told .ensures)
+returns c = c .done .ensures ∙ ap (λ told. outcomeOf (isDone told)) (c .before .acceptance-told .ensures)
 
 pub acceptance-outcome-spec : {M : Type 1} → statement M
 acceptance-outcome-spec = tie.close (tie.spec acceptance-told-requires done-requires returns)

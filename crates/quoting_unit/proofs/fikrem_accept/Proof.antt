@@ -1,22 +1,28 @@
 use mathlib.Core.Path.{refl, sym}
-use mathlib.Core.Logic.{inl, inr}
 use native.Mathlib.Omega.{arith}
 use borrow.Author.Needs.{needs}
 use Rattle.numbers.specs.BigEndian.{Bytes}
+use Rattle.calls.specs.Decision.{accept}
+use Rattle.quoting_unit.specs.Interface.{lentBoth}
+use Rattle.quoting_unit.specs.Unit.{onLedger}
 use Rattle.quoting_unit.specs.UnitFacts.{accepted-bounded}
-use Rattle.quoting_unit.specs.UnitBuffers.{accept-too-short, accept-called}
+use Rattle.quoting_unit.specs.UnitBuffers.{first-short, second-short, both-long}
 use Rattle.quoting_unit.proofs.fikrem_accept.Statement.{statement}
 use Rattle.quoting_unit.proofs.fikrem_accept.Tie as tie
 
 returns : tie.Need-returns
 returns c =
     let args = c .before .before .before .before .before .before .args in
-    rw (accept-too-short (args .stored .now) (args .table-size) (args .book .now) (args .request .now) (args .out .now) (args .figures .now) (args .answer .now) (inl (omega arith))) (refl, refl, refl, refl)
+    let call = onLedger (args .stored .now) (args .table-size) (accept (args .book .now) (args .request .now)) in
+    let lent = lentBoth (args .out .now) (args .figures .now) (args .answer .now) in
+    rw (first-short call lent refl (omega arith)) (refl, refl, refl, refl)
 
 returns-2 : tie.Need-returns-2
 returns-2 c =
     let args = c .before .before .before .before .before .before .before .args in
-    rw (accept-too-short (args .stored .now) (args .table-size) (args .book .now) (args .request .now) (args .out .now) (args .figures .now) (args .answer .now) (inr (omega arith))) (refl, refl, refl, refl)
+    let call = onLedger (args .stored .now) (args .table-size) (accept (args .book .now) (args .request .now)) in
+    let lent = lentBoth (args .out .now) (args .figures .now) (args .answer .now) in
+    rw (second-short call lent refl (omega arith)) (refl, refl, refl, refl)
 
 accept-stored-requires : tie.Need-accept-stored-requires
 accept-stored-requires c κs = search needs
@@ -75,7 +81,9 @@ returns-3 c =
     let args = called .before .before .before .before .before .before .before .before .before .args in
     let is = rw (matched .called .given .1) at (called .accept-stored .ensures .0) in
     let told = rw (answered .before .before .refused .ensures) at (answered .write-answer .ensures) in
-    rw (accept-called (args .stored .now) (args .table-size) (args .book .now) (args .request .now) (args .out .now) (args .figures .now) (args .answer .now) (omega arith) (omega arith), ← is)
+    let call = onLedger (args .stored .now) (args .table-size) (accept (args .book .now) (args .request .now)) in
+    let lent = lentBoth (args .out .now) (args .figures .now) (args .answer .now) in
+    rw (both-long call lent refl (omega arith) (omega arith), ← is)
     (told .0, called .accept-stored .ensures .1, refl, told .1)
 
 same-length-3 : tie.Need-same-length-3
@@ -92,7 +100,9 @@ returns-4 c =
     let args = called .before .before .before .before .before .before .before .before .before .args in
     let is = rw (matched .called2 .given .1) at (called .accept-stored .ensures .0) in
     let told = rw (answered .before .before .refused2 .ensures) at (answered .write-answer2 .ensures) in
-    rw (accept-called (args .stored .now) (args .table-size) (args .book .now) (args .request .now) (args .out .now) (args .figures .now) (args .answer .now) (omega arith) (omega arith), ← is)
+    let call = onLedger (args .stored .now) (args .table-size) (accept (args .book .now) (args .request .now)) in
+    let lent = lentBoth (args .out .now) (args .figures .now) (args .answer .now) in
+    rw (both-long call lent refl (omega arith) (omega arith), ← is)
     (told .0, called .accept-stored .ensures .1, refl, told .1)
 
 same-length-5 : tie.Need-same-length-5
@@ -114,7 +124,9 @@ returns-5 c =
     let args = called .before .before .before .before .before .before .before .before .before .args in
     let is = rw (matched .called3 .given .1) at (called .accept-stored .ensures .0) in
     let told = rw (outcome .acceptance-outcome .ensures) at (answered .write-answer3 .ensures) in
-    rw (accept-called (args .stored .now) (args .table-size) (args .book .now) (args .request .now) (args .out .now) (args .figures .now) (args .answer .now) (omega arith) (omega arith), ← is)
+    let call = onLedger (args .stored .now) (args .table-size) (accept (args .book .now) (args .request .now)) in
+    let lent = lentBoth (args .out .now) (args .figures .now) (args .answer .now) in
+    rw (both-long call lent refl (omega arith) (omega arith), ← is)
     (told .0, called .accept-stored .ensures .1, figured .write-figures .ensures, told .1)
 
 pub fikrem-accept-spec : {M : Type 1} → statement M

@@ -1,14 +1,18 @@
 use mathlib.Core.Path.{refl}
 use native.Mathlib.Omega.{arith}
 use borrow.Author.Needs.{needs}
-use Rattle.quoting_unit.specs.UnitBuffers.{check-too-short, check-called}
+use Rattle.quoting_unit.specs.Interface.{lentAnswer}
+use Rattle.quoting_unit.specs.Unit.{checkLedger}
+use Rattle.quoting_unit.specs.UnitBuffers.{answer-short, answer-long}
 use Rattle.quoting_unit.proofs.fikrem_check_ledger.Statement.{statement}
 use Rattle.quoting_unit.proofs.fikrem_check_ledger.Tie as tie
 
 returns : tie.Need-returns
 returns c =
     let args = c .before .before .before .args in
-    rw (check-too-short (args .stored .now) (args .table-size) (args .answer .now) (omega arith)) (refl, refl)
+    let call = checkLedger (args .stored .now) (args .table-size) in
+    let lent = lentAnswer (args .answer .now) in
+    rw (answer-short call lent refl (omega arith)) (refl, refl)
 
 check-stored-requires : tie.Need-check-stored-requires
 check-stored-requires c κs = search needs
@@ -28,7 +32,9 @@ returns-2 c =
     let judged = answered .before .before in
     let args = judged .before .before .before .before .before .args in
     let told = rw (judged .before .check-stored .ensures) at (judged .check-outcome .ensures) in
-    rw (check-called (args .stored .now) (args .table-size) (args .answer .now) (omega arith)) (rw told at (answered .write-answer .ensures))
+    let call = checkLedger (args .stored .now) (args .table-size) in
+    let lent = lentAnswer (args .answer .now) in
+    rw (answer-long call lent refl (omega arith)) (rw told at (answered .write-answer .ensures))
 
 pub fikrem-check-ledger-spec : {M : Type 1} → statement M
 fikrem-check-ledger-spec =

@@ -1,14 +1,19 @@
 use mathlib.Core.Path.{refl}
 use native.Mathlib.Omega.{arith}
 use borrow.Author.Needs.{needs}
-use Rattle.quoting_unit.specs.UnitBuffers.{output-too-short, output-called}
+use Rattle.calls.specs.Decision.{handOver}
+use Rattle.quoting_unit.specs.Interface.{lentOutput}
+use Rattle.quoting_unit.specs.Unit.{onLedger}
+use Rattle.quoting_unit.specs.UnitBuffers.{answer-short, answer-long}
 use Rattle.quoting_unit.proofs.fikrem_hand_over.Statement.{statement}
 use Rattle.quoting_unit.proofs.fikrem_hand_over.Tie as tie
 
 returns : tie.Need-returns
 returns c =
     let args = c .before .before .before .before .args in
-    rw (output-too-short _ (args .out .now) _ (args .answer .now) (omega arith)) (refl, refl, refl)
+    let call = onLedger (args .stored .now) (args .table-size) (handOver (args .entry) (args .person)) in
+    let lent = lentOutput (args .out .now) (args .answer .now) in
+    rw (answer-short call lent refl (omega arith)) (refl, refl, refl)
 
 hand-over-stored-requires : tie.Need-hand-over-stored-requires
 hand-over-stored-requires c κs = search needs
@@ -33,7 +38,10 @@ returns-2 c =
     let args = called .before .before .before .before .before .before .args in
     let told = rw (called .hand-over-stored .ensures .0) at (judged .call-outcome .ensures) in
     let written = rw told at (answered .write-answer .ensures) in
-    rw (output-called _ (args .out .now) _ (args .answer .now) (omega arith)) (written .0, called .hand-over-stored .ensures .1, written .1)
+    let call = onLedger (args .stored .now) (args .table-size) (handOver (args .entry) (args .person)) in
+    let lent = lentOutput (args .out .now) (args .answer .now) in
+    rw (answer-long call lent refl (omega arith))
+    (written .0, called .hand-over-stored .ensures .1, written .1)
 
 pub fikrem-hand-over-spec : {M : Type 1} → statement M
 fikrem-hand-over-spec =

@@ -1,14 +1,16 @@
 use mathlib.Core.Path.{refl}
 use native.Mathlib.Omega.{arith}
 use borrow.Author.Needs.{needs}
-use Rattle.quoting_unit.specs.UnitBuffers.{output-too-short, output-called}
+use Rattle.quoting_unit.specs.Interface.{lentOutput}
+use Rattle.quoting_unit.specs.Unit.{newLedger}
+use Rattle.quoting_unit.specs.UnitBuffers.{answer-short, answer-long}
 use Rattle.quoting_unit.proofs.fikrem_new_ledger.Statement.{statement}
 use Rattle.quoting_unit.proofs.fikrem_new_ledger.Tie as tie
 
 returns : tie.Need-returns
 returns c =
     let args = c .before .before .before .args in
-    rw (output-too-short _ (args .out .now) _ (args .answer .now) (omega arith)) (refl, refl, refl)
+    rw (answer-short (newLedger) (lentOutput (args .out .now) (args .answer .now)) refl (omega arith)) (refl, refl, refl)
 
 new-stored-requires : tie.Need-new-stored-requires
 new-stored-requires c κs = search needs
@@ -33,7 +35,8 @@ returns-2 c =
     let args = called .before .before .before .before .before .args in
     let told = rw (called .new-stored .ensures .0) at (judged .call-outcome .ensures) in
     let written = rw told at (answered .write-answer .ensures) in
-    rw (output-called _ (args .out .now) _ (args .answer .now) (omega arith)) (written .0, called .new-stored .ensures .1, written .1)
+    rw (answer-long (newLedger) (lentOutput (args .out .now) (args .answer .now)) refl (omega arith))
+    (written .0, called .new-stored .ensures .1, written .1)
 
 pub fikrem-new-ledger-spec : {M : Type 1} → statement M
 fikrem-new-ledger-spec =

@@ -1,14 +1,19 @@
 use mathlib.Core.Path.{refl}
 use native.Mathlib.Omega.{arith}
 use borrow.Author.Needs.{needs}
-use Rattle.quoting_unit.specs.UnitBuffers.{output-too-short, output-called}
+use Rattle.calls.specs.Decision.{payOut}
+use Rattle.quoting_unit.specs.Interface.{lentOutput}
+use Rattle.quoting_unit.specs.Unit.{onLedger}
+use Rattle.quoting_unit.specs.UnitBuffers.{answer-short, answer-long}
 use Rattle.quoting_unit.proofs.fikrem_pay_out.Statement.{statement}
 use Rattle.quoting_unit.proofs.fikrem_pay_out.Tie as tie
 
 returns : tie.Need-returns
 returns c =
     let args = c .before .before .before .before .args in
-    rw (output-too-short _ (args .out .now) _ (args .answer .now) (omega arith)) (refl, refl, refl)
+    let call = onLedger (args .stored .now) (args .table-size) (payOut (args .entry) (args .amount)) in
+    let lent = lentOutput (args .out .now) (args .answer .now) in
+    rw (answer-short call lent refl (omega arith)) (refl, refl, refl)
 
 pay-out-stored-requires : tie.Need-pay-out-stored-requires
 pay-out-stored-requires c κs = search needs
@@ -33,7 +38,10 @@ returns-2 c =
     let args = called .before .before .before .before .before .before .args in
     let told = rw (called .pay-out-stored .ensures .0) at (judged .call-outcome .ensures) in
     let written = rw told at (answered .write-answer .ensures) in
-    rw (output-called _ (args .out .now) _ (args .answer .now) (omega arith)) (written .0, called .pay-out-stored .ensures .1, written .1)
+    let call = onLedger (args .stored .now) (args .table-size) (payOut (args .entry) (args .amount)) in
+    let lent = lentOutput (args .out .now) (args .answer .now) in
+    rw (answer-long call lent refl (omega arith))
+    (written .0, called .pay-out-stored .ensures .1, written .1)
 
 pub fikrem-pay-out-spec : {M : Type 1} → statement M
 fikrem-pay-out-spec =

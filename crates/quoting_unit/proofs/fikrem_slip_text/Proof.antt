@@ -1,14 +1,16 @@
 use mathlib.Core.Path.{refl}
 use native.Mathlib.Omega.{arith}
 use borrow.Author.Needs.{needs}
-use Rattle.quoting_unit.specs.UnitBuffers.{output-too-short, output-called}
+use Rattle.quoting_unit.specs.Interface.{lentOutput}
+use Rattle.quoting_unit.specs.Unit.{slipText}
+use Rattle.quoting_unit.specs.UnitBuffers.{answer-short, answer-long}
 use Rattle.quoting_unit.proofs.fikrem_slip_text.Statement.{statement}
 use Rattle.quoting_unit.proofs.fikrem_slip_text.Tie as tie
 
 returns : tie.Need-returns
 returns c =
     let args = c .before .before .before .before .before .args in
-    rw (output-too-short _ (args .text .now) _ (args .answer .now) (omega arith)) (refl, refl, refl)
+    rw (answer-short (slipText (args .book .now) (args .request .now)) (lentOutput (args .text .now) (args .answer .now)) refl (omega arith)) (refl, refl, refl)
 
 price-requires : tie.Need-price-requires
 price-requires c κs = search needs
@@ -39,7 +41,8 @@ returns-2 c =
     let slip = rw (priced .price .ensures) at (written .slip-text .ensures) in
     let told = rw (slip .0) at (judged .slip-outcome .ensures) in
     let answer = rw told at (answered .write-answer .ensures) in
-    rw (output-called _ text _ (args .answer .now) (omega arith)) (answer .0, slip .1, answer .1)
+    rw (answer-long (slipText (args .book .now) (args .request .now)) (lentOutput (args .text .now) (args .answer .now)) refl (omega arith))
+    (answer .0, slip .1, answer .1)
 
 pub fikrem-slip-text-spec : {M : Type 1} → statement M
 fikrem-slip-text-spec =

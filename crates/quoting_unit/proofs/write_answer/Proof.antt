@@ -4,11 +4,8 @@ use borrow.Author.Tests.{eq-eqb, ne-eqb}
 use Rattle.quoting_unit.proofs.write_answer.Statement.{statement}
 use Rattle.quoting_unit.proofs.write_answer.Tie as tie
 
-cast-number : tie.Need-cast-number
-cast-number c = search needs
-
 returns : tie.Need-returns
-returns c = (refl, rw (eq-eqb _ _ (c .if1 .taken)))
+returns c = (refl, rw (ne-eqb _ _ (c .if1 .taken)))
 
 write-places-requires : tie.Need-write-places-requires
 write-places-requires c κs = search needs
@@ -19,7 +16,7 @@ same-length c = search needs
 returns-2 : tie.Need-returns-2
 returns-2 c =
     let called = c .before .before in
-    (refl, rw (ne-eqb _ _ (called .before .before .if1 .left)) (called .write-places .ensures))
+    (refl, rw (eq-eqb _ _ (called .before .before .before .if1 .left)) (called .write-places .ensures))
 
 pub write-answer-spec : {M : Type 1} → statement M
-write-answer-spec = tie.close (tie.spec cast-number returns write-places-requires same-length returns-2)
+write-answer-spec = tie.close (tie.spec returns write-places-requires same-length returns-2)

@@ -8,14 +8,11 @@ use Rattle.quoting_unit.proofs.write_places.Statement.{statement}
 use Rattle.quoting_unit.proofs.write_places.Tie as tie
 
 abbrev Inv-loop : tie.InvT-loop
-Inv-loop answer₀ places i₀ answer i =
-    (answer ≡ copied answer₀ places i) × (length answer ≡ length answer₀) × (i ≤ 8)
+Inv-loop answer₀ told i₀ answer i =
+    (answer ≡ copied answer₀ told i) × (length answer ≡ length answer₀) × (i ≤ 4)
 
 abbrev μ-loop : tie.MeasureT-loop
-μ-loop answer₀ places i₀ answer i = 8 - i
-
-answer-places-requires : tie.Need-answer-places-requires Inv-loop μ-loop
-answer-places-requires c κs = search needs
+μ-loop answer₀ told i₀ answer i = 4 - i
 
 loop-holds : tie.Need-loop-holds Inv-loop μ-loop
 loop-holds c = search needs
@@ -42,10 +39,11 @@ loop-again : tie.Need-loop-again Inv-loop μ-loop
 loop-again c =
     let head = c .before in
     let i = head .loop .i in
-    let places = head .before .answer-places .result in
-    let before = head .before .before .before .args .answer .now in
-    let long : length places ≡ 8 = search needs in (
-      copy-one-more before places i 0 (head .loop .inv .0) (omega arith) (omega arith),
+    let args = head .before .args in
+    let told = args .t1 in
+    let before = args .answer .now in
+    let long : length told ≡ 4 = search needs in (
+      copy-one-more before told i 0 (head .loop .inv .0) (omega arith) (omega arith),
       search needs,
       omega arith,
     )
@@ -56,11 +54,11 @@ same-length c = search needs
 returns : tie.Need-returns Inv-loop μ-loop
 returns c =
     let end = c .before in
-    let places = end .before .answer-places .result in
-    let long : length places ≡ 8 = search needs in
-    let all : end .loop .i ≡ 8 = omega arith in
-    let before = end .before .before .before .args .answer .now in
-    rw (end .before .answer-places .ensures) at (copied-whole before places 8 (rw all at (end .loop .inv .0)) long)
+    let args = end .before .args in
+    let told = args .t1 in
+    let long : length told ≡ 4 = search needs in
+    let all : end .loop .i ≡ 4 = omega arith in
+    copied-whole (args .answer .now) told 4 (rw all at (end .loop .inv .0)) long
 
 pub write-places-spec : {M : Type 1} → statement M
 write-places-spec =
@@ -68,7 +66,6 @@ write-places-spec =
     (tie.spec
     Inv-loop
     μ-loop
-    answer-places-requires
     loop-holds
     mul-answer
     array-read-answer

@@ -21,13 +21,13 @@ pub fn every_byte(tally: &mut Tally) {
     let zones = vec![(1, [0, 0, 8_500, 38_000, 10_000]), (2, [1, 2, 3, 4, 5]), (9, [10_000_000; 5])];
     let book = Book { zones, distribution_factors: vec![10_000, 9_000], ..Book::slip() }.encode();
     let request = Request::slip().encode();
-    altered(&book, |book| tally.compare(&LibraryCall::Price { book, request: &request }).answer[0]);
-    altered(&request, |request| tally.compare(&LibraryCall::Price { book: &book, request }).answer[0]);
+    altered(&book, |book| tally.compare(&LibraryCall::Price { book, request: &request }).0);
+    altered(&request, |request| tally.compare(&LibraryCall::Price { book: &book, request }).0);
 
     let (ledger, parties) = after(&filling(&mut Random::new(110), 2, 5), 5);
     let mut stored = vec![0; 1_000];
     let length = write_ledger(&ledger, &parties, &mut stored).expect("the ledger is sound");
     altered(&stored[..length], |stored| {
-        tally.compare(&LibraryCall::CheckLedger { stored, table_size: LONGEST_TABLE }).answer[0]
+        tally.compare(&LibraryCall::CheckLedger { stored, table_size: LONGEST_TABLE }).0
     });
 }

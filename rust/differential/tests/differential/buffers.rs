@@ -36,13 +36,13 @@ pub fn every_length(tally: &mut Tally) {
     for (call, length) in &calls {
         for out in lengths(*length.max(&2)) {
             for figures in [0, 1, 20, 21, 22] {
-                for answer in 0..10 {
+                for answer in 0..6 {
                     tally.compare_on(call, Buffers::of(out, figures, answer));
                 }
             }
         }
         for out in 0..*length {
-            tally.compare_on(call, Buffers::of(out, 21, 8));
+            tally.compare_on(call, Buffers::of(out, 21, 4));
         }
     }
 }

@@ -77,8 +77,8 @@ pub fn limits(tally: &mut Tally) {
 fn last_connections(tally: &mut Tally, ledger: &Ledger, parties: &[Party]) {
     let mut stored = stored_form(ledger, parties);
     for wanted in [0, 0, 10] {
-        let seen = tally.compare(&LibraryCall::on(&stored, LONGEST_TABLE, &accept_call(ledger.month, 0)));
-        assert_eq!(seen.answer[0], wanted);
+        let (result, seen) = tally.compare(&LibraryCall::on(&stored, LONGEST_TABLE, &accept_call(ledger.month, 0)));
+        assert_eq!(result, wanted);
         if wanted == 0 {
             stored = seen.written().to_vec();
         }

@@ -3,35 +3,32 @@ use super::damage::stored_form;
 use accounts::Accounts;
 use differential::wanted::{places_of_answer, table};
 use differential::{Buffers, LibraryCall, Tally};
-use fikrem::LONGEST_TABLE;
+use fikrem::{raw, LONGEST_TABLE};
 use generate::calls::{calls, extended, filling, Call, Outcome};
 use generate::Random;
 use reference::{Ledger, Refusal};
 
-/// The library's answer is the reference implementation's.
-fn same_answer(outcome: &Result<Outcome, Refusal>, seen: &Buffers) {
-    let wanted = match outcome {
-        Ok(Outcome::Done) => [0; 4],
-        Ok(Outcome::Accepted(_, answer)) => {
-            let [kind, number, collected] = places_of_answer(*answer);
-            [0, kind, number, collected]
-        }
-        Err(refusal) => [refusal.number.into(), 0, 0, 0],
+/// The library's result and answer are the reference implementation's.
+fn same_answer(outcome: &Result<Outcome, Refusal>, result: u64, seen: &Buffers) {
+    let places = match outcome {
+        Ok(Outcome::Done) => [0; 3],
+        Ok(Outcome::Accepted(_, answer)) => places_of_answer(*answer),
+        Err(refusal) => return assert_eq!(raw::number(result), refusal.number.into()),
     };
-    assert_eq!([seen.answer[0], seen.answer[4], seen.answer[5], seen.answer[6]], wanted);
+    assert_eq!((result, &seen.answer[..3]), (raw::DONE, &places[..]));
 }
 
 /// Runs a list from a new ledger on a table of this length: the library from stored form to stored form, the reference
 /// implementation on its ledger and table. Both agree with the accounts after each call. The ledger that the list leaves.
 fn run(tally: &mut Tally, list: &[Call], table_size: usize) -> Ledger {
     let (mut ledger, mut parties) = (Ledger::new(), table(table_size));
-    let mut stored = tally.compare(&LibraryCall::NewLedger).written().to_vec();
+    let mut stored = tally.compare(&LibraryCall::NewLedger).1.written().to_vec();
     let mut accounts = Accounts::default();
     for call in list {
         let outcome = call.run(&mut ledger, &mut parties);
         assert_eq!(outcome, accounts.call(call, table_size));
-        let seen = tally.compare(&LibraryCall::on(&stored, table_size, call));
-        same_answer(&outcome, &seen);
+        let (result, seen) = tally.compare(&LibraryCall::on(&stored, table_size, call));
+        same_answer(&outcome, result, &seen);
         if outcome.is_ok() {
             stored = seen.written().to_vec();
         }

@@ -1,13 +1,14 @@
 use super::cases;
 use differential::{LibraryCall, Tally};
+use fikrem::raw;
 use generate::damage::{book_past_limits, request_past_limits};
 use generate::request::{pair, refused_bespoke_rate};
 use generate::{Book, Random, Request};
 
-/// Prices the pair and prints its slip.
+/// Prices the pair and prints its slip; the number of the pricing's result.
 fn both(tally: &mut Tally, book: &[u8], request: &[u8]) -> u64 {
     tally.compare(&LibraryCall::SlipText { book, request });
-    tally.compare(&LibraryCall::Price { book, request }).answer[0]
+    raw::number(tally.compare(&LibraryCall::Price { book, request }).0)
 }
 
 /// Over all limits and edges; some of a zone that isn't in the book, some of a bespoke rate that isn't allowed.

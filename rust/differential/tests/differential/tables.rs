@@ -1,10 +1,13 @@
 use super::damage::stored_form;
 use differential::{LibraryCall, Tally};
-use fikrem::LONGEST_TABLE;
+use fikrem::{raw, LONGEST_TABLE};
 use generate::calls::{after, filling};
 use generate::damage::{alter_byte, alter_byte_and_check};
 use generate::{Book, Random, Request};
 use reference::Ledger;
+
+/// What a refusal of the stored ledger itself adds to its number.
+const OF_LEDGER: u64 = 64;
 
 /// By each call; whether each finds that the table is too short for the entries.
 fn too_short(tally: &mut Tally, stored: &[u8], table_size: usize, request: &[u8]) -> bool {
@@ -15,7 +18,7 @@ fn too_short(tally: &mut Tally, stored: &[u8], table_size: usize, request: &[u8]
         LibraryCall::PayOut { stored, table_size, entry: 1, amount: 0 },
         LibraryCall::HandOver { stored, table_size, entry: 1, person: 7 },
     ];
-    let found = calls.map(|call| tally.compare(&call).answer[..4] == [9, 0, 0, 1]);
+    let found = calls.map(|call| tally.compare(&call).0 == OF_LEDGER + raw::ENTRIES_FULL);
     assert_eq!(found, [found[0]; 4], "the calls differ on a table of {table_size}");
     found[0]
 }

@@ -13,7 +13,6 @@ const OUTPUT: Refusal = Refusal { number: 14, file: 0, place: 0 };
 
 fn same_refusal(refused: fikrem::Refusal, wanted: Refusal) {
     assert_eq!((refused.number, refused.file, refused.place), (wanted.number, wanted.file, wanted.place));
-    assert_eq!((refused.words(), refused.to_string()), (wanted.words(), wanted.to_string()));
 }
 
 /// The bill's fields in the order of the figures.
@@ -166,15 +165,15 @@ pub fn wrapper(tally: &mut Tally) {
     }
 }
 
-fn result(outcome: &Result<Outcome, Refusal>) -> u32 {
+fn result(outcome: &Result<Outcome, Refusal>) -> u64 {
     outcome.as_ref().err().map_or(0, |refusal| refusal.number.into())
 }
 
 /// Buffers that hold accept's answer, for the count.
 fn answered(outcome: &Result<Outcome, Refusal>) -> Buffers {
-    let mut buffers = Buffers::of(0, 0, 8);
+    let mut buffers = Buffers::of(0, 0, 4);
     if let Ok(Outcome::Accepted(_, answer)) = outcome {
-        buffers.answer[4..7].copy_from_slice(&differential::wanted::places_of_answer(*answer));
+        buffers.answer[..3].copy_from_slice(&differential::wanted::places_of_answer(*answer));
     }
     buffers
 }
