@@ -1,6 +1,6 @@
 // A line of the program's text.
-use crate::printed::NAMES;
 use libc::STDOUT_FILENO;
+use printed_figures::printed::NAMES;
 ghost use Prim.Native.Nat.{_≤_};
 ghost use lib.ListN.{length};
 

@@ -6,8 +6,6 @@
 // printed charge. An example with a star is recast: what document 000 recovers by yearly charges
 // stands as capacity that isn't charged.
 mod line;
-mod printed;
-mod tolerance;
 
 use charge::Pricing;
 use line::SignedFigure;
@@ -17,17 +15,15 @@ use line::word;
 use line::write;
 use line::write_number;
 use line::write_signed;
-use printed::Printed;
-use printed::Units;
-use rate_book::book::Book;
+use printed_figures::printed;
+use printed_figures::printed::Printed;
+use printed_figures::tolerance;
+use printed_figures::tolerance::Bounds;
+use printed_figures::tolerance::capped;
 use reconciliation::Percent;
 use reconciliation::Reconciliation;
 use tagged::file::Refusal;
-use tagged::file::Standing;
-use tolerance::Bounds;
-use tolerance::capped;
 ghost use Rattle.io.specs.Counts.{Counts};
-ghost use Rattle.rate_book.specs.BookWithin.{BookWithin};
 
 struct Tally {
     figures: u64,
@@ -195,26 +191,6 @@ fn refused(pricing: usize, refusal: Refusal, tally: Tally) -> Tally {
     }
 }
 
-fn request_bounds(book: Book, request: &[u8], units: Units) -> Bounds
-    requires { ⌜ BookWithin book ⌝ }
-{
-    let read = request::values::read_request(2, request);
-    let answer = read.answer;
-    match answer {
-        Standing::Refused(_) => tolerance::no_bounds(),
-        Standing::Stands => tolerance::bounds_of(book, read.request, units),
-    }
-}
-
-fn file_bounds(book: &[u8], request: &[u8], units: Units) -> Bounds {
-    let read = rate_book::book::read_book(1, book);
-    let answer = read.answer;
-    match answer {
-        Standing::Refused(_) => tolerance::no_bounds(),
-        Standing::Stands => request_bounds(read.book, request, units),
-    }
-}
-
 // The share was fitted to the charge where its unit isn't 0.
 fn held_answer(pricing: usize, answer: Pricing, bounds: Bounds, tally: Tally) -> Tally {
     match answer {
@@ -231,7 +207,7 @@ fn held_request(pricing: usize, book: &[u8], tally: Tally) -> Tally {
     let mut space = io::buffer();
     let size = read_column(pricing, printed::REQUEST, &mut space);
     let request = &space[..size];
-    let bounds = file_bounds(book, request, printed::units(pricing));
+    let bounds = tolerance::file_bounds(book, request, printed::units(pricing));
     let answer = charge::price(book, request);
     held_answer(pricing, answer, bounds, tally)
 }

@@ -3,8 +3,8 @@ use Rattle.tagged.specs.declared.file.Standing.the-variants.{Stands}
 use Rattle.request.specs.Request.{requestOf}
 use Rattle.request.specs.RequestWithin.{request-within-limits}
 use borrow.Author.Needs.{needs}
-use Rattle.worked_examples.proofs.request_bounds.Statement.{statement}
-use Rattle.worked_examples.proofs.request_bounds.Tie as tie
+use Rattle.printed_figures.proofs.tolerance.request_bounds.Statement.{statement}
+use Rattle.printed_figures.proofs.tolerance.request_bounds.Tie as tie
 
 read-request-requires : tie.Need-read-request-requires
 read-request-requires c κs = search needs

@@ -1,10 +1,10 @@
 use Prim.Native.Nat.{ℕ, _*_, _≤_}
 use native.Mathlib.Nat.{mul-le-mul}
-use Rattle.worked_examples.specs.Tolerance.{limit}
+use Rattle.printed_figures.specs.Tolerance.{limit}
 use native.Mathlib.Omega.{arith}
 use borrow.Author.Needs.{needs}
-use Rattle.worked_examples.proofs.tolerance.raised.Statement.{statement}
-use Rattle.worked_examples.proofs.tolerance.raised.Tie as tie
+use Rattle.printed_figures.proofs.tolerance.raised.Statement.{statement}
+use Rattle.printed_figures.proofs.tolerance.raised.Tie as tie
 
 product : {x factor : ℕ} → (x ≤ limit) × (factor ≤ 100000) → x * factor ≤ limit * 100000
 product h = mul-le-mul (h .0) (h .1)

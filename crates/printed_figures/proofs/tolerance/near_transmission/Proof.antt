@@ -1,6 +1,6 @@
 use lib.Dec.{lit≤}
-use Rattle.worked_examples.proofs.tolerance.near_transmission.Statement.{statement}
-use Rattle.worked_examples.proofs.tolerance.near_transmission.Tie as tie
+use Rattle.printed_figures.proofs.tolerance.near_transmission.Statement.{statement}
+use Rattle.printed_figures.proofs.tolerance.near_transmission.Tie as tie
 
 life-of-requires : tie.Need-life-of-requires
 life-of-requires c κs = tt

@@ -1,6 +1,6 @@
 use borrow.Author.Needs.{needs}
-use Rattle.worked_examples.proofs.tolerance.factor_of.Statement.{statement}
-use Rattle.worked_examples.proofs.tolerance.factor_of.Tie as tie
+use Rattle.printed_figures.proofs.tolerance.factor_of.Statement.{statement}
+use Rattle.printed_figures.proofs.tolerance.factor_of.Tie as tie
 
 sub-last : tie.Need-sub-last
 sub-last c = search needs

@@ -1,8 +1,8 @@
 -- The bounds on what the tolerances hold, by which no sum or product in them overflows.
 use Prim.Native.Nat.{ℕ, _≤_}
-use Rattle.worked_examples.specs.declared.tolerance.Near.{Near}
-use Rattle.worked_examples.specs.declared.tolerance.Offs.{Offs}
-use Rattle.worked_examples.specs.declared.tolerance.InputUnits.{InputUnits}
+use Rattle.printed_figures.specs.declared.tolerance.Near.{Near}
+use Rattle.printed_figures.specs.declared.tolerance.Offs.{Offs}
+use Rattle.printed_figures.specs.declared.tolerance.InputUnits.{InputUnits}
 
 abbrev pub limit : ℕ
 limit = 10000000000000

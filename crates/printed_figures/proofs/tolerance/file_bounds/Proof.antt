@@ -3,8 +3,8 @@ use Rattle.tagged.specs.declared.file.Standing.the-variants.{Stands}
 use Rattle.rate_book.specs.Book.{bookOf}
 use Rattle.rate_book.specs.BookWithin.{book-within-limits}
 use borrow.Author.Needs.{needs}
-use Rattle.worked_examples.proofs.file_bounds.Statement.{statement}
-use Rattle.worked_examples.proofs.file_bounds.Tie as tie
+use Rattle.printed_figures.proofs.tolerance.file_bounds.Statement.{statement}
+use Rattle.printed_figures.proofs.tolerance.file_bounds.Tie as tie
 
 read-book-requires : tie.Need-read-book-requires
 read-book-requires c κs = search needs

@@ -2,8 +2,8 @@ use Prim.Native.Nat.{_≤_, _-_}
 use mathlib.Core.Logic.{⊎-elim}
 use native.Mathlib.Omega.{arith}
 use borrow.Author.Needs.{needs}
-use Rattle.worked_examples.proofs.tolerance.tiers_rounded.Statement.{statement}
-use Rattle.worked_examples.proofs.tolerance.tiers_rounded.Tie as tie
+use Rattle.printed_figures.proofs.tolerance.tiers_rounded.Statement.{statement}
+use Rattle.printed_figures.proofs.tolerance.tiers_rounded.Tie as tie
 
 abbrev Inv-loop : tie.InvT-loop
 Inv-loop demands rounded₀ tier₀ rounded tier = (tier ≤ 5) × (rounded ≤ tier)

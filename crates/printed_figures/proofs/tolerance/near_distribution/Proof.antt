@@ -1,5 +1,5 @@
-use Rattle.worked_examples.proofs.tolerance.near_distribution.Statement.{statement}
-use Rattle.worked_examples.proofs.tolerance.near_distribution.Tie as tie
+use Rattle.printed_figures.proofs.tolerance.near_distribution.Statement.{statement}
+use Rattle.printed_figures.proofs.tolerance.near_distribution.Tie as tie
 
 opex-factor-requires : tie.Need-opex-factor-requires
 opex-factor-requires c κs = (c .pre .0 .opex, c .pre .0 .revenue, c .pre .0 .revenue-below)

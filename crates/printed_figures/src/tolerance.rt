@@ -12,12 +12,13 @@ use field_values::factors::Factors;
 use rate_book::book::Book;
 use request::values::Request;
 use revenue::Stream;
+use tagged::file::Standing;
 ghost use Prim.Native.Nat.{_<_, _≤_};
 ghost use Rattle.field_values.specs.FactorsLaws.{FactorsWithin};
 ghost use Rattle.revenue.specs.Revenue.{StreamWithin};
 ghost use Rattle.rate_book.specs.BookWithin.{BookWithin};
 ghost use Rattle.request.specs.RequestWithin.{RequestWithin};
-ghost use Rattle.worked_examples.specs.Tolerance.{limit, NearWithin, OffsWithin, UnitsWithin};
+ghost use Rattle.printed_figures.specs.Tolerance.{limit, NearWithin, OffsWithin, UnitsWithin};
 
 // A figure, and how far it may lie off.
 struct Near {
@@ -273,7 +274,7 @@ fn part(counts: bool, x: u64) -> u64
     if counts { x } else { 0 }
 }
 
-pub fn no_bounds() -> Bounds {
+fn no_bounds() -> Bounds {
     Bounds {
         mc: 0,
         cc2: 0,
@@ -318,7 +319,7 @@ fn bounds_with(
     }
 }
 
-pub fn bounds_of(book: Book, request: Request, row: Units) -> Bounds
+fn bounds_of(book: Book, request: Request, row: Units) -> Bounds
     requires { ⌜ BookWithin book × RequestWithin request ⌝ }
 {
     let units = input_units(row);
@@ -330,4 +331,26 @@ pub fn bounds_of(book: Book, request: Request, row: Units) -> Bounds
     let mc = tiers_rounded(demands);
     let cc2 = tiers_rounded(added);
     bounds_with(near, book.share as u64, book.charged == 1, units, mc, cc2)
+}
+
+fn request_bounds(book: Book, request: &[u8], units: Units) -> Bounds
+    requires { ⌜ BookWithin book ⌝ }
+{
+    let read = request::values::read_request(2, request);
+    let answer = read.answer;
+    match answer {
+        Standing::Refused(_) => no_bounds(),
+        Standing::Stands => bounds_of(book, read.request, units),
+    }
+}
+
+// The bounds for the files of a rate book and a request: 0 where one is refused, since nothing is
+// priced then.
+pub fn file_bounds(book: &[u8], request: &[u8], units: Units) -> Bounds {
+    let read = rate_book::book::read_book(1, book);
+    let answer = read.answer;
+    match answer {
+        Standing::Refused(_) => no_bounds(),
+        Standing::Stands => request_bounds(read.book, request, units),
+    }
 }

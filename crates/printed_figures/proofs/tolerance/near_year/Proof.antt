@@ -1,7 +1,7 @@
 use native.Mathlib.Omega.{arith}
 use borrow.Author.Needs.{needs}
-use Rattle.worked_examples.proofs.tolerance.near_year.Statement.{statement}
-use Rattle.worked_examples.proofs.tolerance.near_year.Tie as tie
+use Rattle.printed_figures.proofs.tolerance.near_year.Statement.{statement}
+use Rattle.printed_figures.proofs.tolerance.near_year.Tie as tie
 
 cast-times : tie.Need-cast-times
 cast-times c = search needs

@@ -2,10 +2,10 @@ use Prim.Native.Nat.{_+_, _-_, _≤_}
 use mathlib.Core.Path.{_≡_, refl}
 use native.Mathlib.Numerals.{add-one}
 use Rattle.revenue.specs.Revenue.{discount}
-use Rattle.worked_examples.specs.Tolerance.{NearWithin}
+use Rattle.printed_figures.specs.Tolerance.{NearWithin}
 use borrow.Author.Needs.{needs}
-use Rattle.worked_examples.proofs.tolerance.near_stream.Statement.{statement}
-use Rattle.worked_examples.proofs.tolerance.near_stream.Tie as tie
+use Rattle.printed_figures.proofs.tolerance.near_stream.Statement.{statement}
+use Rattle.printed_figures.proofs.tolerance.near_stream.Tie as tie
 
 abbrev Inv-loop : tie.InvT-loop
 Inv-loop stream offs b life sum₀ f₀ n₀ sum f n = (n ≤ life + 1) × (f ≡ discount b n) × (f ≤ 100000000) × NearWithin sum

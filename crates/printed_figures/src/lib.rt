@@ -1,0 +1,3 @@
+// Document 000's figures as printed, and how far a figure of the pricing call may lie from them.
+pub mod printed;
+pub mod tolerance;
