@@ -8,7 +8,7 @@ use mathlib.Core.Logic.{_⊎_, inl, inr, ⊎-elim}
 use mathlib.Mathlib.Data.Bool.Basic.{dichotomy}
 use native.Mathlib.Omega.{arith}
 use lib.ListN.{length}
-use lib.Dec.{leb, ltb, eqb}
+use lib.Dec.{ltb, eqb}
 use borrow.Author.Tests.{ltb-true, ltb-false, le-leb, lt-leb, lt-ltb, le-ltb, eq-eqb, ne-eqb}
 use Rattle.tagged.specs.File.{refusal}
 use Rattle.tagged.specs.declared.file.Refusal.{Refusal}
@@ -18,13 +18,14 @@ use Rattle.charge.specs.declared.Pricing.{Pricing}
 use Rattle.charge.specs.declared.Pricing.the-variants.{Priced, NotPriced}
 use Rattle.ledger.specs.Lists.{found}
 use Rattle.ledger.specs.Books.{SchemeRow, Books, schemeAt}
-use Rattle.ledger.specs.Sound.{allHold, sound}
+use Rattle.ledger.specs.Sound.{sound}
 use Rattle.ledger.specs.SoundFacts.{not-both, sound-means}
-use Rattle.ledger.specs.RefusalNumbers.{oneOf}
+use Rattle.ledger.specs.RefusalNumbers.{oneOf, one-of-more}
 use Rattle.calls.specs.ListsLaws.{by-cond}
 use Rattle.calls.specs.Rules.{partiesOf, capacityOf, contribution, shared}
-use Rattle.calls.specs.Verdict.{joiningPart, opensScheme, courseOf, entriesNeeded, entriesLacking, courseVerdict, verdict}
-use Rattle.calls.specs.VerdictLaws.{verdict-refused-10, verdict-refused-7, verdict-refused-6, verdict-course, course-refused-8, course-refused-9, course-accepted}
+use Rattle.calls.specs.Verdict.{joiningOf, joiningPart, opensScheme, entriesLacking, courseVerdict, verdict}
+use Rattle.calls.specs.VerdictHas.{verdict-by}
+use Rattle.calls.specs.VerdictLaws.{joining-ended, joining-small, joining-pays, verdict-refused-10, verdict-refused-7, verdict-refused-6, verdict-course, course-refused-8, course-refused-9, course-accepted}
 use Rattle.calls.specs.Decision.{accept, Decision, refused, acceptBy, decidedBy as decidedOf, CallAnswer, isAccepted, isDone, isRefused, answerTo}
 use Rattle.calls.specs.Carried.{State, booksOn, booked, joined, opened, carriedOut}
 use Rattle.calls.specs.Calls.{answered, leaves}
@@ -224,18 +225,20 @@ module _ (state : State) (pricing : Pricing) (places : length (state .ledger .sc
           by-course (record { joining = joining; opens = false }) v (h .connects) (h .opened) part
           (rw (ne-eqb (bill .applicant .scheme) 0 (λ e. omega (arith, h .numbered)))) judged
 
+      by-row : {joining : Joining} → joiningOf (booksOn state) bill scheme ≡ joining → joiningPart (booksOn state) bill ≡ joining
+      by-row e = rw (ne-eqb (bill .applicant .scheme) 0 (λ e. omega (arith, h .numbered)), h .is) e
+
       has-ended : scheme .opening + scheme .term ≤ bill .applicant .month → joiningPart (booksOn state) bill ≡ Joining.Ended
-      has-ended late = rw (ne-eqb (bill .applicant .scheme) 0 (λ e. omega (arith, h .numbered)), h .is, le-leb _ _ late)
+      has-ended late = by-row (joining-ended (booksOn state) bill scheme late)
 
       module _ (in-force : bill .applicant .month < scheme .opening + scheme .term) where
         is-small : contributionOf state bill scheme < scheme .minimum → joiningPart (booksOn state) bill ≡ Joining.Small
-        is-small below =
-            rw (ne-eqb (bill .applicant .scheme) 0 (λ e. omega (arith, h .numbered)), h .is, lt-leb _ _ in-force, lt-ltb _ _ below)
+        is-small below = by-row (joining-small (booksOn state) bill scheme in-force refl refl below)
 
         pays : scheme .minimum ≤ contributionOf state bill scheme →
             joiningPart (booksOn state) bill
             ≡ Joining.Pays (record { collected = contributionOf state bill scheme; fee = scheme .fee; capacity = earlierCapacity state bill })
-        pays enough = rw (ne-eqb (bill .applicant .scheme) 0 (λ e. omega (arith, h .numbered)), h .is, lt-leb _ _ in-force, le-ltb _ _ enough)
+        pays enough = by-row (joining-pays (booksOn state) bill scheme in-force refl refl enough)
 
     must-join : {scheme : SchemeRow} (v : Verdict) → MustJoin state pricing bill scheme →
         courseVerdict (booksOn state) (joiningCourse (contributionOf state bill scheme) (scheme .fee) (earlierCapacity state bill)) ≡ v →
@@ -391,17 +394,8 @@ VerdictRefuses (Accepts course) = Unit {0}
 VerdictRefuses (Refuses number) = oneOf (6 ∷ 7 ∷ 8 ∷ 9 ∷ 10 ∷ 13 ∷ []) number ≡ true
 
 verdict-numbers : (books : Books) (bill : Bill) → VerdictRefuses (verdict books bill)
-unfolding verdict
 verdict-numbers books bill =
-    by-cond VerdictRefuses (leb 1000000 (books .connections)) _ _ (λ taken. refl)
-    (λ some.
-    by-cond VerdictRefuses (ltb (bill .applicant .month) (books .month)) _ _ (λ early. refl)
-    (λ in-order.
-    by-cond VerdictRefuses (leb (books .nextScheme) (bill .applicant .scheme)) _ _ (λ never. refl)
-    (λ was-opened.
-    by-cond VerdictRefuses (allHold (opensScheme bill ∷ leb 64 (length (books .schemes)) ∷ [])) _ _ (λ many. refl)
-    (λ few.
-    by-cond VerdictRefuses (entriesLacking (length (books .entries)) (books .room) (entriesNeeded (courseOf books bill))) _ _ (λ none. refl) (λ enough. tt)))))
+    verdict-by VerdictRefuses books bill (λ number. one-of-more (6 ∷ 7 ∷ 8 ∷ 9 ∷ 10 ∷ []) (6 ∷ 7 ∷ 8 ∷ 9 ∷ 10 ∷ 13 ∷ []) number refl) (λ has. tt)
 
 pub accept-refusal-numbers : (state : State) (book request : List ℕ) → AcceptRefuses (priceOf book request) (answered state (accept book request))
 unfolding answered

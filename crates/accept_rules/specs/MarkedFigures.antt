@@ -1,6 +1,6 @@
 -- Document 01, 'Marked figures': M1 to M9 over the definitions, as one result. M6 to M8 are told by accept, from the bytes of book and requests. The
 -- slip's book has threshold 5,000,000, fee and minimum 20,000 and a term of 84 months.
-use Prim.Native.Nat.{ℕ, _+_}
+use Prim.Native.Nat.{ℕ}
 use mathlib.Core.Path.{_≡_, ap, ap₂}
 use mathlib.Core.List.{List, [], _∷_, map}
 use lib.ListN.{replicate}
@@ -78,7 +78,7 @@ pub record MarkedFigures : Type 0 where
       inTurn start (accepting 6000000 24315 10000 0 ∷ accepting 1039630 24315 5000 1 ∷ accepting 1039630 24315 5000 1 ∷ [])
       ≡ (opened 1, first 0 0 ∷ noParty ∷ noParty ∷ []) ∷
       (joined 2 2000000, first 1980000 0 ∷ second 0 0 ∷ noParty ∷ []) ∷
-      (joined 3 1500000, first (1980000 + 986666) 0 ∷ second 493334 0 ∷ third 0 0 ∷ []) ∷
+      (joined 3 1500000, first 2966666 0 ∷ second 493334 0 ∷ third 0 0 ∷ []) ∷
       []
   -- "G equal to the minimum is collected; one cent less isn't. Opening + term − 1 is in force."
   pub m8 :

@@ -16,7 +16,7 @@ use Rattle.calls.specs.RulesLaws.{rises}
 use Rattle.calls.specs.CreditColumns.{weights, shares}
 use Rattle.calls.specs.CreditColumnsLaws.{length-weights, sum-weights, length-shares}
 use Rattle.acceptance.specs.Plan.{padded}
-use Rattle.acceptance.proofs.Deciding.{capacityUpTo, capacity-own, capacity-other}
+use Rattle.verdict.proofs.Deciding.{capacityUpTo, capacity-own, capacity-other}
 
 -- ---- zeros past the last figure, of so many places
 

@@ -1,2 +1,1 @@
 pub mod Booking
-pub mod Deciding

@@ -30,7 +30,7 @@ use Rattle.calls.specs.declared.courses.Verdict.{Verdict}
 use Rattle.calls.specs.declared.courses.Verdict.the-variants.{Accepts, Refuses}
 use Rattle.calls.specs.declared.answers.AcceptAnswer.{AcceptAnswer}
 use Rattle.calls.specs.declared.answers.AcceptAnswer.the-variants.{Accepted, NotAccepted}
-use Rattle.acceptance.specs.Snapshot.{snapshotBooks}
+use Rattle.verdict.specs.Snapshot.{snapshotBooks}
 use Rattle.acceptance.specs.declared.accept.Plan.{Plan}
 use Rattle.acceptance.specs.declared.accept.Added.{Added}
 

@@ -30,7 +30,7 @@ use Rattle.calls.specs.declared.courses.Verdict.{Verdict}
 use Rattle.calls.specs.declared.courses.Verdict.the-variants.{Accepts, Refuses}
 use Rattle.calls.specs.declared.answers.Acceptance.{Acceptance}
 use Rattle.calls.specs.declared.answers.AcceptAnswer.the-variants.{Accepted}
-use Rattle.acceptance.specs.Snapshot.{snapshotBooks, Counted, snapshot-counted}
+use Rattle.verdict.specs.Snapshot.{snapshotBooks, Counted, snapshot-counted}
 use Rattle.acceptance.specs.Plan.{padded, creditsBy, joinerAdded, openerAdded, coursePlan, verdictPlan, pricedPlan, planOf}
 use Rattle.acceptance.specs.PlanLaws.{plan-refused-13, plan-priced, bill-planned}
 use Rattle.acceptance.specs.PlanNeeds.{course-pays}

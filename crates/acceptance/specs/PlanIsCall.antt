@@ -32,7 +32,7 @@ use Rattle.calls.specs.declared.courses.Joining.the-variants.{NotAsked, Ended, 
 use Rattle.calls.specs.declared.courses.Course.{Course}
 use Rattle.calls.specs.declared.courses.Verdict.{Verdict}
 use Rattle.calls.specs.declared.courses.Verdict.the-variants.{Accepts, Refuses}
-use Rattle.acceptance.specs.Snapshot.{snapshot-books, Counted, snapshot-counted}
+use Rattle.verdict.specs.Snapshot.{snapshot-books, Counted, snapshot-counted}
 use Rattle.acceptance.specs.Plan.{bookedLedger, joinedLedger, openedLedger, padded, creditsBy, joinerAdded, openerAdded, coursePlan, verdictPlan, billPlan, pricedPlan, refusedPlan, planOf, planTable}
 use Rattle.acceptance.specs.PlanNeeds.{course-pays}
 use Rattle.acceptance.specs.declared.accept.Plan.{Plan}

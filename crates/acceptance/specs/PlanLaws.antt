@@ -17,7 +17,7 @@ use Rattle.calls.specs.Verdict.{entriesOfJoining, verdict}
 use Rattle.calls.specs.declared.courses.Joining.{Joining}
 use Rattle.calls.specs.declared.courses.Joining.the-variants.{NotAsked, Ended, Small, Pays}
 use Rattle.calls.specs.declared.courses.Verdict.{Verdict}
-use Rattle.acceptance.specs.Snapshot.{snapshotBooks}
+use Rattle.verdict.specs.Snapshot.{snapshotBooks}
 use Rattle.acceptance.specs.Plan.{feeAtPlace, joinedLedger, joinerAdded, refusedPlan, verdictPlan, billPlan, pricedPlan, planOf}
 
 module _ (ledger : Ledger) (parties : List Party) (room : ℕ) where
@@ -48,14 +48,14 @@ pub joined-count : (joining : Joining) (bill : Bill) (ledger : Ledger) → joine
 joined-count NotAsked bill ledger = refl
 joined-count Ended bill ledger = refl
 joined-count Small bill ledger = refl
-joined-count (Pays paid) bill ledger = fee-count (schemePlace (ledger .count) (bill .applicant .scheme)) (paid .fee) ledger
+joined-count (Pays paid) bill ledger = fee-count (schemePlace (ledger .count) (bill .applicant .scheme)) _ _
 
 pub joined-entries : (joining : Joining) (bill : Bill) (ledger : Ledger) →
     joinedLedger joining bill ledger .entries ≤ ledger .entries + entriesOfJoining joining
 joined-entries NotAsked bill ledger = omega arith
 joined-entries Ended bill ledger = omega arith
 joined-entries Small bill ledger = omega arith
-joined-entries (Pays paid) bill ledger = fee-entries (schemePlace (ledger .count) (bill .applicant .scheme)) (paid .fee) ledger
+joined-entries (Pays paid) bill ledger = fee-entries (schemePlace (ledger .count) (bill .applicant .scheme)) _ _
 
 pub one-joiner : (bill : Bill) (joining : Joining) → joinerAdded bill joining .count ≤ 1
 one-joiner bill NotAsked = omega arith

@@ -28,7 +28,7 @@ use Rattle.calls.specs.declared.courses.Joining.{Joining}
 use Rattle.calls.specs.declared.courses.Joining.the-variants.{NotAsked, Pays}
 use Rattle.calls.specs.declared.courses.Course.{Course}
 use Rattle.calls.specs.declared.courses.Verdict.the-variants.{Accepts}
-use Rattle.acceptance.specs.Snapshot.{snapshotBooks, Counted, snapshot-counted}
+use Rattle.verdict.specs.Snapshot.{snapshotBooks, Counted, snapshot-counted}
 
 pub record Bookable (ledger : Ledger) : Type 0 where
   pub connections : ledger .connections < 1000000

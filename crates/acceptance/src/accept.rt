@@ -1,5 +1,5 @@
 // Accept: what it answers, and what it makes of the ledger and the table, in three steps: the connection is booked, the joining
-// that is paid comes next, and a scheme that opens last. Deciding is verdict.rt's; nothing is refused here once a verdict accepts.
+// that is paid comes next, and a scheme that opens last. Deciding is the crate `verdict`; nothing is refused here once a verdict accepts.
 use calls::answers::AcceptAnswer;
 use calls::answers::Acceptance;
 use calls::answers::Collected;
@@ -299,7 +299,7 @@ fn bill_plan(ledger: Ledger, parties: [Party; 512], room: usize, bill: Bill) -> 
     requires { ⌜ (sound ledger parties room ≡ true) × BillWithin bill ⌝ }
     ensures { λ r. ⌜ r ≡ billPlan ledger parties room bill ⌝ }
 {
-    match crate::verdict::verdict_of(ledger, parties, room, bill) {
+    match verdict::verdict_of(ledger, parties, room, bill) {
         Verdict::Refuses(number) => refused_plan(
             ledger,
             Refusal {

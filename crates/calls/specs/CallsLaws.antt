@@ -5,7 +5,7 @@ use mathlib.Core.List.{List, [], _∷_, _++_}
 use mathlib.Core.Bool.{true, false}
 use native.Mathlib.Omega.{arith}
 use lib.ListN.{length}
-use lib.Dec.{leb, ltb}
+use lib.Dec.{leb}
 use Rattle.tagged.specs.File.{refusal}
 use Rattle.tagged.specs.declared.file.Refusal.{Refusal}
 use Rattle.charge.specs.Price.{priceOf}
@@ -15,10 +15,11 @@ use Rattle.charge.specs.declared.Pricing.{Pricing}
 use Rattle.charge.specs.declared.Pricing.the-variants.{Priced, NotPriced}
 use Rattle.ledger.specs.Lists.{Found, none, found}
 use Rattle.ledger.specs.Books.{EntryRow, Books, entryAt}
-use Rattle.ledger.specs.Sound.{allHold, sound}
+use Rattle.ledger.specs.Sound.{sound}
 use Rattle.ledger.specs.RefusalNumbers.{oneOf, Among, oneTo, one-of-more, within-one-to}
 use Rattle.calls.specs.ListsLaws.{by-cond}
-use Rattle.calls.specs.Verdict.{courseOf, entriesNeeded, entriesLacking, verdict}
+use Rattle.calls.specs.Verdict.{verdict}
+use Rattle.calls.specs.VerdictHas.{verdict-by}
 use Rattle.calls.specs.Decision.{Call, accept, payOut, handOver, Decision, accepted, paidOut, handedOver, refused, decidedBy, acceptBy, payOutBy, handOverBy, decided, CallAnswer, isAccepted, isDone, isRefused, answerTo}
 use Rattle.calls.specs.Carried.{State, booksOn, carriedOut}
 use Rattle.calls.specs.Calls.{decidedOn, answered, leaves, Promised, promise-from}
@@ -68,20 +69,8 @@ abbrev VerdictTold : Books → Bill → List ℕ → Verdict → Type 0
 VerdictTold books bill numbers v = Told books numbers (decidedBy books bill v)
 
 verdict-refuses : (books : Books) (bill : Bill) (numbers : List ℕ) → Among (6 ∷ 7 ∷ 8 ∷ 9 ∷ 10 ∷ []) numbers → VerdictTold books bill numbers (verdict books bill)
-unfolding verdict
 verdict-refuses books bill numbers among =
-    let course = courseOf books bill in
-    let refuses : (n : ℕ) → oneOf (6 ∷ 7 ∷ 8 ∷ 9 ∷ 10 ∷ []) n ≡ true → oneOf numbers n ≡ true = λ n. one-of-more (6 ∷ 7 ∷ 8 ∷ 9 ∷ 10 ∷ []) numbers n among in
-    by-cond (VerdictTold books bill numbers) (leb 1000000 (books .connections)) _ _ (λ taken. refuses 10 refl)
-    (λ some.
-    by-cond (VerdictTold books bill numbers) (ltb (bill .applicant .month) (books .month)) _ _ (λ early. refuses 7 refl)
-    (λ in-order.
-    by-cond (VerdictTold books bill numbers) (leb (books .nextScheme) (bill .applicant .scheme)) _ _ (λ never. refuses 6 refl)
-    (λ was-opened.
-    by-cond (VerdictTold books bill numbers) (allHold (course .opens ∷ leb 64 (length (books .schemes)) ∷ [])) _ _ (λ many. refuses 8 refl)
-    (λ few.
-    by-cond (VerdictTold books bill numbers) (entriesLacking (length (books .entries)) (books .room) (entriesNeeded course)) _ _ (λ lacking. refuses 9 refl)
-    (λ enough. tt)))))
+    verdict-by (VerdictTold books bill numbers) books bill (λ number. one-of-more (6 ∷ 7 ∷ 8 ∷ 9 ∷ 10 ∷ []) numbers number among) (λ has. tt)
 
 pub decided-refuses : (books : Books) (call : Call) → Told books (ruleNumbers call) (decided books call)
 decided-refuses books (accept book request) = by-pricing (priceOf book request) refl

@@ -15,4 +15,4 @@ pub mod ByPlace
 pub mod VerdictHas
 pub mod VerdictLaws
 pub mod VerdictRows
-pub mod DecisionRows
+pub mod BoundaryRows

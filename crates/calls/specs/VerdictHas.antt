@@ -12,6 +12,7 @@ use Rattle.ledger.specs.Lists.{Found, none, found}
 use Rattle.ledger.specs.Records.{noScheme}
 use Rattle.ledger.specs.Books.{SchemeRow, Books, schemeRow, booksOf, schemeAt}
 use Rattle.ledger.specs.Sound.{allHold}
+use Rattle.ledger.specs.RefusalNumbers.{oneOf}
 use Rattle.ledger.specs.SoundFacts.{both-true}
 use Rattle.ledger.specs.declared.records.Scheme.{Scheme}
 use Rattle.ledger.specs.declared.records.Party.{Party}
@@ -63,22 +64,26 @@ not-many true true h o = h
 not-many true false h o = refl
 not-many false many h o = let z : _≡_ {A = ℕ} 0 1 = cc in absurd (omega arith)
 
-pub verdict-has : (books : Books) (bill : Bill) → VerdictHas books bill (verdict books bill)
+-- a verdict refuses with 6 to 10, or accepts the request's course, which has passed every test
+pub verdict-by : (P : Verdict → Type 0) (books : Books) (bill : Bill) →
+    ((number : ℕ) → oneOf (6 ∷ 7 ∷ 8 ∷ 9 ∷ 10 ∷ []) number ≡ true → P (Refuses number)) →
+    (CourseHas books bill (courseOf books bill) → P (Accepts (courseOf books bill))) → P (verdict books bill)
 unfolding verdict
-verdict-has books bill =
+verdict-by P books bill refuses accepts =
     let course = courseOf books bill in
-    by-cond (VerdictHas books bill) (leb 1000000 (books .connections)) _ _ (λ taken. tt)
+    by-cond P (leb 1000000 (books .connections)) _ _ (λ taken. refuses 10 refl)
     (λ some.
-    by-cond (VerdictHas books bill) (ltb (bill .applicant .month) (books .month)) _ _ (λ early. tt)
+    by-cond P (ltb (bill .applicant .month) (books .month)) _ _ (λ early. refuses 7 refl)
     (λ in-order.
-    by-cond (VerdictHas books bill) (leb (books .nextScheme) (bill .applicant .scheme)) _ _ (λ never. tt)
+    by-cond P (leb (books .nextScheme) (bill .applicant .scheme)) _ _ (λ never. refuses 6 refl)
     (λ was-opened.
-    by-cond (VerdictHas books bill) (allHold (course .opens ∷ leb 64 (length (books .schemes)) ∷ [])) _ _ (λ many. tt)
+    by-cond P (allHold (course .opens ∷ leb 64 (length (books .schemes)) ∷ [])) _ _ (λ many. refuses 8 refl)
     (λ few.
-    by-cond (VerdictHas books bill) (entriesLacking (length (books .entries)) (books .room) (entriesNeeded course)) _ _ (λ lacking. tt)
+    by-cond P (entriesLacking (length (books .entries)) (books .room) (entriesNeeded course)) _ _ (λ lacking. refuses 9 refl)
     (λ enough.
     let left = entries-left (length (books .entries)) (books .room) (entriesNeeded course) enough in
-    record {
+    accepts
+    (record {
       connections = leb-false _ _ some;
       month = ltb-false _ _ in-order;
       opened = leb-false _ _ was-opened;
@@ -86,7 +91,10 @@ verdict-has books bill =
       schemes = λ opens. leb-false _ _ (not-many (course .opens) (leb 64 (length (books .schemes))) few opens);
       entries = left .limit;
       in-table = left .in-table;
-    })))))
+    }))))))
+
+pub verdict-has : (books : Books) (bill : Bill) → VerdictHas books bill (verdict books bill)
+verdict-has books bill = verdict-by (VerdictHas books bill) books bill (λ number one. tt) (λ has. has)
 
 pub course-has : (books : Books) (bill : Bill) (course : Course) → verdict books bill ≡ Accepts course → CourseHas books bill course
 course-has books bill course accepts = subst (VerdictHas books bill) accepts (verdict-has books bill)

@@ -1,5 +1,5 @@
--- The verdict by its cases, in document 01's order of refusals: 10, 7, 6, 8, 9.
-use Prim.Native.Nat.{_<_, _≤_}
+-- The joining of a scheme's row by its cases, and the verdict by its own, in document 01's order of refusals: 10, 7, 6, 8, 9.
+use Prim.Native.Nat.{ℕ, _+_, _<_, _≤_}
 use mathlib.Core.Path.{_≡_}
 use mathlib.Core.List.{[], _∷_}
 use mathlib.Core.Bool.{true, false}
@@ -7,11 +7,25 @@ use lib.ListN.{length}
 use lib.Dec.{leb}
 use borrow.Author.Tests.{le-leb, lt-leb, lt-ltb, le-ltb}
 use Rattle.charge.specs.declared.Bill.{Bill}
-use Rattle.ledger.specs.Books.{Books}
+use Rattle.ledger.specs.Books.{SchemeRow, Books}
 use Rattle.ledger.specs.Sound.{allHold}
-use Rattle.calls.specs.Verdict.{courseOf, entriesNeeded, entriesLacking, courseVerdict, verdict}
+use Rattle.calls.specs.Rules.{partiesOf, capacityOf, contribution}
+use Rattle.calls.specs.Verdict.{joiningOf, courseOf, entriesNeeded, entriesLacking, courseVerdict, verdict}
+use Rattle.calls.specs.declared.courses.Joining.the-variants.{Ended, Small, Pays}
 use Rattle.calls.specs.declared.courses.Course.{Course}
 use Rattle.calls.specs.declared.courses.Verdict.the-variants.{Accepts, Refuses}
+
+module _ (books : Books) (bill : Bill) (row : SchemeRow) where
+  pub joining-ended : row .opening + row .term ≤ bill .applicant .month → joiningOf books bill row ≡ Ended
+  joining-ended late = rw (le-leb _ _ late)
+
+  module _ {K G : ℕ} (in-force : bill .applicant .month < row .opening + row .term) (earlier : capacityOf (partiesOf (bill .applicant .scheme) books) ≡ K)
+      (due : G ≡ contribution (row .cost) (bill .applicant .capacity) K) where
+    pub joining-small : G < row .minimum → joiningOf books bill row ≡ Small
+    joining-small below = rw (lt-leb _ _ in-force, earlier, ← due, lt-ltb _ _ below)
+
+    pub joining-pays : row .minimum ≤ G → joiningOf books bill row ≡ Pays (record { collected = G; fee = row .fee; capacity = K })
+    joining-pays enough = rw (lt-leb _ _ in-force, earlier, ← due, le-ltb _ _ enough)
 
 module _ (books : Books) (bill : Bill) where
   pub verdict-refused-10 : 1000000 ≤ books .connections → verdict books bill ≡ Refuses 10

@@ -14,7 +14,6 @@ use Rattle.ledger.specs.Books.{EntryRow, entryAt, booksOf}
 use Rattle.ledger.specs.Lookup.{entryPlace}
 use Rattle.ledger.specs.LookupLaws.{entry-placed}
 use Rattle.ledger.specs.Sound.{sound}
-use Rattle.ledger.specs.Updates.{withPerson, withPaidOut}
 use Rattle.ledger.specs.declared.lookup.EntryAt.{EntryAt}
 use Rattle.ledger.specs.declared.lookup.EntryAt.the-variants.{Place, NoSuchEntry}
 use Rattle.ledger.specs.declared.records.Party.{Party}
@@ -22,7 +21,7 @@ use Rattle.ledger.specs.declared.records.Ledger.{Ledger}
 use Rattle.calls.specs.Decision.{payOut, handOver, paidOut, refused, payOutBy, handOverBy}
 use Rattle.calls.specs.ListsLaws.{by-cond}
 use Rattle.calls.specs.declared.answers.Answer.the-variants.{Done}
-use Rattle.entry_calls.specs.EntryCalls.{refusedBy, refusedChange, changedAt, changeOf, entryChange, payOutChange, handOverChange}
+use Rattle.entry_calls.specs.EntryCalls.{refusedBy, refusedChange, changedAt, paidMore, handedTo, changeOf, entryChange, payOutChange, handOverChange}
 use Rattle.entry_calls.specs.declared.EntryChange.{EntryChange}
 
 pub record Changed (entries : List Party) (update : Party → Party) (change : EntryChange) : Type 0 where
@@ -55,34 +54,31 @@ module _ (ledger : Ledger) (parties : List Party) (e : ℕ) where
   entries = take (ledger .entries) parties
 
   module _ (amount : ℕ) where
-    abbrev paid : Party → Party
-    paid party = withPaidOut (party .«paid_out» + amount) party
-
-    pub entry-paid : IfDone entries paid (entryChange ledger parties (payOut e amount))
+    pub entry-paid : IfDone entries (paidMore amount) (entryChange ledger parties (payOut e amount))
     unfolding entryChange
     entry-paid = by (entryAt (booksOf ledger parties) e)
       where
-        by : (row : Found EntryRow) → IfDone entries paid (changeOf entries (payOutBy row amount))
-        by none = refused-none entries paid (refusal 11 0 0)
+        by : (row : Found EntryRow) → IfDone entries (paidMore amount) (changeOf entries (payOutBy row amount))
+        by none = refused-none entries (paidMore amount) (refusal 11 0 0)
         by (found row) =
-            by-cond (λ decision. IfDone entries paid (changeOf entries decision)) (leb (row .paidOut + amount) (row .credited))
-            (paidOut (row .scheme) (row .number) amount) (refused (refusal 12 0 0)) (λ within. at-place entries paid (row .number))
-            (λ above. refused-none entries paid (refusal 12 0 0))
+            by-cond (λ decision. IfDone entries (paidMore amount) (changeOf entries decision)) (leb (row .paidOut + amount) (row .credited))
+            (paidOut (row .scheme) (row .number) amount) (refused (refusal 12 0 0)) (λ within. at-place entries (paidMore amount) (row .number))
+            (λ above. refused-none entries (paidMore amount) (refusal 12 0 0))
 
-    pub pay-out-changed : (room : ℕ) → IfDone entries paid (payOutChange ledger parties room e amount)
+    pub pay-out-changed : (room : ℕ) → IfDone entries (paidMore amount) (payOutChange ledger parties room e amount)
     unfolding payOutChange
-    pay-out-changed room = judged entries paid (sound ledger parties room) (entryChange ledger parties (payOut e amount)) entry-paid
+    pay-out-changed room = judged entries (paidMore amount) (sound ledger parties room) (entryChange ledger parties (payOut e amount)) entry-paid
 
   module _ (person : ℕ) where
-    pub entry-handed : IfDone entries (withPerson person) (entryChange ledger parties (handOver e person))
+    pub entry-handed : IfDone entries (handedTo person) (entryChange ledger parties (handOver e person))
     unfolding entryChange
     entry-handed = by (entryAt (booksOf ledger parties) e)
       where
-        by : (row : Found EntryRow) → IfDone entries (withPerson person) (changeOf entries (handOverBy row person))
-        by none = refused-none entries (withPerson person) (refusal 11 0 0)
-        by (found row) = at-place entries (withPerson person) (row .number)
+        by : (row : Found EntryRow) → IfDone entries (handedTo person) (changeOf entries (handOverBy row person))
+        by none = refused-none entries (handedTo person) (refusal 11 0 0)
+        by (found row) = at-place entries (handedTo person) (row .number)
 
-    pub hand-over-changed : (room : ℕ) → IfDone entries (withPerson person) (handOverChange ledger parties room e person)
+    pub hand-over-changed : (room : ℕ) → IfDone entries (handedTo person) (handOverChange ledger parties room e person)
     unfolding handOverChange
     hand-over-changed room =
-        judged entries (withPerson person) (sound ledger parties room) (entryChange ledger parties (handOver e person)) entry-handed
+        judged entries (handedTo person) (sound ledger parties room) (entryChange ledger parties (handOver e person)) entry-handed

@@ -33,11 +33,19 @@ abbrev pub changedAt : List Party → (Party → Party) → EntryAt → EntryCha
 changedAt entries change (Place at) = doneChange at (change (getD entries at noParty))
 changedAt entries change NoSuchEntry = refusedChange 11
 
+-- a pay-out comes on top of earlier ones
+abbrev pub paidMore : ℕ → Party → Party
+paidMore amount party = withPaidOut (party .«paid_out» + amount) party
+
+-- "another person number"
+abbrev pub handedTo : ℕ → Party → Party
+handedTo person party = withPerson person party
+
 -- what a decision on these entries changes; neither call decides that a request is accepted
 abbrev pub changeOf : List Party → Decision → EntryChange
 changeOf entries (accepted bill course credits) = refusedChange 0
-changeOf entries (paidOut s e amount) = changedAt entries (λ party. withPaidOut (party .«paid_out» + amount) party) (entryPlace (length entries) e)
-changeOf entries (handedOver e person) = changedAt entries (withPerson person) (entryPlace (length entries) e)
+changeOf entries (paidOut s e amount) = changedAt entries (paidMore amount) (entryPlace (length entries) e)
+changeOf entries (handedOver e person) = changedAt entries (handedTo person) (entryPlace (length entries) e)
 changeOf entries (refused r) = refusedBy r
 
 -- once 13 is judged

@@ -11,7 +11,6 @@ use Rattle.ledger.specs.Lookup.{entryPlace}
 use Rattle.ledger.specs.LookupLaws.{Placed, by-number, placed-entry}
 use Rattle.ledger.specs.Sound.{sound}
 use Rattle.ledger.specs.SoundFacts.{sound-means}
-use Rattle.ledger.specs.Updates.{withPerson, withPaidOut}
 use Rattle.ledger.specs.declared.lookup.EntryAt.the-variants.{Place, NoSuchEntry}
 use Rattle.ledger.specs.declared.records.Party.{Party}
 use Rattle.ledger.specs.declared.records.Ledger.{Ledger}
@@ -20,7 +19,7 @@ use Rattle.calls.specs.Carried.{State}
 use Rattle.calls.specs.Decision.{CallAnswer, payOut, handOver, isDone, isRefused, ofEntryCall}
 use Rattle.calls.specs.declared.answers.Answer.{Answer}
 use Rattle.calls.specs.declared.answers.Answer.the-variants.{Done, Refused}
-use Rattle.entry_calls.specs.EntryCalls.{refusedChange, doneChange, payOutChange, handOverChange, changedTable}
+use Rattle.entry_calls.specs.EntryCalls.{refusedChange, doneChange, paidMore, handedTo, payOutChange, handOverChange, changedTable}
 use Rattle.entry_calls.specs.EntryCallsLaws.{pay-out-within, pay-out-above, pay-out-missing, hand-over-there, hand-over-missing}
 use Rattle.entry_calls.specs.IsCall.{pay-out-is-call, hand-over-is-call}
 use Rattle.entry_calls.specs.declared.EntryChange.{EntryChange}
@@ -84,18 +83,18 @@ module _ (ledger : Ledger) (table : List Party) (e : ℕ) where
 
       pub pay-out-done : (amount : ℕ) → party .«paid_out» + amount ≤ party .credited →
           (answered (stateOf ledger table) (payOut e amount) ≡ isDone)
-          × (leaves (stateOf ledger table) (payOut e amount) ≡ stateOf ledger (set table k (withPaidOut (party .«paid_out» + amount) party)))
+          × (leaves (stateOf ledger table) (payOut e amount) ≡ stateOf ledger (set table k (paidMore amount party)))
       unfolding payOutChange
       pay-out-done amount within =
-          known ledger table (payOutChange ledger table (length table) e amount) (doneChange k (withPaidOut (party .«paid_out» + amount) party))
+          known ledger table (payOutChange ledger table (length table) e amount) (doneChange k (paidMore amount party))
           (rw stands (pay-out-within ledger table e k place amount within)) (pay-out-is-call ledger table table e amount refl)
 
       pub hand-over-done : (person : ℕ) →
           (answered (stateOf ledger table) (handOver e person) ≡ isDone)
-          × (leaves (stateOf ledger table) (handOver e person) ≡ stateOf ledger (set table k (withPerson person party)))
+          × (leaves (stateOf ledger table) (handOver e person) ≡ stateOf ledger (set table k (handedTo person party)))
       unfolding handOverChange
       hand-over-done person =
-          known ledger table (handOverChange ledger table (length table) e person) (doneChange k (withPerson person party))
+          known ledger table (handOverChange ledger table (length table) e person) (doneChange k (handedTo person party))
           (rw stands (hand-over-there ledger table e k place person)) (hand-over-is-call ledger table table e person refl)
 
 -- no other record changes

@@ -12,13 +12,13 @@ use Rattle.ledger.specs.Records.{noParty}
 use Rattle.ledger.specs.Books.{entryAt, entryRow, booksOf}
 use Rattle.ledger.specs.Lookup.{entryPlace}
 use Rattle.ledger.specs.LookupLaws.{entry-placed}
-use Rattle.ledger.specs.Updates.{withPerson, withPaidOut, withEntries}
+use Rattle.ledger.specs.Updates.{withEntries}
 use Rattle.ledger.specs.declared.lookup.EntryAt.the-variants.{Place, NoSuchEntry}
 use Rattle.ledger.specs.declared.records.Party.{Party}
 use Rattle.ledger.specs.declared.records.Ledger.{Ledger}
 use Rattle.calls.specs.ByPlace.{entryFound, entry-by-place}
 use Rattle.calls.specs.Decision.{payOut, handOver, payOutBy, handOverBy}
-use Rattle.entry_calls.specs.EntryCalls.{refusedChange, doneChange, changeOf, entryChange}
+use Rattle.entry_calls.specs.EntryCalls.{refusedChange, doneChange, paidMore, handedTo, changeOf, entryChange}
 
 module _ (ledger : Ledger) (parties : List Party) (e : ℕ) where
   -- an entry is looked for among those that the snapshot holds
@@ -47,7 +47,7 @@ module _ (ledger : Ledger) (parties : List Party) (e : ℕ) where
         found-at ∙ ap (entryFound (take (ledger .entries) parties)) place ∙ ap₂ (λ n record-at. found (entryRow n record-at)) number same
 
     pub pay-out-within : (amount : ℕ) → party .«paid_out» + amount ≤ party .credited →
-        entryChange ledger parties (payOut e amount) ≡ doneChange k (withPaidOut (party .«paid_out» + amount) party)
+        entryChange ledger parties (payOut e amount) ≡ doneChange k (paidMore amount party)
     unfolding entryChange
     pay-out-within amount within =
         ap (λ row. changeOf (take (ledger .entries) parties) (payOutBy row amount)) row-at ∙ rw (le-leb _ _ within, place, same)
@@ -56,7 +56,7 @@ module _ (ledger : Ledger) (parties : List Party) (e : ℕ) where
     unfolding entryChange
     pay-out-above amount above = ap (λ row. changeOf (take (ledger .entries) parties) (payOutBy row amount)) row-at ∙ rw (lt-leb _ _ above)
 
-    pub hand-over-there : (person : ℕ) → entryChange ledger parties (handOver e person) ≡ doneChange k (withPerson person party)
+    pub hand-over-there : (person : ℕ) → entryChange ledger parties (handOver e person) ≡ doneChange k (handedTo person party)
     unfolding entryChange
     hand-over-there person = ap (λ row. changeOf (take (ledger .entries) parties) (handOverBy row person)) row-at ∙ rw (place, same)
 

@@ -17,7 +17,6 @@ use Rattle.ledger.specs.LookupLaws.{entry-placed}
 use Rattle.ledger.specs.SameEntries.{same-sound}
 use Rattle.ledger.specs.Sound.{sound}
 use Rattle.ledger.specs.SoundFacts.{sound-means}
-use Rattle.ledger.specs.Updates.{withPerson, withPaidOut}
 use Rattle.ledger.specs.declared.lookup.EntryAt.{EntryAt}
 use Rattle.ledger.specs.declared.lookup.EntryAt.the-variants.{Place, NoSuchEntry}
 use Rattle.ledger.specs.declared.records.Party.{Party}
@@ -27,7 +26,7 @@ use Rattle.calls.specs.Calls.{stateOf, decidedOn, answered, leaves}
 use Rattle.calls.specs.Carried.{atStart, carriedOut}
 use Rattle.calls.specs.Decision.{Call, payOut, handOver, Decision, paidOut, handedOver, refused, payOutBy, handOverBy, decided, isDone, ofEntryCall, answerTo}
 use Rattle.calls.specs.ListsLaws.{by-cond}
-use Rattle.entry_calls.specs.EntryCalls.{refusedChange, changedAt, changeOf, entryChange, payOutChange, handOverChange, changedTable}
+use Rattle.entry_calls.specs.EntryCalls.{refusedChange, changedAt, paidMore, handedTo, changeOf, entryChange, payOutChange, handOverChange, changedTable}
 use Rattle.entry_calls.specs.EntryCallsLaws.{kept-below, row-at, none-at}
 use Rattle.entry_calls.specs.declared.EntryChange.{EntryChange}
 
@@ -77,7 +76,7 @@ module _ (ledger : Ledger) (table : List Party) where
           subst (λ row. P (payOutBy row amount)) (sym (row-at ledger table e k place))
           (by-cond P (leb (party .«paid_out» + amount) (party .credited)) (paidOut (party .scheme) e amount) (refused (refusal 12 0 0))
           (λ within.
-          changed-matches all e k place (λ entry. withPaidOut (entry .«paid_out» + amount) entry) (paidOut (party .scheme) e amount) refl refl refl)
+          changed-matches all e k place (paidMore amount) (paidOut (party .scheme) e amount) refl refl refl)
           (λ above. refused-matches (refusal 12 0 0)))
       by NoSuchEntry missing = subst (λ row. P (payOutBy row amount)) (sym (none-at ledger table e missing)) (refused-matches (refusal 11 0 0))
 
@@ -92,7 +91,7 @@ module _ (ledger : Ledger) (table : List Party) where
       by : (at : EntryAt) → entryPlace (length entries) e ≡ at → P (handOverBy (entryAt (booksOf ledger table) e) person)
       by (Place k) place =
           subst (λ row. P (handOverBy row person)) (sym (row-at ledger table e k place))
-          (changed-matches all e k place (withPerson person) (handedOver e person) refl refl refl)
+          (changed-matches all e k place (handedTo person) (handedOver e person) refl refl refl)
       by NoSuchEntry missing = subst (λ row. P (handOverBy row person)) (sym (none-at ledger table e missing)) (refused-matches (refusal 11 0 0))
 
   -- 13 comes before

@@ -3,4 +3,4 @@ pub mod EntryCallsLaws
 pub mod Changed
 pub mod IsCall
 pub mod EntryCallsFacts
-pub mod EntryCallsRows
+pub mod BoundaryRows

@@ -13,14 +13,6 @@ records-of-requires c κs = search needs
 accept-requires : tie.Need-accept-requires
 accept-requires c κs = search needs
 
-accepted-table-requires : tie.Need-accepted-table-requires
-accepted-table-requires c κs =
-    let args = c .before .before .before .before .args in
-    let pricing = priceOf (args .book .now) (args .request .now) in
-    let places = schemes-places (args .ledger) _ (c .before .before .before .before .good .0) in
-    let planned = c .accept .ensures ∙ ap (λ n. planOf (args .ledger) (args .parties) n pricing) (c .before .records-of .ensures) in
-    fits-array (args .ledger) (args .parties) (args .room) places (search needs) (args .book .now) (args .request .now) _ planned
-
 returns : tie.Need-returns
 returns c =
     let args = c .before .before .before .before .before .args in
@@ -29,6 +21,14 @@ returns c =
     let planned = c .before .accept .ensures ∙ ap (λ n. planOf (args .ledger) (args .parties) n pricing) (c .before .before .records-of .ensures) in
     accept-promised (args .ledger) (args .parties) (args .room) places (search needs) (args .book .now) (args .request .now) _ planned
     (c .accepted-table .ensures)
+
+accepted-table-requires : tie.Need-accepted-table-requires
+accepted-table-requires c κs =
+    let args = c .before .before .before .before .args in
+    let pricing = priceOf (args .book .now) (args .request .now) in
+    let places = schemes-places (args .ledger) _ (c .before .before .before .before .good .0) in
+    let planned = c .accept .ensures ∙ ap (λ n. planOf (args .ledger) (args .parties) n pricing) (c .before .records-of .ensures) in
+    fits-array (args .ledger) (args .parties) (args .room) places (search needs) (args .book .now) (args .request .now) _ planned
 
 pub accept-spec : {M : Type 1} → statement M
 accept-spec =

@@ -51,11 +51,11 @@ refused-requires-3 c κs = search needs
 returns-3 : tie.Need-returns-3
 returns-3 c = c .refused3 .ensures ∙ sym (pay-out-above (c .before .before .before .before .before .before .before .before .before .before .args .ledger) (c .before .before .before .before .before .before .before .before .before .before .args .t2) (c .before .before .before .before .before .before .before .before .before .before .args .entry) (c .before .before .before .before .before .before .before .at .given .0 .0) (place (c .before .before .before .before .before .before)) _ (omega arith))
 
-add-party : tie.Need-add-party
-add-party c = omega arith
-
 returns-4 : tie.Need-returns-4
 returns-4 c = sym (pay-out-within (c .before .before .before .before .before .before .before .before .before .before .args .ledger) (c .before .before .before .before .before .before .before .before .before .before .args .t2) (c .before .before .before .before .before .before .before .before .before .before .args .entry) (c .before .before .before .before .before .before .before .at .given .0 .0) (place (c .before .before .before .before .before .before)) _ (omega arith))
+
+add-party : tie.Need-add-party
+add-party c = omega arith
 
 pub pay-out-sound-spec : {M : Type 1} → statement M
 pay-out-sound-spec =

@@ -3,7 +3,7 @@ use mathlib.Core.Path.{refl, ap}
 use mathlib.Core.Bool.{cond}
 use native.Mathlib.Omega.{arith}
 use borrow.Author.Needs.{needs}
-use Rattle.acceptance.specs.Snapshot.{snapshotBooks}
+use Rattle.verdict.specs.Snapshot.{snapshotBooks}
 use Rattle.acceptance.specs.Plan.{bookedLedger}
 use Rattle.acceptance.specs.PlanLaws.{joined-count, joined-entries, one-joiner}
 use Rattle.acceptance.proofs.accept.course_plan.Statement.{statement}

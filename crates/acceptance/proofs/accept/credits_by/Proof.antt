@@ -1,3 +1,5 @@
+-- A joining that is paid credits the scheme's entries of G less the fee,
+-- and any other credits nothing.
 use borrow.Author.Needs.{needs}
 use Rattle.acceptance.proofs.accept.credits_by.Statement.{statement}
 use Rattle.acceptance.proofs.accept.credits_by.Tie as tie

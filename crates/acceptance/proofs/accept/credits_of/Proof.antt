@@ -40,6 +40,19 @@ array-copy-out-party c = search needs
 cast-before : tie.Need-cast-before Inv-loop μ-loop
 cast-before c = search needs
 
+loop-again : tie.Need-loop-again Inv-loop μ-loop
+loop-again c =
+    let start = c .before .before .before .before .before in
+    let loop = c .before .before .before .before .loop in
+    let within : loop .i < length (start .args .t1) = search needs in
+    let room : loop .i < 512 = search needs in (
+      search needs,
+      ⊎-elim
+          (λ w. rw (w .2, w .3, w .4) (credited-own (loop .inv .1) noParty within (w .0 .taken) room))
+          (λ w. rw (w .1, w .2, w .3) (credited-other (loop .inv .1) noParty within (w .0 .left) room))
+          (c .if1 .came),
+    )
+
 add-before : tie.Need-add-before Inv-loop μ-loop
 add-before c = omega (arith, grown-at-most c, c .before .before .before .before .before .before .pre .3)
 
@@ -65,19 +78,6 @@ add-i c = search needs
 
 loop-less : tie.Need-loop-less Inv-loop μ-loop
 loop-less c = search needs
-
-loop-again : tie.Need-loop-again Inv-loop μ-loop
-loop-again c =
-    let start = c .before .before .before .before .before in
-    let loop = c .before .before .before .before .loop in
-    let within : loop .i < length (start .args .t1) = search needs in
-    let room : loop .i < 512 = search needs in (
-      search needs,
-      ⊎-elim
-          (λ w. rw (w .2, w .3, w .4) (credited-own (loop .inv .1) noParty within (w .0 .taken) room))
-          (λ w. rw (w .1, w .2, w .3) (credited-other (loop .inv .1) noParty within (w .0 .left) room))
-          (c .if1 .came),
-    )
 
 returns : tie.Need-returns Inv-loop μ-loop
 returns c =
