@@ -17,23 +17,23 @@ def carry_out():
   count = plan .«added_count»
 
   abbrev after : List Party
-  after = sets credited entries (take count (plan .added))
+  after = carriedOut entries table plan
 
   after-length : length after ≡ length table
   after-length = length-sets credited entries (take count (plan .added)) ∙ credited-length
 """
     types = [UNIT, slice_of("mut", "named 0"), U32.type, PLAN.type, UNIT, reference("mut", "erased"), slice_of("mut", "erased"), CREDITS.type]
     types += [reference("mut", "erased"), slice_of("mut", "erased"), ADDED.type, U32.type]
-    credits_fit = "CreditsFit entries table (plan .credits)"
     walk = Walk(
-        "pioneer", "carry_out", [("table", TABLE), ("entries", U32), ("plan", PLAN)], types,
+        "pioneer_accept", "carry_out", [("table", TABLE), ("entries", U32), ("plan", PLAN)], types,
         ["credits_of", "added_of", "added_count_of", "party_table::credit_each", "party_table::put_each"], definitions,
-        requires=f"(entries ≤ 512) × (plan .«added_count» ≤ 2) × (entries + plan .«added_count» ≤ length table) × {credits_fit}",
+        requires="PlanFits entries (length table) table plan",
         imports=[
-            "use lib.Seq.{sets, length-sets}",
+            "use lib.Seq.{length-sets}",
             "use Rattle.ledger.specs.Table.{creditEach}",
             "use Rattle.ledger.specs.TableLaws.{length-credit-each}",
-            "use Rattle.party_table.specs.PartyTable.{CreditsFit}",
+            "use Rattle.acceptance.specs.PlanFits.{CreditsFit, PlanFits}",
+            "use Rattle.pioneer_accept.specs.Calls.{carriedOut}",
         ],
     )
     entries = ("entries", U32, "entries-fits")
@@ -41,8 +41,8 @@ def carry_out():
     walk.point_again("_5", "_6")
     walk.call("credits_of", [planned], ["_3"], CREDITS, "shares", "shares ≡ plan .credits")
     shares = walk.got_value(CREDITS, "shares", "_7", "(plan .credits)")
-    fact = f"(entries ≤ 512) × (entries ≤ length table) × {credits_fit}"
-    proof = "(required .0, omega (arith, required .2), required .3)"
+    fact = "(entries ≤ 512) × (entries ≤ length table) × CreditsFit entries table (plan .credits)"
+    proof = "(omega (arith, required .limit), omega (arith, required .places), required .credits)"
     arguments, read = [walk.lend_again(), entries, shares], ["_6", "_2", "_7"]
     walk.call("party_table::credit_each", arguments, read, NOTHING, "done", "last .0 ≡ credited", requires=(fact, proof))
     walk.got_unit("done", "_4")
@@ -55,7 +55,7 @@ def carry_out():
     walk.call("added_count_of", [planned], ["_3"], U32, "many", "many ≡ count")
     walk.got_number(U32, "many", "_11", "count")
     fact = "(count ≤ 2) × (entries + count ≤ length credited)"
-    proof = "(required .1, subst (λ (k : ℕ). entries + count ≤ k) (sym credited-length) (required .2))"
+    proof = "(required .few, subst (λ (k : ℕ). entries + count ≤ k) (sym credited-length) (required .places))"
     arguments, read = [walk.lend_again(), entries, parties, ("count", U32, "(many-known .1)")], ["_9", "_2", "_10", "_11"]
     walk.call("party_table::put_each", arguments, read, NOTHING, "put", "last .0 ≡ after", requires=(fact, proof))
     walk.got_unit("put", "_4")
@@ -88,7 +88,7 @@ def accept():
   places : length (ledger .schemes) ≡ 64
   places = schemes-length ledger _ ledger-fits
 
-  carries : T (not (notAccepted (plan .answer))) → Carries ledger table plan
+  carries : T (not (notAccepted (plan .answer))) → PlanFits (ledger .entries) (length table) table plan
   carries = plan-carries ledger table places (priceOf book request)
 """
     types = [ACCEPT_RESULT.type, LEDGER.type, slice_of("mut", "named 0"), slice_of("imm", "named 1", U8), slice_of("imm", "named 2", U8)]
@@ -96,19 +96,18 @@ def accept():
     types += [slice_of("mut", "erased")]
     result = "(acceptResult (plan .answer) (plan .ledger))"
     walk = Walk(
-        "pioneer", "accept", [("ledger", LEDGER), ("table", TABLE), ("book", BYTES_SEEN), ("request", BYTES_SEEN)], types,
+        "pioneer_accept", "accept", [("ledger", LEDGER), ("table", TABLE), ("book", BYTES_SEEN), ("request", BYTES_SEEN)], types,
         ["party_table::snapshot", "acceptance::accept::accept", "not_accepted", "accept_result", "carry_out"], definitions,
         result=(ACCEPT_RESULT, result),
         says="plan-promised ledger table places book request",
         imports=[
-            "use lib.Seq.{sets}",
             "use Rattle.charge.specs.Price.{priceOf}",
-            "use Rattle.ledger.specs.Table.{creditEach}",
             "use Rattle.acceptance.specs.Plan.{planOf, planTable}",
-            "use Rattle.party_table.specs.PartyTable.{CreditsFit, snapshotOf}",
-            "use Rattle.pioneer.specs.Calls.{notAccepted, acceptResult}",
-            "use Rattle.pioneer.proofs.Plans.{plan-length, kept-leaves, carried-leaves, Carries, plan-carries, plan-promised}",
-            "use Rattle.pioneer.proofs.Records.{entries-fits, schemes-length}",
+            "use Rattle.acceptance.specs.PlanFits.{PlanFits}",
+            "use Rattle.party_table.specs.PartyTable.{snapshotOf}",
+            "use Rattle.pioneer_accept.specs.Calls.{notAccepted, carriedOut, acceptResult}",
+            "use Rattle.pioneer_accept.proofs.Plans.{plan-length, kept-leaves, carried-leaves, plan-carries, plan-promised}",
+            "use Rattle.pioneer_accept.proofs.Records.{entries-fits, schemes-length}",
         ],
     )
     entries = ("(ledger .entries)", U32, "(entries-fits ledger _ ledger-fits)")
@@ -136,13 +135,9 @@ def accept():
 
     walk.branch("_10", refuses, "t-8")
     walk.point_again("_12", "_13")
-    room = "ledger .entries + plan .«added_count» ≤ length table"
-    credits_fit = "CreditsFit (ledger .entries) table (plan .credits)"
-    fact = f"(ledger .entries ≤ 512) × (plan .«added_count» ≤ 2) × ({room}) × {credits_fit}"
-    proof = "(carries tested .limit, carries tested .few, carries tested .room, carries tested .credits)"
-    credited, added = "(creditEach table (take (ledger .entries) (plan .credits)))", "(take (plan .«added_count») (plan .added))"
-    ensures = f"last .0 ≡ sets {credited} (ledger .entries) {added}"
-    walk.call("carry_out", [walk.lend_again(), entries, decided], ["_13", ("_1", 4), "_6"], NOTHING, "done", ensures, requires=(fact, proof))
+    required = ("PlanFits (ledger .entries) (length table) table plan", "carries tested")
+    ensures = "last .0 ≡ carriedOut (ledger .entries) table plan"
+    walk.call("carry_out", [walk.lend_again(), entries, decided], ["_13", ("_1", 4), "_6"], NOTHING, "done", ensures, requires=required)
     walk.got_unit("done", "_11")
     walk.comes_back()
     walk.as_list("done-is ∙ carried-leaves ledger table plan tested")

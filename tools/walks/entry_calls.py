@@ -52,7 +52,8 @@ def change_entry(name, parameter, decided, new, imported, one, room):
             "use Rattle.party_table.specs.PartyTable.{snapshotOf}",
             "use Rattle.pioneer.specs.Calls.{notDone}",
             f"use Rattle.pioneer.proofs.Changes.{{Changes, changed-length, refused-leaves, done-leaves, {laws}-changes, {laws}-promised}}",
-            "use Rattle.pioneer.proofs.Records.{entries-fits, paid-out-fits}",
+            "use Rattle.pioneer_accept.proofs.Records.{entries-fits}",
+            "use Rattle.pioneer.proofs.Records.{paid-out-fits}",
         ],
     )
     walk.point_again("_7", "_8")

@@ -119,14 +119,17 @@ CREDITS = array(U64, 512, f"(uint-lawful {GIVEN} w64)")
 # what a function without a result returns
 NOTHING = Row("unit", "Unit {0}", "tyUnit", None, None, None, None, None, None, None)
 
-LEDGER = declared("Ledger", "Ledger", "records.Ledger", "ledger", "pioneer.proofs.Records")
+LEDGER = declared("Ledger", "Ledger", "records.Ledger", "ledger", "pioneer_accept.proofs.Records")
 ANSWER = declared("Answer", "Answer", "answers.Answer", "calls", "pioneer.proofs.Records")
 CHANGE = declared("Change", "EntryChange", "EntryChange", "entry_calls", "pioneer.proofs.Records")
-PLAN = declared("Plan", "Plan", "accept.Plan", "acceptance", "pioneer.proofs.Records")
-ACCEPT_RESULT = declared("AcceptResult", "AcceptResult", "AcceptResult", "pioneer", "pioneer.proofs.Records")
+PLAN = declared("Plan", "Plan", "accept.Plan", "acceptance", "pioneer_accept.proofs.Records")
+ACCEPT_RESULT = declared("AcceptResult", "AcceptResult", "AcceptResult", "pioneer_accept", "pioneer_accept.proofs.Records")
 WRITTEN = declared("Written", "Written", "writing.Written", "stored", "pioneer.proofs.Records")
 READ_BACK = declared("ReadBack", "ReadBack", "reading.ReadBack", "stored", "pioneer.proofs.Records")
 READ_RESULT = declared("ReadResult", "ReadResult", "ReadResult", "pioneer", "pioneer.proofs.Records")
+ACCEPTED_TABLE = declared("AcceptedTable", "AcceptedTable", "AcceptedTable", "calls_by_value", "lent_table.proofs.Records")
+CHANGED_TABLE = declared("ChangedTable", "ChangedTable", "ChangedTable", "calls_by_value", "lent_table.proofs.Records")
+READ_TABLE = declared("ReadTable", "ReadTable", "ReadTable", "lent_table", "lent_table.proofs.Records")
 
 # the party table, and bytes
 TABLE, TABLE_SEEN = Slice(True, PARTY), Slice(False, PARTY)

@@ -25,9 +25,8 @@ def write():
         imports=[
             "use Rattle.party_table.specs.PartyTable.{snapshotOf}",
             "use Rattle.stored.specs.Writing.{writtenAnswer, writtenOutput}",
-            "use Rattle.pioneer.specs.Snapshots.{snapshot-written, snapshot-output}",
-            "use Rattle.pioneer.proofs.Records.{entries-fits}",
-            "use Rattle.pioneer.proofs.Writings.{written-length}",
+            "use Rattle.pioneer_accept.proofs.Records.{entries-fits}",
+            "use Rattle.pioneer.proofs.Writings.{written-length, snapshot-written, snapshot-output}",
         ],
     )
     arguments = [walk.handed_on("table"), ("(ledger .entries)", U32, "(entries-fits ledger _ ledger-fits)")]

@@ -66,18 +66,7 @@ module _ {{M : Type 1}} (𝓤 : URA M) (H : Heap 𝓤) (A : Atoms 𝓤) (W : Giv
   abbrev Post : Val → SProp 𝓤
   Post = walkOf 𝓤 H A {module}.ended stayed ({module}.clauses 𝓤 H A mem run) .post (({kappas}, {shares}, tt, arguments, values), tt)
 
-  abbrev Ends : Val → List (Item 𝓤)
-  Ends v = {ends}
-
-  exits : {exits}ent 𝓤 (⋆ 𝓤 H A (Ends {machine})) (Post {machine})
-  {exits_of} =
-      qed W (Ends {machine}) ∵
-      suffices ! _
-      (ends-at 𝓤 H A {module}.ended stayed ({module}.clauses 𝓤 H A mem run) W (({kappas}, {shares}, tt, arguments, values), tt) {machine} {result}
-      {lasts} {lengths}) $
-      says ! {says} $
-      {exit_steps}
-
+{exit}
   module _ (𝓣 : Tables 𝓤 H) (fm : FmC 𝓤 H (W .laws) (𝓣 .C)){known} where
 {loop}    walk : ent 𝓤 (onEntry 𝓤 H A {module}.signature {kappas} {shares} arguments values)
         (WpFn 𝓤 H (𝓣 .C) (𝓣 .Λ) code.function ({flat}) Post)
@@ -108,6 +97,20 @@ unfolding code.routine tablesOf
     entered 𝓤 H (tripleOf 𝓤 H (𝓖 .A) {module}.signature ({module}.spec 𝓤 H (𝓖 .A) (𝓜 .mem) (𝓡 .run)))
     (tables 𝓤 H 𝓜 𝓡 code.env .C) (tables 𝓤 H 𝓜 𝓡 code.env .Λ) #{crate}·{name} code.function (code.unfolded 𝓤 H 𝓜 𝓡)
     (meets 𝓤 H (𝓖 .A) (givenOf 𝓤 H 𝓜 𝓖) (𝓜 .mem) (𝓡 .run) (tablesOf 𝓤 H 𝓜 (tables 𝓤 H 𝓜 𝓡 code.env)){cited})
+"""
+
+EXIT = """\
+  abbrev Ends : Val → List (Item 𝓤)
+  Ends v = {ends}
+
+  exits : {exits}ent 𝓤 (⋆ 𝓤 H A (Ends {machine})) (Post {machine})
+  {exits_of} =
+      qed W (Ends {machine}) ∵
+      suffices ! _
+      (ends-at 𝓤 H A {module}.ended stayed ({module}.clauses 𝓤 H A mem run) W (({kappas}, {shares}, tt, arguments, values), tt) {machine} {result}
+      {lasts} {lengths}) $
+      says ! {says} $
+      {exit_steps}
 """
 
 LOOP = """\

@@ -5,6 +5,7 @@ A script makes a `Walk`, says what each statement of the MIR does, in order, and
 import copy
 import re
 import sys
+import textwrap
 from pathlib import Path
 
 sys.dont_write_bytecode = True
@@ -45,7 +46,8 @@ class Callee:
         steps = path.split("::") if "::" in path else [crate, path]
         self.alias = dashed("-".join(steps) if "::" in path else path)
         self.key = dashed("·".join(steps))
-        self.symbol = f"{steps[0]}·{dashed('·'.join(steps[1:]))}"
+        # antt reads `_` in a name as an argument's place: of another crate's name it goes
+        self.symbol = self.key if "::" in path else f"{steps[0]}·{dashed(path)}"
         self.module = f"Rattle.{steps[0]}.proofs.{'.'.join(steps[1:])}"
 
 
@@ -57,15 +59,16 @@ class Lent:
 
 
 class Walk(Context):
-    def __init__(self, crate, name, parameters, types, callees, definitions, result=None, says="refl", requires=None, imports=()):
+    def __init__(self, crate, name, parameters, types, callees, definitions, result=None, says="refl", requires=None, imports=(), known=""):
         """parameters: each a name and its row or slice; types: the locals' MIR types; callees: the functions that it calls; definitions: antt over
         the parameters, with `after`, the last list of the one mutable slice, and `after-length`, that it is as long as before; result: row and
         value, or nothing for `()`; says: the proof of the `ensures`; requires: the fact of the `requires`, had as `required`; imports: `use` lines
-        of this walk alone"""
+        of this walk alone; known: binders of what result and says name beside the parameters, which `ret` hands to the exit"""
         super().__init__(["entry-tokens", "owned"])
         self.crate, self.name, self.parameters, self.types = crate, name, parameters, types
         self.callees = {path: Callee(crate, path) for path in callees}
         self.definitions, self.result, self.says, self.requires, self.imports = definitions, result, says, requires, list(imports)
+        self.known = known
         self.slices = {parameter: of for parameter, of in parameters if isinstance(of, Slice)}
         self.lifetimes = {parameter: subscript(i) for i, parameter in enumerate(self.slices)}
         # the list that each slice has now, and that it is as long as at entry
@@ -314,6 +317,41 @@ class Walk(Context):
         self.split("both", local, "array-own")
         self.full.add(local)
 
+    # ---- the first records of an array that is the row `array`, lent as a slice for a call
+    def lend_front(self, local, xs, count, pointer, counted, slice, mutable):
+        """pointer = &local; slice = {pointer, counted}: the first `count` of the parties xs, for a lifetime ν′ of the call, under the name δ′;
+        `front_back` or `front_shared_back` ends it. COUNT-room and COUNT-within: that so many parties fit, and that xs has them"""
+        block = place_of(local)
+        self.assign(pointer, "(addr ! (from ! (stop !)))", "tt, tt")
+        parts = f"(and-then ! {self.load(pointer)} (and-then ! {self.load(counted)} (no-more !)))"
+        self.assign(slice, f"(agg ! {parts})", f"tt, (tt, (record {{ fits = {count}-room .0 }}, tt))")
+        self.step([], "lft-new ! tt (λ ν′.", ["front-token"])
+        of = Slice(mutable, PARTY)
+        denotes = f"(record {{ ptr = ({block}, 0); name = δ′; now = take {count} {xs} }})"
+        lent = f"‵ ({of.kind} (named 0) (ν′ ∷ []) PartyRow .own {denotes} (sliceVal ({block}, 0) {count} ∷ []))"
+        kept = f"‵ ({'LentFront' if mutable else 'SharedFront'} PartyRow (ν′ ∷ []) {block} {xs} {count}{' δ′' if mutable else ''})"
+        law = f"{'lends' if mutable else 'shares'}-front {self.front(local, xs, count)} (named 0) {count}-within {count}-room"
+        self.use(["array"], "both", f"later (some (λ (δ′ : GName). {lent} ⊛ {kept}))", law)
+        self.emit("await ! tt $ pick ! (λ δ′.")
+        self.split("both", "front", "front-kept")
+        return Lent(of, denotes, f"sliceVal ({block}, 0) {count}", "front", "ν′ ∷ []", "fullShare", "front-token")
+
+    def front(self, local, xs, count):
+        return f"PartyRow (ν′ ∷ []) {place_of(local)} {xs} {count} {GIVEN}"
+
+    def front_back(self, local, xs, count, last):
+        """after the call the array is at the list `last`, then the records past it"""
+        self.step(["front-token"], "lft-end ! tt $", ["dead"])
+        item = f"later (‵ (row PartyRow fullShare ({last} ++ drop-list {count} {xs}) {place_of(local)} 0))"
+        self.use(["dead", "front-kept", "finally"], "array", item, f"front-back {self.front(local, xs, count)} δ′ {last} last-length")
+        self.emit("await ! tt $")
+
+    def front_shared_back(self, local, xs, count):
+        self.step(["front-token"], "lft-end ! tt $", ["dead"])
+        item = f"later (‵ (row PartyRow fullShare {xs} {place_of(local)} 0))"
+        self.use(["dead", "front-kept"], "array", item, f"shared-back {self.front(local, xs, count)}")
+        self.emit("await ! tt $")
+
     # ---- a call
     def call(self, path, arguments, operands, row, name, ensures, requires=None, more=None):
         """arguments: of each its value, row and what is known, or as `got_value` returned it, or a slice as it was lent; operands: the locals, or a
@@ -342,11 +380,14 @@ class Walk(Context):
         self.use(["returned"], "returned", f"later (some (λ ({name} : {row.denoted}). {own} ⊛ {ensured}))", "id⊢ 𝓤 _")
         self.emit(f"await ! tt $ pick ! (λ {name}.")
         self.split("returned", "result", "ensured")
-        lasts = f"lasts {module}.ended {lifetimes} {values} last"
-        if any(argument.of.mutable for argument in lent):
+        changes = any(argument.of.mutable for argument in lent)
+        # an argument may name the last list of an earlier call
+        last = "none" if not changes and "last" in values else "last"
+        lasts = f"lasts {module}.ended {lifetimes} {values} {last}"
+        if changes:
             self.heard_of_slice([ensures] + [more] * bool(more), lasts, arguments)
         else:
-            law = f"exE 𝓤 _ (λ last. snd∗ 𝓤 (sem 𝓤 H A ({lasts})) (fact 𝓤 ({ensures})))"
+            law = f"exE 𝓤 _ (λ {last}. snd∗ 𝓤 (sem 𝓤 H A ({lasts})) (fact 𝓤 ({ensures})))"
             self.use(["ensured"], "fact", f"raw (fact 𝓤 ({ensures}))", law)
         if more:
             self.split("fact", "fact", "more")
@@ -401,8 +442,9 @@ class Walk(Context):
         self.step([f"{name}-own"], f"peeks ! {row.shown} {x} ({values}) (λ {name}-known.", [f"{name}-own"])
 
     def got_value(self, row, name, local, x, equation=None):
-        """the same, where what it owns is made anew for each call that it is handed to: that argument is returned"""
-        self.is_value(row, name, equation)
+        """the same, where what it owns is made anew for each call that it is handed to: that argument is returned. x may be the result itself"""
+        if x != name:
+            self.is_value(row, name, equation)
         self.step([f"{name}-own"], f"facts ! {row.shown} {x} ({name}-value ∷ []) (λ {name}-known.", [])
         self.land(local, row.typed(x, f"{name}-known"))
         return x, row, f"{name}-known", f"{name}-value"
@@ -615,15 +657,16 @@ class Walk(Context):
         return [re.sub(rf"Rattle\.{self.crate}\.(proofs|specs)\.", rf"Rattle·{self.crate}·\1.\1.", line) for line in lines]
 
     def write(self):
+        common = dict(module=dashed(self.name) + "′", **self.of_parameters())
+        exit = templates.EXIT.format(**common, **self.of_exit())
         text = templates.PROOF.format(
             crate=self.crate,
             name=dashed(self.name),
-            module=dashed(self.name) + "′",
             definitions=self.definitions,
+            exit=f"  module _ {self.known} where\n" + textwrap.indent(exit, "  ") if self.known else exit,
             loop=self.loop_text,
             walk=self.text("        "),
-            **self.of_parameters(),
-            **self.of_exit(),
+            **common,
             **self.of_callees(),
         )
         head = templates.HEAD.format(crate=self.crate, function=self.name)

@@ -24,7 +24,7 @@ use Rattle.entry_calls.specs.IsCall.{pay-out-is-call, hand-over-is-call}
 use Rattle.entry_calls.specs.declared.EntryChange.{EntryChange}
 use Rattle.party_table.specs.PartyTable.{snapshotOf}
 use Rattle.pioneer.specs.Calls.{notDone}
-use Rattle.pioneer.specs.Snapshots.{snapshot-sound, snapshot-entries}
+use Rattle.pioneer_accept.specs.Snapshots.{snapshot-sound, snapshot-entries}
 
 module _ (table : List Party) where
   -- the table that a change leaves, by its answer

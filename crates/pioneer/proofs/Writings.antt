@@ -1,4 +1,4 @@
--- A writing leaves the output as long as it was.
+-- A writing leaves the output as long as it was, and writes of a snapshot what it writes of the table.
 use Prim.Native.Nat.{ℕ}
 use mathlib.Core.Path.{_≡_, _∙_, ap}
 use mathlib.Core.List.{List}
@@ -13,8 +13,11 @@ use Rattle.ledger.specs.declared.records.Party.{Party}
 use Rattle.ledger.specs.declared.records.Ledger.{Ledger}
 use Rattle.stored.specs.LayoutLaws.{length-placed}
 use Rattle.stored.specs.Form.{storedForm}
-use Rattle.stored.specs.Writing.{writtenOutput}
+use Rattle.stored.specs.Writing.{writtenAnswer, writtenOutput}
 use Rattle.stored.specs.WritingLaws.{write-refused-13, write-refused-14, write-done, output-refused, output-done}
+use Rattle.stored.specs.SameForm.{same-writing}
+use Rattle.party_table.specs.PartyTable.{snapshotOf}
+use Rattle.pioneer_accept.specs.Snapshots.{same-entries}
 
 module _ (ledger : Ledger) (parties : List Party) (room : ℕ) (out : List ℕ) where
   abbrev form : List ℕ
@@ -35,3 +38,13 @@ module _ (ledger : Ledger) (parties : List Party) (room : ℕ) (out : List ℕ) 
   written-length =
       ⊎-elim (λ unsound. ap length (output-refused ledger parties room out (write-refused-13 ledger parties room out unsound))) standing-length
       (dichotomy (sound ledger parties room))
+
+module _ (ledger : Ledger) (table : List Party) (out : List ℕ) where
+  abbrev snapshot : List Party
+  snapshot = snapshotOf (ledger .entries) table
+
+  pub snapshot-written : writtenAnswer ledger snapshot (length table) out ≡ writtenAnswer ledger table (length table) out
+  snapshot-written = ap (λ end. end .answer) (same-writing (same-entries ledger table) out)
+
+  pub snapshot-output : writtenOutput ledger snapshot (length table) out ≡ writtenOutput ledger table (length table) out
+  snapshot-output = ap (λ end. end .output) (same-writing (same-entries ledger table) out)

@@ -1,20 +1,13 @@
--- What the calls ask of an answer, and what they return together.
+-- What the calls ask of an answer, and what reading returns together.
 use mathlib.Core.Bool.{Bool, true, false}
 use Rattle.ledger.specs.declared.records.Ledger.{Ledger}
-use Rattle.calls.specs.declared.answers.AcceptAnswer.{AcceptAnswer}
-use Rattle.calls.specs.declared.answers.AcceptAnswer.the-variants.{Accepted, NotAccepted}
 use Rattle.calls.specs.declared.answers.Answer.{Answer}
 use Rattle.calls.specs.declared.answers.Answer.the-variants.{Done, Refused}
 use Rattle.tagged.specs.declared.file.Standing.{Standing}
 use Rattle.tagged.specs.declared.file.Standing.the-variants as standing
-use Rattle.pioneer.specs.declared.AcceptResult.{AcceptResult}
 use Rattle.pioneer.specs.declared.ReadResult.{ReadResult}
 
 -- ---- whether a call changes nothing
-
-abbrev pub notAccepted : AcceptAnswer → Bool
-notAccepted (Accepted acceptance) = false
-notAccepted (NotAccepted r) = true
 
 abbrev pub notDone : Answer → Bool
 notDone Done = false
@@ -25,9 +18,6 @@ readRefused standing.Stands = false
 readRefused (standing.Refused r) = true
 
 -- ---- what is returned
-
-abbrev pub acceptResult : AcceptAnswer → Ledger → AcceptResult
-acceptResult answer ledger = record { answer = answer; ledger = ledger }
 
 abbrev pub readResult : Standing → Ledger → ReadResult
 readResult answer ledger = record { answer = answer; ledger = ledger }

@@ -1,87 +1,21 @@
-// The calls on a pioneer ledger and its lent party table: document 01, 'Ledger calls' and 'Stored form'. Each decides on
-// values, a snapshot of the table among them, and writes to the table once nothing can be refused any more.
-use acceptance::accept::Plan;
-use calls::answers::AcceptAnswer;
+// The public calls on a pioneer ledger and its lent party table: document 01, 'Ledger calls' and 'Stored form'. Each decides on
+// values, a snapshot of the table among them, and writes to the table once nothing can be refused any more. Accept stands in a
+// crate of its own, `pioneer_accept`.
 use calls::answers::Answer;
 use entry_calls::EntryChange;
 use ledger::records::Ledger;
 use ledger::records::Party;
+pub use pioneer_accept::AcceptResult;
+pub use pioneer_accept::accept;
 use stored::reading::ReadBack;
 use stored::writing::Written;
 use tagged::file::Standing;
 ghost use mathlib.Core.Path.{_≡_};
-ghost use Prim.Native.Nat.{_+_, _≤_};
-ghost use lib.ListN.{length, take};
-ghost use lib.Seq.{sets};
-ghost use Rattle.ledger.specs.Table.{creditEach};
-ghost use Rattle.calls.specs.Decision.{accept, payOut, handOver, ofAccept, ofEntryCall};
+ghost use Rattle.calls.specs.Decision.{payOut, handOver, ofEntryCall};
 ghost use Rattle.calls.specs.Calls.{stateOf, Promised};
 ghost use Rattle.stored.specs.Writing.{writeOf};
 ghost use Rattle.stored.specs.Reading.{readOf};
-ghost use Rattle.party_table.specs.PartyTable.{CreditsFit};
-ghost use Rattle.pioneer.specs.Calls.{notAccepted, notDone, readRefused, acceptResult, readResult};
-
-pub struct AcceptResult {
-    pub answer: AcceptAnswer,
-    pub ledger: Ledger,
-}
-
-fn not_accepted(plan: Plan) -> bool
-    ensures { λ r. ⌜ r ≡ notAccepted (plan .answer) ⌝ }
-{
-    let answer = plan.answer;
-    match answer {
-        AcceptAnswer::Accepted(_) => false,
-        AcceptAnswer::NotAccepted(_) => true,
-    }
-}
-
-fn credits_of(plan: Plan) -> [u64; 512]
-    ensures { λ r. ⌜ r ≡ plan .credits ⌝ }
-{
-    plan.credits
-}
-
-fn added_of(plan: Plan) -> [Party; 2]
-    ensures { λ r. ⌜ r ≡ plan .added ⌝ }
-{
-    plan.added
-}
-
-fn added_count_of(plan: Plan) -> u32
-    ensures { λ r. ⌜ r ≡ plan .«added_count» ⌝ }
-{
-    plan.added_count
-}
-
-fn accept_result(plan: Plan) -> AcceptResult
-    ensures { λ r. ⌜ r ≡ acceptResult (plan .answer) (plan .ledger) ⌝ }
-{
-    let answer = plan.answer;
-    let ledger = plan.ledger;
-    AcceptResult { answer, ledger }
-}
-
-// The entries get their credits, and those that are added their records. Where none is credited, the credits are zeros.
-fn carry_out(table: &mut [Party], entries: u32, plan: Plan)
-    requires { ⌜ (entries ≤ 512) × (plan .«added_count» ≤ 2) × (entries + plan .«added_count» ≤ length (now table)) × CreditsFit entries (now table) (plan .credits) ⌝ }
-    ensures { λ _. ⌜ now (table .exit) ≡ sets (creditEach (now (table .entry)) (take entries (plan .credits))) entries (take (plan .«added_count») (plan .added)) ⌝ }
-{
-    party_table::credit_each(table, entries, credits_of(plan));
-    party_table::put_each(table, entries, added_of(plan), added_count_of(plan));
-}
-
-pub fn accept(ledger: Ledger, table: &mut [Party], book: &[u8], request: &[u8]) -> AcceptResult
-    ensures { λ r. ⌜ Promised (stateOf ledger (now (table .entry))) (accept (now (book .entry)) (now (request .entry))) (ofAccept (r .answer)) (stateOf (r .ledger) (now (table .exit))) ⌝ }
-{
-    let parties = party_table::snapshot(table, ledger.entries);
-    let plan = acceptance::accept::accept(ledger, parties, table.len(), book, request);
-    if not_accepted(plan) {
-        return accept_result(plan);
-    }
-    carry_out(table, ledger.entries, plan);
-    accept_result(plan)
-}
+ghost use Rattle.pioneer.specs.Calls.{notDone, readRefused, readResult};
 
 fn not_done(change: EntryChange) -> bool
     ensures { λ r. ⌜ r ≡ notDone (change .answer) ⌝ }

@@ -1,6 +1,6 @@
 // Walks a pioneer ledger through its life by the lines of data/calls.txt: document 01's M7 with plain, small and ended connections
-// in between, pay-outs, a hand-over, every refusal, and the stored form. Each call is written with its answer; `show`, `figures`
-// and `entry` write what ledger and table hold.
+// in between, pay-outs, a hand-over, every refusal, and the stored form, all by the public calls over a lent table. Each call is
+// written with its answer; `show`, `figures` and `entry` write what ledger and table hold.
 mod lines;
 mod text;
 
@@ -29,10 +29,9 @@ struct State {
 }
 
 fn new_state() -> State {
-    let none = ledger::records::no_party();
     State {
         ledger: ledger::records::new_ledger(),
-        parties: [none; 512],
+        parties: ledger::records::no_parties(),
         room: 512,
     }
 }
@@ -54,7 +53,7 @@ fn accept(state: State, names: &[u8]) -> State {
     let mut request = io::buffer();
     let book_size = files::read_file(rest(rest(names)), &mut book);
     let request_size = files::read_file(word(names), &mut request);
-    let after = calls_by_value::accept(
+    let after = lent_table::accept(
         ledger,
         parties,
         room,
@@ -80,9 +79,9 @@ fn change_entry(state: State, hands_over: bool, figures: &[u8]) -> State {
     let entry = number(word(figures));
     let value = number(rest(figures));
     let after = if hands_over {
-        calls_by_value::hand_over(ledger, parties, room, entry, value)
+        lent_table::hand_over(ledger, parties, room, entry, value)
     } else {
-        calls_by_value::pay_out(ledger, parties, room, entry, value as u64)
+        lent_table::pay_out(ledger, parties, room, entry, value as u64)
     };
     let answer = after.answer;
     lines::write_answer(answer);
@@ -96,7 +95,8 @@ fn change_entry(state: State, hands_over: bool, figures: &[u8]) -> State {
 
 // What is read; a new ledger with no entries where the reading is refused.
 fn read_bytes(file: &[u8]) -> State {
-    let read = stored_reading::read(ledger::records::new_ledger(), 512, file);
+    let none = ledger::records::no_parties();
+    let read = lent_table::read(ledger::records::new_ledger(), none, 512, file);
     let answer = read.answer;
     lines::write_standing(answer);
     let ledger = read.ledger;
@@ -144,7 +144,7 @@ fn write_form(state: State, out: &mut [u8]) -> usize
     write(b" bytes: ");
     let ledger = state.ledger;
     let parties = state.parties;
-    let written = stored_writing::write(ledger, parties, 512, out);
+    let written = lent_table::write(ledger, parties, state.room, out);
     let size = written_size(written);
     within(size, out)
 }

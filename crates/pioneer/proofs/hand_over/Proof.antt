@@ -52,20 +52,20 @@ use Rattle.entry_calls.specs.EntryCalls.{handOverChange, changedTable}
 use Rattle.party_table.specs.PartyTable.{snapshotOf}
 use Rattle.pioneer.specs.Calls.{notDone}
 use Rattle.pioneer.proofs.Changes.{Changes, changed-length, refused-leaves, done-leaves, hand-over-changes, hand-over-promised}
-use Rattle.pioneer.proofs.Records.{entries-fits}
+use Rattle.pioneer_accept.proofs.Records.{entries-fits}
 use Rattle.ledger.specs.declared.records.Ledger.{Ledger}
-use Rattle.pioneer.proofs.Records.{LedgerRow, ledger-value, ledger-values, ledger-tells, ledger-makes, ledger-typed}
+use Rattle.pioneer_accept.proofs.Records.{LedgerRow, ledger-value, ledger-values, ledger-tells, ledger-makes, ledger-typed}
 use Rattle.calls.specs.declared.answers.Answer.{Answer}
 use Rattle.pioneer.proofs.Records.{AnswerRow, answer-typed}
 use Rattle.entry_calls.specs.declared.EntryChange.{EntryChange}
 use Rattle.pioneer.proofs.Records.{ChangeRow, change-makes, change-typed}
 use Rattle.party_table.proofs.snapshot as party-table-snapshot′
 use Rattle.party_table.proofs.snapshot.Symbol as party-table-snapshot-def
-use Rattle.party_table.proofs.snapshot.Symbol.{name as #party_table·snapshot}
+use Rattle.party_table.proofs.snapshot.Symbol.{name as #party-table·snapshot}
 use Rattle.party_table.proofs.snapshot.Met as party-table-snapshot-thm
 use Rattle.entry_calls.proofs.hand_over as entry-calls-hand-over′
 use Rattle.entry_calls.proofs.hand_over.Symbol as entry-calls-hand-over-def
-use Rattle.entry_calls.proofs.hand_over.Symbol.{name as #entry_calls·hand-over}
+use Rattle.entry_calls.proofs.hand_over.Symbol.{name as #entry-calls·hand-over}
 use Rattle.entry_calls.proofs.hand_over.Met as entry-calls-hand-over-thm
 use Rattle.pioneer.proofs.not_done as not-done′
 use Rattle.pioneer.proofs.not_done.Symbol as not-done-def
@@ -81,7 +81,7 @@ use Rattle.pioneer.proofs.place_of.Symbol.{name as #pioneer·place-of}
 use Rattle.pioneer.proofs.place_of.Met as place-of-thm
 use Rattle.party_table.proofs.hand_one as party-table-hand-one′
 use Rattle.party_table.proofs.hand_one.Symbol as party-table-hand-one-def
-use Rattle.party_table.proofs.hand_one.Symbol.{name as #party_table·hand-one}
+use Rattle.party_table.proofs.hand_one.Symbol.{name as #party-table·hand-one}
 use Rattle.party_table.proofs.hand_one.Met as party-table-hand-one-thm
 use Rattle.pioneer.proofs.hand_over.Key.{name as #pioneer·hand-over}
 use Rattle.pioneer.proofs.hand_over as hand-over′
@@ -158,13 +158,13 @@ module _ {M : Type 1} (𝓤 : URA M) (H : Heap 𝓤) (A : Atoms 𝓤) (W : Given
       fjoin ! $ move ! (2 ∷ 0 ∷ []) $ fjoin ! $ owned ! LedgerRow (Is LedgerRow) (ledger-makes 𝓤 H A) ledger _ ledger-fits $
       fjoin ! $ nothing ! $ move ! (2 ∷ 0 ∷ []) $ join ! $ frame ! $ frame ! $ done !
 
-  module _ (𝓣 : Tables 𝓤 H) (fm : FmC 𝓤 H (W .laws) (𝓣 .C)) (known-party-table-snapshot : Triple 𝓤 (𝓣 .C #party_table·snapshot)
+  module _ (𝓣 : Tables 𝓤 H) (fm : FmC 𝓤 H (W .laws) (𝓣 .C)) (known-party-table-snapshot : Triple 𝓤 (𝓣 .C #party-table·snapshot)
       (tripleOf 𝓤 H A party-table-snapshot′.signature (party-table-snapshot′.spec 𝓤 H A mem run)))
-      (known-entry-calls-hand-over : Triple 𝓤 (𝓣 .C #entry_calls·hand-over) (tripleOf 𝓤 H A entry-calls-hand-over′.signature
+      (known-entry-calls-hand-over : Triple 𝓤 (𝓣 .C #entry-calls·hand-over) (tripleOf 𝓤 H A entry-calls-hand-over′.signature
       (entry-calls-hand-over′.spec 𝓤 H A mem run))) (known-not-done : Triple 𝓤 (𝓣 .C #pioneer·not-done)
       (tripleOf 𝓤 H A not-done′.signature (not-done′.spec 𝓤 H A mem run))) (known-answer-of : Triple 𝓤 (𝓣 .C #pioneer·answer-of)
       (tripleOf 𝓤 H A answer-of′.signature (answer-of′.spec 𝓤 H A mem run))) (known-place-of : Triple 𝓤 (𝓣 .C #pioneer·place-of)
-      (tripleOf 𝓤 H A place-of′.signature (place-of′.spec 𝓤 H A mem run))) (known-party-table-hand-one : Triple 𝓤 (𝓣 .C #party_table·hand-one)
+      (tripleOf 𝓤 H A place-of′.signature (place-of′.spec 𝓤 H A mem run))) (known-party-table-hand-one : Triple 𝓤 (𝓣 .C #party-table·hand-one)
       (tripleOf 𝓤 H A party-table-hand-one′.signature (party-table-hand-one′.spec 𝓤 H A mem run))) where
     walk : ent 𝓤 (onEntry 𝓤 H A hand-over′.signature (κ₀, tt) (q₀, tt) arguments values)
         (WpFn 𝓤 H (𝓣 .C) (𝓣 .Λ) code.function (ledger-value ledger ∷ table-value ∷ vint w32 entry ∷ vint w32 person ∷ []) Post)
@@ -410,13 +410,13 @@ module _ {M : Type 1} (𝓤 : URA M) (H : Heap 𝓤) (A : Atoms 𝓤) (W : Given
         by ! (exits told-value))))))))))))))))))))))))))))))))))))))))))))))
 
 module _ {M : Type 1} (𝓤 : URA M) (H : Heap 𝓤) (A : Atoms 𝓤) (W : Given 𝓤 H A) (mem : Memory → SProp 𝓤) (run : Routine → Fun 𝓤)
-    (𝓣 : Tables 𝓤 H) (known-party-table-snapshot : Triple 𝓤 (𝓣 .C #party_table·snapshot)
+    (𝓣 : Tables 𝓤 H) (known-party-table-snapshot : Triple 𝓤 (𝓣 .C #party-table·snapshot)
     (tripleOf 𝓤 H A party-table-snapshot′.signature (party-table-snapshot′.spec 𝓤 H A mem run)))
-    (known-entry-calls-hand-over : Triple 𝓤 (𝓣 .C #entry_calls·hand-over) (tripleOf 𝓤 H A entry-calls-hand-over′.signature
+    (known-entry-calls-hand-over : Triple 𝓤 (𝓣 .C #entry-calls·hand-over) (tripleOf 𝓤 H A entry-calls-hand-over′.signature
     (entry-calls-hand-over′.spec 𝓤 H A mem run))) (known-not-done : Triple 𝓤 (𝓣 .C #pioneer·not-done)
     (tripleOf 𝓤 H A not-done′.signature (not-done′.spec 𝓤 H A mem run))) (known-answer-of : Triple 𝓤 (𝓣 .C #pioneer·answer-of)
     (tripleOf 𝓤 H A answer-of′.signature (answer-of′.spec 𝓤 H A mem run))) (known-place-of : Triple 𝓤 (𝓣 .C #pioneer·place-of)
-    (tripleOf 𝓤 H A place-of′.signature (place-of′.spec 𝓤 H A mem run))) (known-party-table-hand-one : Triple 𝓤 (𝓣 .C #party_table·hand-one)
+    (tripleOf 𝓤 H A place-of′.signature (place-of′.spec 𝓤 H A mem run))) (known-party-table-hand-one : Triple 𝓤 (𝓣 .C #party-table·hand-one)
     (tripleOf 𝓤 H A party-table-hand-one′.signature (party-table-hand-one′.spec 𝓤 H A mem run))) where
   walks : Walks 𝓤 H A hand-over′.ended stayed (WpFn 𝓤 H (𝓣 .C) (𝓣 .Λ) code.function) (hand-over′.clauses 𝓤 H A mem run)
   walks =
@@ -450,10 +450,10 @@ hand-over-spec 𝓤 H 𝓜 𝓖 𝓡 =
     (tables 𝓤 H 𝓜 𝓡 code.env .C) (tables 𝓤 H 𝓜 𝓡 code.env .Λ) #pioneer·hand-over code.function (code.unfolded 𝓤 H 𝓜 𝓡)
     (meets 𝓤 H (𝓖 .A) (givenOf 𝓤 H 𝓜 𝓖) (𝓜 .mem) (𝓡 .run) (tablesOf 𝓤 H 𝓜 (tables 𝓤 H 𝓜 𝓡 code.env))
     (cited 𝓤 H (tripleOf 𝓤 H (𝓖 .A) party-table-snapshot′.signature (party-table-snapshot′.spec 𝓤 H (𝓖 .A) (𝓜 .mem) (𝓡 .run))) 𝓜 𝓡 code.env
-    #party_table·snapshot
+    #party-table·snapshot
     party-table-snapshot-def.routine code.calls-party-table·snapshot (party-table-snapshot-thm.met 𝓤 H 𝓜 𝓖 𝓡))
     (cited 𝓤 H (tripleOf 𝓤 H (𝓖 .A) entry-calls-hand-over′.signature (entry-calls-hand-over′.spec 𝓤 H (𝓖 .A) (𝓜 .mem) (𝓡 .run))) 𝓜 𝓡 code.env
-    #entry_calls·hand-over
+    #entry-calls·hand-over
     entry-calls-hand-over-def.routine code.calls-entry-calls·hand-over (entry-calls-hand-over-thm.met 𝓤 H 𝓜 𝓖 𝓡))
     (cited 𝓤 H (tripleOf 𝓤 H (𝓖 .A) not-done′.signature (not-done′.spec 𝓤 H (𝓖 .A) (𝓜 .mem) (𝓡 .run))) 𝓜 𝓡 code.env #pioneer·not-done
     not-done-def.routine code.calls-pioneer·not-done (not-done-thm.met 𝓤 H 𝓜 𝓖 𝓡))
@@ -462,5 +462,5 @@ hand-over-spec 𝓤 H 𝓜 𝓖 𝓡 =
     (cited 𝓤 H (tripleOf 𝓤 H (𝓖 .A) place-of′.signature (place-of′.spec 𝓤 H (𝓖 .A) (𝓜 .mem) (𝓡 .run))) 𝓜 𝓡 code.env #pioneer·place-of
     place-of-def.routine code.calls-pioneer·place-of (place-of-thm.met 𝓤 H 𝓜 𝓖 𝓡))
     (cited 𝓤 H (tripleOf 𝓤 H (𝓖 .A) party-table-hand-one′.signature (party-table-hand-one′.spec 𝓤 H (𝓖 .A) (𝓜 .mem) (𝓡 .run))) 𝓜 𝓡 code.env
-    #party_table·hand-one
+    #party-table·hand-one
     party-table-hand-one-def.routine code.calls-party-table·hand-one (party-table-hand-one-thm.met 𝓤 H 𝓜 𝓖 𝓡)))

@@ -52,20 +52,21 @@ use Rattle.entry_calls.specs.EntryCalls.{payOutChange, changedTable}
 use Rattle.party_table.specs.PartyTable.{snapshotOf}
 use Rattle.pioneer.specs.Calls.{notDone}
 use Rattle.pioneer.proofs.Changes.{Changes, changed-length, refused-leaves, done-leaves, pay-out-changes, pay-out-promised}
-use Rattle.pioneer.proofs.Records.{entries-fits, paid-out-fits}
+use Rattle.pioneer_accept.proofs.Records.{entries-fits}
+use Rattle.pioneer.proofs.Records.{paid-out-fits}
 use Rattle.ledger.specs.declared.records.Ledger.{Ledger}
-use Rattle.pioneer.proofs.Records.{LedgerRow, ledger-value, ledger-values, ledger-tells, ledger-makes, ledger-typed}
+use Rattle.pioneer_accept.proofs.Records.{LedgerRow, ledger-value, ledger-values, ledger-tells, ledger-makes, ledger-typed}
 use Rattle.calls.specs.declared.answers.Answer.{Answer}
 use Rattle.pioneer.proofs.Records.{AnswerRow, answer-typed}
 use Rattle.entry_calls.specs.declared.EntryChange.{EntryChange}
 use Rattle.pioneer.proofs.Records.{ChangeRow, change-makes, change-typed}
 use Rattle.party_table.proofs.snapshot as party-table-snapshot′
 use Rattle.party_table.proofs.snapshot.Symbol as party-table-snapshot-def
-use Rattle.party_table.proofs.snapshot.Symbol.{name as #party_table·snapshot}
+use Rattle.party_table.proofs.snapshot.Symbol.{name as #party-table·snapshot}
 use Rattle.party_table.proofs.snapshot.Met as party-table-snapshot-thm
 use Rattle.entry_calls.proofs.pay_out as entry-calls-pay-out′
 use Rattle.entry_calls.proofs.pay_out.Symbol as entry-calls-pay-out-def
-use Rattle.entry_calls.proofs.pay_out.Symbol.{name as #entry_calls·pay-out}
+use Rattle.entry_calls.proofs.pay_out.Symbol.{name as #entry-calls·pay-out}
 use Rattle.entry_calls.proofs.pay_out.Met as entry-calls-pay-out-thm
 use Rattle.pioneer.proofs.not_done as not-done′
 use Rattle.pioneer.proofs.not_done.Symbol as not-done-def
@@ -81,7 +82,7 @@ use Rattle.pioneer.proofs.place_of.Symbol.{name as #pioneer·place-of}
 use Rattle.pioneer.proofs.place_of.Met as place-of-thm
 use Rattle.party_table.proofs.pay_one as party-table-pay-one′
 use Rattle.party_table.proofs.pay_one.Symbol as party-table-pay-one-def
-use Rattle.party_table.proofs.pay_one.Symbol.{name as #party_table·pay-one}
+use Rattle.party_table.proofs.pay_one.Symbol.{name as #party-table·pay-one}
 use Rattle.party_table.proofs.pay_one.Met as party-table-pay-one-thm
 use Rattle.pioneer.proofs.pay_out.Key.{name as #pioneer·pay-out}
 use Rattle.pioneer.proofs.pay_out as pay-out′
@@ -158,13 +159,13 @@ module _ {M : Type 1} (𝓤 : URA M) (H : Heap 𝓤) (A : Atoms 𝓤) (W : Given
       fjoin ! $ move ! (2 ∷ 0 ∷ []) $ fjoin ! $ owned ! LedgerRow (Is LedgerRow) (ledger-makes 𝓤 H A) ledger _ ledger-fits $
       fjoin ! $ nothing ! $ move ! (2 ∷ 0 ∷ []) $ join ! $ frame ! $ frame ! $ done !
 
-  module _ (𝓣 : Tables 𝓤 H) (fm : FmC 𝓤 H (W .laws) (𝓣 .C)) (known-party-table-snapshot : Triple 𝓤 (𝓣 .C #party_table·snapshot)
+  module _ (𝓣 : Tables 𝓤 H) (fm : FmC 𝓤 H (W .laws) (𝓣 .C)) (known-party-table-snapshot : Triple 𝓤 (𝓣 .C #party-table·snapshot)
       (tripleOf 𝓤 H A party-table-snapshot′.signature (party-table-snapshot′.spec 𝓤 H A mem run)))
-      (known-entry-calls-pay-out : Triple 𝓤 (𝓣 .C #entry_calls·pay-out) (tripleOf 𝓤 H A entry-calls-pay-out′.signature
+      (known-entry-calls-pay-out : Triple 𝓤 (𝓣 .C #entry-calls·pay-out) (tripleOf 𝓤 H A entry-calls-pay-out′.signature
       (entry-calls-pay-out′.spec 𝓤 H A mem run))) (known-not-done : Triple 𝓤 (𝓣 .C #pioneer·not-done)
       (tripleOf 𝓤 H A not-done′.signature (not-done′.spec 𝓤 H A mem run))) (known-answer-of : Triple 𝓤 (𝓣 .C #pioneer·answer-of)
       (tripleOf 𝓤 H A answer-of′.signature (answer-of′.spec 𝓤 H A mem run))) (known-place-of : Triple 𝓤 (𝓣 .C #pioneer·place-of)
-      (tripleOf 𝓤 H A place-of′.signature (place-of′.spec 𝓤 H A mem run))) (known-party-table-pay-one : Triple 𝓤 (𝓣 .C #party_table·pay-one)
+      (tripleOf 𝓤 H A place-of′.signature (place-of′.spec 𝓤 H A mem run))) (known-party-table-pay-one : Triple 𝓤 (𝓣 .C #party-table·pay-one)
       (tripleOf 𝓤 H A party-table-pay-one′.signature (party-table-pay-one′.spec 𝓤 H A mem run))) where
     walk : ent 𝓤 (onEntry 𝓤 H A pay-out′.signature (κ₀, tt) (q₀, tt) arguments values)
         (WpFn 𝓤 H (𝓣 .C) (𝓣 .Λ) code.function (ledger-value ledger ∷ table-value ∷ vint w32 entry ∷ vint w64 amount ∷ []) Post)
@@ -415,13 +416,13 @@ module _ {M : Type 1} (𝓤 : URA M) (H : Heap 𝓤) (A : Atoms 𝓤) (W : Given
         by ! (exits told-value))))))))))))))))))))))))))))))))))))))))))))))
 
 module _ {M : Type 1} (𝓤 : URA M) (H : Heap 𝓤) (A : Atoms 𝓤) (W : Given 𝓤 H A) (mem : Memory → SProp 𝓤) (run : Routine → Fun 𝓤)
-    (𝓣 : Tables 𝓤 H) (known-party-table-snapshot : Triple 𝓤 (𝓣 .C #party_table·snapshot)
+    (𝓣 : Tables 𝓤 H) (known-party-table-snapshot : Triple 𝓤 (𝓣 .C #party-table·snapshot)
     (tripleOf 𝓤 H A party-table-snapshot′.signature (party-table-snapshot′.spec 𝓤 H A mem run)))
-    (known-entry-calls-pay-out : Triple 𝓤 (𝓣 .C #entry_calls·pay-out) (tripleOf 𝓤 H A entry-calls-pay-out′.signature
+    (known-entry-calls-pay-out : Triple 𝓤 (𝓣 .C #entry-calls·pay-out) (tripleOf 𝓤 H A entry-calls-pay-out′.signature
     (entry-calls-pay-out′.spec 𝓤 H A mem run))) (known-not-done : Triple 𝓤 (𝓣 .C #pioneer·not-done)
     (tripleOf 𝓤 H A not-done′.signature (not-done′.spec 𝓤 H A mem run))) (known-answer-of : Triple 𝓤 (𝓣 .C #pioneer·answer-of)
     (tripleOf 𝓤 H A answer-of′.signature (answer-of′.spec 𝓤 H A mem run))) (known-place-of : Triple 𝓤 (𝓣 .C #pioneer·place-of)
-    (tripleOf 𝓤 H A place-of′.signature (place-of′.spec 𝓤 H A mem run))) (known-party-table-pay-one : Triple 𝓤 (𝓣 .C #party_table·pay-one)
+    (tripleOf 𝓤 H A place-of′.signature (place-of′.spec 𝓤 H A mem run))) (known-party-table-pay-one : Triple 𝓤 (𝓣 .C #party-table·pay-one)
     (tripleOf 𝓤 H A party-table-pay-one′.signature (party-table-pay-one′.spec 𝓤 H A mem run))) where
   walks : Walks 𝓤 H A pay-out′.ended stayed (WpFn 𝓤 H (𝓣 .C) (𝓣 .Λ) code.function) (pay-out′.clauses 𝓤 H A mem run)
   walks =
@@ -455,10 +456,10 @@ pay-out-spec 𝓤 H 𝓜 𝓖 𝓡 =
     (tables 𝓤 H 𝓜 𝓡 code.env .C) (tables 𝓤 H 𝓜 𝓡 code.env .Λ) #pioneer·pay-out code.function (code.unfolded 𝓤 H 𝓜 𝓡)
     (meets 𝓤 H (𝓖 .A) (givenOf 𝓤 H 𝓜 𝓖) (𝓜 .mem) (𝓡 .run) (tablesOf 𝓤 H 𝓜 (tables 𝓤 H 𝓜 𝓡 code.env))
     (cited 𝓤 H (tripleOf 𝓤 H (𝓖 .A) party-table-snapshot′.signature (party-table-snapshot′.spec 𝓤 H (𝓖 .A) (𝓜 .mem) (𝓡 .run))) 𝓜 𝓡 code.env
-    #party_table·snapshot
+    #party-table·snapshot
     party-table-snapshot-def.routine code.calls-party-table·snapshot (party-table-snapshot-thm.met 𝓤 H 𝓜 𝓖 𝓡))
     (cited 𝓤 H (tripleOf 𝓤 H (𝓖 .A) entry-calls-pay-out′.signature (entry-calls-pay-out′.spec 𝓤 H (𝓖 .A) (𝓜 .mem) (𝓡 .run))) 𝓜 𝓡 code.env
-    #entry_calls·pay-out
+    #entry-calls·pay-out
     entry-calls-pay-out-def.routine code.calls-entry-calls·pay-out (entry-calls-pay-out-thm.met 𝓤 H 𝓜 𝓖 𝓡))
     (cited 𝓤 H (tripleOf 𝓤 H (𝓖 .A) not-done′.signature (not-done′.spec 𝓤 H (𝓖 .A) (𝓜 .mem) (𝓡 .run))) 𝓜 𝓡 code.env #pioneer·not-done
     not-done-def.routine code.calls-pioneer·not-done (not-done-thm.met 𝓤 H 𝓜 𝓖 𝓡))
@@ -467,5 +468,5 @@ pay-out-spec 𝓤 H 𝓜 𝓖 𝓡 =
     (cited 𝓤 H (tripleOf 𝓤 H (𝓖 .A) place-of′.signature (place-of′.spec 𝓤 H (𝓖 .A) (𝓜 .mem) (𝓡 .run))) 𝓜 𝓡 code.env #pioneer·place-of
     place-of-def.routine code.calls-pioneer·place-of (place-of-thm.met 𝓤 H 𝓜 𝓖 𝓡))
     (cited 𝓤 H (tripleOf 𝓤 H (𝓖 .A) party-table-pay-one′.signature (party-table-pay-one′.spec 𝓤 H (𝓖 .A) (𝓜 .mem) (𝓡 .run))) 𝓜 𝓡 code.env
-    #party_table·pay-one
+    #party-table·pay-one
     party-table-pay-one-def.routine code.calls-party-table·pay-one (party-table-pay-one-thm.met 𝓤 H 𝓜 𝓖 𝓡)))

@@ -49,7 +49,7 @@ use Rattle.pioneer.specs.Calls.{readRefused, readResult}
 use Rattle.stored.specs.ReadFacts.{read-length}
 use Rattle.pioneer.proofs.Readings.{read-same, refused-leaves, Stores, standing-stores}
 use Rattle.ledger.specs.declared.records.Ledger.{Ledger}
-use Rattle.pioneer.proofs.Records.{LedgerRow, ledger-value, ledger-values, ledger-tells, ledger-makes, ledger-typed}
+use Rattle.pioneer_accept.proofs.Records.{LedgerRow, ledger-value, ledger-values, ledger-tells, ledger-makes, ledger-typed}
 use Rattle.pioneer.specs.declared.ReadResult.{ReadResult}
 use Rattle.pioneer.proofs.Records.{ReadResultRow, read-result-typed}
 use Rattle.stored.specs.declared.reading.ReadBack.{ReadBack}
@@ -76,7 +76,7 @@ use Rattle.pioneer.proofs.parties_of.Symbol.{name as #pioneer·parties-
 use Rattle.pioneer.proofs.parties_of.Met as parties-of-thm
 use Rattle.party_table.proofs.store_each as party-table-store-each′
 use Rattle.party_table.proofs.store_each.Symbol as party-table-store-each-def
-use Rattle.party_table.proofs.store_each.Symbol.{name as #party_table·store-each}
+use Rattle.party_table.proofs.store_each.Symbol.{name as #party-table·store-each}
 use Rattle.party_table.proofs.store_each.Met as party-table-store-each-thm
 use Rattle.pioneer.proofs.read.Key.{name as #pioneer·read}
 use Rattle.pioneer.proofs.read as read′
@@ -150,7 +150,7 @@ module _ {M : Type 1} (𝓤 : URA M) (H : Heap 𝓤) (A : Atoms 𝓤) (W : Given
       (known-read-result : Triple 𝓤 (𝓣 .C #pioneer·read-result) (tripleOf 𝓤 H A read-result′.signature (read-result′.spec 𝓤 H A mem run)))
       (known-entries-of : Triple 𝓤 (𝓣 .C #pioneer·entries-of) (tripleOf 𝓤 H A entries-of′.signature (entries-of′.spec 𝓤 H A mem run)))
       (known-parties-of : Triple 𝓤 (𝓣 .C #pioneer·parties-of) (tripleOf 𝓤 H A parties-of′.signature (parties-of′.spec 𝓤 H A mem run)))
-      (known-party-table-store-each : Triple 𝓤 (𝓣 .C #party_table·store-each) (tripleOf 𝓤 H A party-table-store-each′.signature
+      (known-party-table-store-each : Triple 𝓤 (𝓣 .C #party-table·store-each) (tripleOf 𝓤 H A party-table-store-each′.signature
       (party-table-store-each′.spec 𝓤 H A mem run))) where
     walk : ent 𝓤 (onEntry 𝓤 H A read′.signature (κ₀, (κ₁, tt)) (q₀, (q₁, tt)) arguments values)
         (WpFn 𝓤 H (𝓣 .C) (𝓣 .Λ) code.function (ledger-value ledger ∷ table-value ∷ file-value ∷ []) Post)
@@ -380,7 +380,7 @@ module _ {M : Type 1} (𝓤 : URA M) (H : Heap 𝓤) (A : Atoms 𝓤) (W : Given
     (known-read-result : Triple 𝓤 (𝓣 .C #pioneer·read-result) (tripleOf 𝓤 H A read-result′.signature (read-result′.spec 𝓤 H A mem run)))
     (known-entries-of : Triple 𝓤 (𝓣 .C #pioneer·entries-of) (tripleOf 𝓤 H A entries-of′.signature (entries-of′.spec 𝓤 H A mem run)))
     (known-parties-of : Triple 𝓤 (𝓣 .C #pioneer·parties-of) (tripleOf 𝓤 H A parties-of′.signature (parties-of′.spec 𝓤 H A mem run)))
-    (known-party-table-store-each : Triple 𝓤 (𝓣 .C #party_table·store-each) (tripleOf 𝓤 H A party-table-store-each′.signature
+    (known-party-table-store-each : Triple 𝓤 (𝓣 .C #party-table·store-each) (tripleOf 𝓤 H A party-table-store-each′.signature
     (party-table-store-each′.spec 𝓤 H A mem run))) where
   walks : Walks 𝓤 H A read′.ended stayed (WpFn 𝓤 H (𝓣 .C) (𝓣 .Λ) code.function) (read′.clauses 𝓤 H A mem run)
   walks =
@@ -422,5 +422,5 @@ read-spec 𝓤 H 𝓜 𝓖 𝓡 =
     (cited 𝓤 H (tripleOf 𝓤 H (𝓖 .A) parties-of′.signature (parties-of′.spec 𝓤 H (𝓖 .A) (𝓜 .mem) (𝓡 .run))) 𝓜 𝓡 code.env #pioneer·parties-of
     parties-of-def.routine code.calls-pioneer·parties-of (parties-of-thm.met 𝓤 H 𝓜 𝓖 𝓡))
     (cited 𝓤 H (tripleOf 𝓤 H (𝓖 .A) party-table-store-each′.signature (party-table-store-each′.spec 𝓤 H (𝓖 .A) (𝓜 .mem) (𝓡 .run))) 𝓜 𝓡 code.env
-    #party_table·store-each
+    #party-table·store-each
     party-table-store-each-def.routine code.calls-party-table·store-each (party-table-store-each-thm.met 𝓤 H 𝓜 𝓖 𝓡)))

@@ -42,16 +42,15 @@ use Rattle.party_table.proofs.Lending.{LentAgain, lends-again, comes-back}
 use Rattle.party_table.proofs.Rows.{PartyRow, party-lawful, party-makes, ArrayRow, array-typed}
 use Rattle.party_table.specs.PartyTable.{snapshotOf}
 use Rattle.stored.specs.Writing.{writtenAnswer, writtenOutput}
-use Rattle.pioneer.specs.Snapshots.{snapshot-written, snapshot-output}
-use Rattle.pioneer.proofs.Records.{entries-fits}
-use Rattle.pioneer.proofs.Writings.{written-length}
+use Rattle.pioneer_accept.proofs.Records.{entries-fits}
+use Rattle.pioneer.proofs.Writings.{written-length, snapshot-written, snapshot-output}
 use Rattle.ledger.specs.declared.records.Ledger.{Ledger}
-use Rattle.pioneer.proofs.Records.{LedgerRow, ledger-value, ledger-values, ledger-tells, ledger-makes, ledger-typed}
+use Rattle.pioneer_accept.proofs.Records.{LedgerRow, ledger-value, ledger-values, ledger-tells, ledger-makes, ledger-typed}
 use Rattle.stored.specs.declared.writing.Written.{Written}
 use Rattle.pioneer.proofs.Records.{WrittenRow, written-typed}
 use Rattle.party_table.proofs.snapshot as party-table-snapshot′
 use Rattle.party_table.proofs.snapshot.Symbol as party-table-snapshot-def
-use Rattle.party_table.proofs.snapshot.Symbol.{name as #party_table·snapshot}
+use Rattle.party_table.proofs.snapshot.Symbol.{name as #party-table·snapshot}
 use Rattle.party_table.proofs.snapshot.Met as party-table-snapshot-thm
 use Rattle.stored_writing.proofs.write as stored-writing-write′
 use Rattle.stored_writing.proofs.write.Symbol as stored-writing-write-def
@@ -116,7 +115,7 @@ module _ {M : Type 1} (𝓤 : URA M) (H : Heap 𝓤) (A : Atoms 𝓤) (W : Given
       owned ! LedgerRow (Is LedgerRow) (ledger-makes 𝓤 H A) ledger _ ledger-fits $
       fjoin ! $ nothing ! $ move ! (3 ∷ 0 ∷ []) $ join ! $ move ! (2 ∷ 0 ∷ []) $ join ! $ frame ! $ frame ! $ done !
 
-  module _ (𝓣 : Tables 𝓤 H) (fm : FmC 𝓤 H (W .laws) (𝓣 .C)) (known-party-table-snapshot : Triple 𝓤 (𝓣 .C #party_table·snapshot)
+  module _ (𝓣 : Tables 𝓤 H) (fm : FmC 𝓤 H (W .laws) (𝓣 .C)) (known-party-table-snapshot : Triple 𝓤 (𝓣 .C #party-table·snapshot)
       (tripleOf 𝓤 H A party-table-snapshot′.signature (party-table-snapshot′.spec 𝓤 H A mem run)))
       (known-stored-writing-write : Triple 𝓤 (𝓣 .C #stored_writing·write) (tripleOf 𝓤 H A stored-writing-write′.signature
       (stored-writing-write′.spec 𝓤 H A mem run))) where
@@ -234,7 +233,7 @@ module _ {M : Type 1} (𝓤 : URA M) (H : Heap 𝓤) (A : Atoms 𝓤) (W : Given
         by ! (exits told-value))))))))))))))))))))))
 
 module _ {M : Type 1} (𝓤 : URA M) (H : Heap 𝓤) (A : Atoms 𝓤) (W : Given 𝓤 H A) (mem : Memory → SProp 𝓤) (run : Routine → Fun 𝓤)
-    (𝓣 : Tables 𝓤 H) (known-party-table-snapshot : Triple 𝓤 (𝓣 .C #party_table·snapshot)
+    (𝓣 : Tables 𝓤 H) (known-party-table-snapshot : Triple 𝓤 (𝓣 .C #party-table·snapshot)
     (tripleOf 𝓤 H A party-table-snapshot′.signature (party-table-snapshot′.spec 𝓤 H A mem run)))
     (known-stored-writing-write : Triple 𝓤 (𝓣 .C #stored_writing·write) (tripleOf 𝓤 H A stored-writing-write′.signature
     (stored-writing-write′.spec 𝓤 H A mem run))) where
@@ -267,7 +266,7 @@ write-spec 𝓤 H 𝓜 𝓖 𝓡 =
     (tables 𝓤 H 𝓜 𝓡 code.env .C) (tables 𝓤 H 𝓜 𝓡 code.env .Λ) #pioneer·write code.function (code.unfolded 𝓤 H 𝓜 𝓡)
     (meets 𝓤 H (𝓖 .A) (givenOf 𝓤 H 𝓜 𝓖) (𝓜 .mem) (𝓡 .run) (tablesOf 𝓤 H 𝓜 (tables 𝓤 H 𝓜 𝓡 code.env))
     (cited 𝓤 H (tripleOf 𝓤 H (𝓖 .A) party-table-snapshot′.signature (party-table-snapshot′.spec 𝓤 H (𝓖 .A) (𝓜 .mem) (𝓡 .run))) 𝓜 𝓡 code.env
-    #party_table·snapshot
+    #party-table·snapshot
     party-table-snapshot-def.routine code.calls-party-table·snapshot (party-table-snapshot-thm.met 𝓤 H 𝓜 𝓖 𝓡))
     (cited 𝓤 H (tripleOf 𝓤 H (𝓖 .A) stored-writing-write′.signature (stored-writing-write′.spec 𝓤 H (𝓖 .A) (𝓜 .mem) (𝓡 .run))) 𝓜 𝓡 code.env
     #stored_writing·write

@@ -11,8 +11,6 @@ use Rattle.ledger.specs.Sound.{sound}
 use Rattle.ledger.specs.SameEntries.{SameEntries, same-sound, sound-entries}
 use Rattle.ledger.specs.declared.records.Party.{Party}
 use Rattle.ledger.specs.declared.records.Ledger.{Ledger}
-use Rattle.stored.specs.Writing.{writtenAnswer, writtenOutput}
-use Rattle.stored.specs.SameForm.{same-writing}
 use Rattle.party_table.specs.PartyTable.{snapshotOf}
 use Rattle.party_table.specs.PartyTableLaws.{snapshot-take}
 
@@ -20,7 +18,7 @@ module _ (ledger : Ledger) (table : List Party) where
   abbrev snapshot : List Party
   snapshot = snapshotOf (ledger .entries) table
 
-  same-entries : SameEntries ledger snapshot table (length table) (length table)
+  pub same-entries : SameEntries ledger snapshot table (length table) (length table)
   same-entries = record { fit = refl; entries = snapshot-take (ledger .entries) (ledger .entries) table (le-refl (ledger .entries)) }
 
   pub snapshot-sound : sound ledger snapshot (length table) ≡ sound ledger table (length table)
@@ -35,10 +33,3 @@ module _ (ledger : Ledger) (table : List Party) where
         sym (getD-take (ledger .entries) snapshot place noParty within)
         ∙ ap (λ (entries : List Party). getD entries place noParty) snapshot-entries
         ∙ getD-take (ledger .entries) table place noParty within
-
-  module _ (out : List ℕ) where
-    pub snapshot-written : writtenAnswer ledger snapshot (length table) out ≡ writtenAnswer ledger table (length table) out
-    snapshot-written = ap (λ end. end .answer) (same-writing same-entries out)
-
-    pub snapshot-output : writtenOutput ledger snapshot (length table) out ≡ writtenOutput ledger table (length table) out
-    snapshot-output = ap (λ end. end .output) (same-writing same-entries out)

@@ -1,12 +1,11 @@
 -- What accept promises and leaves of the table, by its plan: on a sound ledger the snapshot has the table's entries, so that the plan is the call's; any
 -- other ledger is refused with 13.
-use Prim.Native.Nat.{ℕ, _+_, _<_, _≤_, _^_}
+use Prim.Native.Nat.{ℕ, _+_, _<_, _^_}
 use mathlib.Core.Path.{_≡_, refl, sym, _∙_, ap, subst}
 use mathlib.Core.List.{List}
 use mathlib.Core.Bool.{true, false, not}
-use native.Mathlib.Omega.{arith}
 use lib.ListN.{length, take, getD}
-use lib.Seq.{sets, length-sets}
+use lib.Seq.{length-sets}
 use lib.Dec.{T}
 use Rattle.tagged.specs.File.{refusal}
 use Rattle.charge.specs.Price.{priceOf}
@@ -28,22 +27,18 @@ use Rattle.acceptance.specs.PlanLaws.{plan-refused-13}
 use Rattle.acceptance.specs.PlanFits.{PlanFits, plan-fits}
 use Rattle.acceptance.specs.PlanIsCall.{plan-is-call}
 use Rattle.acceptance.specs.declared.accept.Plan.{Plan}
-use Rattle.party_table.specs.PartyTable.{snapshotOf, CreditsFit}
+use Rattle.party_table.specs.PartyTable.{snapshotOf}
 use Rattle.party_table.specs.PartyTableLaws.{snapshot-length}
-use Rattle.pioneer.specs.Calls.{notAccepted}
-use Rattle.pioneer.specs.Snapshots.{snapshot-sound, snapshot-entries, snapshot-entry}
+use Rattle.pioneer_accept.specs.Calls.{notAccepted, carriedOut}
+use Rattle.pioneer_accept.specs.Snapshots.{snapshot-sound, snapshot-entries, snapshot-entry}
 
 by-acceptance : {P : Type 0} (answer : AcceptAnswer) → T (not (notAccepted answer)) → ((acceptance : Acceptance) → answer ≡ Accepted acceptance → P) → P
 by-acceptance (Accepted acceptance) accepted given = given acceptance refl
 by-acceptance (NotAccepted r) accepted given = absurd accepted
 
 module _ (ledger : Ledger) (table : List Party) where
-  -- the table with a plan's credits, and with the entries that it adds
-  abbrev credited : Plan → List Party
-  credited plan = creditEach table (take (ledger .entries) (plan .credits))
-
   abbrev carried : Plan → List Party
-  carried plan = sets (credited plan) (ledger .entries) (take (plan .«added_count») (plan .added))
+  carried plan = carriedOut (ledger .entries) table plan
 
   -- the table that a plan leaves, by its answer
   data PlanLeaves (plan : Plan) : Type 0 where
@@ -74,7 +69,7 @@ module _ (ledger : Ledger) (table : List Party) where
       by-leaves (kept h e) = ap length e
       by-leaves (changed h e) =
           ap length e
-          ∙ length-sets (credited plan) (ledger .entries) (take (plan .«added_count») (plan .added))
+          ∙ length-sets (creditEach table (take (ledger .entries) (plan .credits))) (ledger .entries) (take (plan .«added_count») (plan .added))
           ∙ length-credit-each table (take (ledger .entries) (plan .credits))
 
   pub kept-leaves : (plan : Plan) → T (notAccepted (plan .answer)) → table ≡ planTable ledger table plan
@@ -91,13 +86,6 @@ module _ (ledger : Ledger) (table : List Party) where
       by-leaves (kept h e) = absurd (subst (λ t. T (not t)) h accepted)
       by-leaves (changed h e) = sym e
 
-  -- what carrying out a plan needs
-  pub record Carries (plan : Plan) : Type 0 where
-    pub limit : ledger .entries ≤ 512
-    pub few : plan .«added_count» ≤ 2
-    pub room : ledger .entries + plan .«added_count» ≤ length table
-    pub credits : CreditsFit (ledger .entries) table (plan .credits)
-
   abbrev planned : Pricing → Plan
   planned pricing = planOf ledger (snapshotOf (ledger .entries) table) (length table) pricing
 
@@ -109,7 +97,11 @@ module _ (ledger : Ledger) (table : List Party) where
       plan-refused-13 ledger (snapshotOf (ledger .entries) table) (length table) pricing (snapshot-sound ledger table ∙ unsound)
 
   module _ (places : length (ledger .schemes) ≡ 64) where
-    pub plan-carries : (pricing : Pricing) → T (not (notAccepted (planned pricing .answer))) → Carries (planned pricing)
+    -- what carrying out a plan needs of the table
+    abbrev Fits : Plan → Type 0
+    Fits plan = PlanFits (ledger .entries) (length table) table plan
+
+    pub plan-carries : (pricing : Pricing) → T (not (notAccepted (planned pricing .answer))) → Fits (planned pricing)
     plan-carries pricing accepted = by-test (sound ledger table (length table)) standing refused
       where
         fits : PlanFits (ledger .entries) (length table) (snapshotOf (ledger .entries) table) (planned pricing)
@@ -117,19 +109,19 @@ module _ (ledger : Ledger) (table : List Party) where
             by-acceptance (planned pricing .answer) accepted
             (plan-fits ledger (snapshotOf (ledger .entries) table) (length table) places (snapshot-length (ledger .entries) table) pricing)
 
-        standing : sound ledger table (length table) ≡ true → Carries (planned pricing)
+        standing : sound ledger table (length table) ≡ true → Fits (planned pricing)
         standing stands =
             record {
-              limit = omega (arith, fits .limit);
               few = fits .few;
-              room = fits .places;
+              limit = fits .limit;
+              places = fits .places;
               credits =
                   λ i within.
                   subst (λ (party : Party). party .credited + getD (planned pricing .credits) i 0 < 2 ^ 64) (snapshot-entry ledger table stands i within)
                   (fits .credits i within);
             }
 
-        refused : Unsound → Carries (planned pricing)
+        refused : Unsound → Fits (planned pricing)
         refused unsound = absurd (subst (λ (plan : Plan). T (not (notAccepted (plan .answer)))) (refused-13 unsound pricing) accepted)
 
     pub plan-promised : (book request : List ℕ) → let plan = planned (priceOf book request) in

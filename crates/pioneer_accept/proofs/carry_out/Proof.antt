@@ -1,4 +1,4 @@
--- `pioneer::carry_out` meets its contract: a walk of its MIR, written by tools/walks.
+-- `pioneer_accept::carry_out` meets its contract: a walk of its MIR, written by tools/walks.
 use mathlib.Core.Path.{_≡_, refl, sym, _∙_, ap, subst}
 use mathlib.Core.List.{List, [], _∷_}
 use Prim.Native.Nat.{ℕ, _<_, _≤_, _+_, _^_}
@@ -42,36 +42,37 @@ use denote.Exit.{yes}
 use Rattle.ledger.specs.declared.records.Party.{Party}
 use Rattle.party_table.proofs.Lending.{LentAgain, lends-again, comes-back}
 use Rattle.party_table.proofs.Rows.{PartyRow, party-lawful, party-makes, ArrayRow, array-typed}
-use lib.Seq.{sets, length-sets}
+use lib.Seq.{length-sets}
 use Rattle.ledger.specs.Table.{creditEach}
 use Rattle.ledger.specs.TableLaws.{length-credit-each}
-use Rattle.party_table.specs.PartyTable.{CreditsFit}
+use Rattle.acceptance.specs.PlanFits.{CreditsFit, PlanFits}
+use Rattle.pioneer_accept.specs.Calls.{carriedOut}
 use Rattle.acceptance.specs.declared.accept.Plan.{Plan}
-use Rattle.pioneer.proofs.Records.{PlanRow, plan-value, plan-values, plan-tells, plan-makes, plan-typed}
-use Rattle.pioneer.proofs.credits_of as credits-of′
-use Rattle.pioneer.proofs.credits_of.Symbol as credits-of-def
-use Rattle.pioneer.proofs.credits_of.Symbol.{name as #pioneer·credits-of}
-use Rattle.pioneer.proofs.credits_of.Met as credits-of-thm
-use Rattle.pioneer.proofs.added_of as added-of′
-use Rattle.pioneer.proofs.added_of.Symbol as added-of-def
-use Rattle.pioneer.proofs.added_of.Symbol.{name as #pioneer·added-of}
-use Rattle.pioneer.proofs.added_of.Met as added-of-thm
-use Rattle.pioneer.proofs.added_count_of as added-count-of′
-use Rattle.pioneer.proofs.added_count_of.Symbol as added-count-of-def
-use Rattle.pioneer.proofs.added_count_of.Symbol.{name as #pioneer·added-count-of}
-use Rattle.pioneer.proofs.added_count_of.Met as added-count-of-thm
+use Rattle.pioneer_accept.proofs.Records.{PlanRow, plan-value, plan-values, plan-tells, plan-makes, plan-typed}
+use Rattle.pioneer_accept.proofs.credits_of as credits-of′
+use Rattle.pioneer_accept.proofs.credits_of.Symbol as credits-of-def
+use Rattle.pioneer_accept.proofs.credits_of.Symbol.{name as #pioneer_accept·credits-of}
+use Rattle.pioneer_accept.proofs.credits_of.Met as credits-of-thm
+use Rattle.pioneer_accept.proofs.added_of as added-of′
+use Rattle.pioneer_accept.proofs.added_of.Symbol as added-of-def
+use Rattle.pioneer_accept.proofs.added_of.Symbol.{name as #pioneer_accept·added-of}
+use Rattle.pioneer_accept.proofs.added_of.Met as added-of-thm
+use Rattle.pioneer_accept.proofs.added_count_of as added-count-of′
+use Rattle.pioneer_accept.proofs.added_count_of.Symbol as added-count-of-def
+use Rattle.pioneer_accept.proofs.added_count_of.Symbol.{name as #pioneer_accept·added-count-of}
+use Rattle.pioneer_accept.proofs.added_count_of.Met as added-count-of-thm
 use Rattle.party_table.proofs.credit_each as party-table-credit-each′
 use Rattle.party_table.proofs.credit_each.Symbol as party-table-credit-each-def
-use Rattle.party_table.proofs.credit_each.Symbol.{name as #party_table·credit-each}
+use Rattle.party_table.proofs.credit_each.Symbol.{name as #party-table·credit-each}
 use Rattle.party_table.proofs.credit_each.Met as party-table-credit-each-thm
 use Rattle.party_table.proofs.put_each as party-table-put-each′
 use Rattle.party_table.proofs.put_each.Symbol as party-table-put-each-def
-use Rattle.party_table.proofs.put_each.Symbol.{name as #party_table·put-each}
+use Rattle.party_table.proofs.put_each.Symbol.{name as #party-table·put-each}
 use Rattle.party_table.proofs.put_each.Met as party-table-put-each-thm
-use Rattle.pioneer.proofs.carry_out.Key.{name as #pioneer·carry-out}
-use Rattle.pioneer.proofs.carry_out as carry-out′
-use Rattle.pioneer.proofs.carry_out.Statement as stated
-use Rattle.pioneer.proofs.carry_out.Code as code
+use Rattle.pioneer_accept.proofs.carry_out.Key.{name as #pioneer_accept·carry-out}
+use Rattle.pioneer_accept.proofs.carry_out as carry-out′
+use Rattle.pioneer_accept.proofs.carry_out.Statement as stated
+use Rattle.pioneer_accept.proofs.carry_out.Code as code
 
 abbrev stayed : Stays (carry-out′.ended .signature .params) (carry-out′.ended .kept)
 stayed = (stay-slice (0 ∷ []) tt (plain (λ _. PartyRow)), (stay-none (λ _. u32) yes, (stay-none (λ _. PlanRow) yes, tt)))
@@ -79,8 +80,7 @@ stayed = (stay-slice (0 ∷ []) tt (plain (λ _. PartyRow)), (stay-none (λ _. u
 module _ {M : Type 1} (𝓤 : URA M) (H : Heap 𝓤) (A : Atoms 𝓤) (W : Given 𝓤 H A) (mem : Memory → SProp 𝓤) (run : Routine → Fun 𝓤)
     (κ₀ : Lft) (q₀ : Share) (table-block table-offset : ℕ) (table-name : GName) (table : List Party) (entries : ℕ) (plan : Plan)
     (table-fits : Room PartyRow (length table)) (entries-fits : entries < 2 ^ 32) (plan-fits : Is PlanRow plan (plan-values plan))
-    (required : (entries ≤ 512) × (plan .«added_count» ≤ 2) × (entries + plan .«added_count» ≤ length table) × CreditsFit entries table
-    (plan .credits)) where
+    (required : PlanFits entries (length table) table plan) where
   abbrev table-at : GName → List Party → RefT (List Party)
   table-at name parties = record { ptr = (table-block, table-offset); name = name; now = parties }
 
@@ -103,7 +103,7 @@ module _ {M : Type 1} (𝓤 : URA M) (H : Heap 𝓤) (A : Atoms 𝓤) (W : Given
   count = plan .«added_count»
 
   abbrev after : List Party
-  after = sets credited entries (take count (plan .added))
+  after = carriedOut entries table plan
 
   after-length : length after ≡ length table
   after-length = length-sets credited entries (take count (plan .added)) ∙ credited-length
@@ -126,12 +126,12 @@ module _ {M : Type 1} (𝓤 : URA M) (H : Heap 𝓤) (A : Atoms 𝓤) (W : Given
       fjoin ! $ move ! (2 ∷ 0 ∷ []) $ fjoin ! $ nothing ! $ move ! (2 ∷ 0 ∷ []) $ join ! $ frame ! $ frame ! $
       feqI ! (List Val) (vunit ∷ []) (vunit ∷ []) refl $ done !
 
-  module _ (𝓣 : Tables 𝓤 H) (fm : FmC 𝓤 H (W .laws) (𝓣 .C)) (known-credits-of : Triple 𝓤 (𝓣 .C #pioneer·credits-of)
-      (tripleOf 𝓤 H A credits-of′.signature (credits-of′.spec 𝓤 H A mem run))) (known-added-of : Triple 𝓤 (𝓣 .C #pioneer·added-of)
-      (tripleOf 𝓤 H A added-of′.signature (added-of′.spec 𝓤 H A mem run))) (known-added-count-of : Triple 𝓤 (𝓣 .C #pioneer·added-count-of)
+  module _ (𝓣 : Tables 𝓤 H) (fm : FmC 𝓤 H (W .laws) (𝓣 .C)) (known-credits-of : Triple 𝓤 (𝓣 .C #pioneer_accept·credits-of)
+      (tripleOf 𝓤 H A credits-of′.signature (credits-of′.spec 𝓤 H A mem run))) (known-added-of : Triple 𝓤 (𝓣 .C #pioneer_accept·added-of)
+      (tripleOf 𝓤 H A added-of′.signature (added-of′.spec 𝓤 H A mem run))) (known-added-count-of : Triple 𝓤 (𝓣 .C #pioneer_accept·added-count-of)
       (tripleOf 𝓤 H A added-count-of′.signature (added-count-of′.spec 𝓤 H A mem run)))
-      (known-party-table-credit-each : Triple 𝓤 (𝓣 .C #party_table·credit-each) (tripleOf 𝓤 H A party-table-credit-each′.signature
-      (party-table-credit-each′.spec 𝓤 H A mem run))) (known-party-table-put-each : Triple 𝓤 (𝓣 .C #party_table·put-each)
+      (known-party-table-credit-each : Triple 𝓤 (𝓣 .C #party-table·credit-each) (tripleOf 𝓤 H A party-table-credit-each′.signature
+      (party-table-credit-each′.spec 𝓤 H A mem run))) (known-party-table-put-each : Triple 𝓤 (𝓣 .C #party-table·put-each)
       (tripleOf 𝓤 H A party-table-put-each′.signature (party-table-put-each′.spec 𝓤 H A mem run))) where
     walk : ent 𝓤 (onEntry 𝓤 H A carry-out′.signature (κ₀, tt) (q₀, tt) arguments values)
         (WpFn 𝓤 H (𝓣 .C) (𝓣 .Λ) code.function (table-value ∷ vint w32 entries ∷ plan-value plan ∷ []) Post)
@@ -180,7 +180,7 @@ module _ {M : Type 1} (𝓤 : URA M) (H : Heap 𝓤) (A : Atoms 𝓤) (W : Given
         fjoin ! $ move ! (1 ∷ 0 ∷ []) $ fjoin ! $ nothing ! $ move ! (3 ∷ 0 ∷ []) $ join ! $ join ! $ nothing ! $
         use1 W (raw (fact 𝓤 ((entries ≤ 512) × (entries ≤ length table) × CreditsFit entries table (plan .credits))))
         (factI 𝓤 ((entries ≤ 512) × (entries ≤ length table) × CreditsFit entries table (plan .credits)) (sem 𝓤 H A ftrue)
-        (required .0, omega (arith, required .2), required .3)) $
+        (omega (arith, required .limit), omega (arith, required .places), required .credits)) $
         move ! (1 ∷ 0 ∷ []) $ join ! $ use1 W (raw ((tripleOf 𝓤 H A party-table-credit-each′.signature (party-table-credit-each′.spec 𝓤 H A mem run))
         .pre (
           (
@@ -275,7 +275,7 @@ module _ {M : Type 1} (𝓤 : URA M) (H : Heap 𝓤) (A : Atoms 𝓤) (W : Given
         fjoin ! $ owned ! u32 (Is u32) (uint-makes 𝓤 H A W w32) entries _ (refl, entries-fits) $
         fjoin ! $ move ! (1 ∷ 0 ∷ []) $ fjoin ! $ nothing ! $ move ! (3 ∷ 0 ∷ []) $ join ! $ join ! $ nothing ! $
         use1 W (raw (fact 𝓤 ((count ≤ 2) × (entries + count ≤ length credited)))) (factI 𝓤 ((count ≤ 2) × (entries + count ≤ length credited))
-        (sem 𝓤 H A ftrue) (required .1, subst (λ (k : ℕ). entries + count ≤ k) (sym credited-length) (required .2))) $
+        (sem 𝓤 H A ftrue) (required .few, subst (λ (k : ℕ). entries + count ≤ k) (sym credited-length) (required .places))) $
         move ! (1 ∷ 0 ∷ []) $ join ! $ use1 W (raw ((tripleOf 𝓤 H A party-table-put-each′.signature (party-table-put-each′.spec 𝓤 H A mem run)) .pre (
           (
             (ν ∷ [], tt),
@@ -328,11 +328,12 @@ module _ {M : Type 1} (𝓤 : URA M) (H : Heap 𝓤) (A : Atoms 𝓤) (W : Given
         by ! exits))))))))))))))))))))))))))))))))))))))))
 
 module _ {M : Type 1} (𝓤 : URA M) (H : Heap 𝓤) (A : Atoms 𝓤) (W : Given 𝓤 H A) (mem : Memory → SProp 𝓤) (run : Routine → Fun 𝓤)
-    (𝓣 : Tables 𝓤 H) (known-credits-of : Triple 𝓤 (𝓣 .C #pioneer·credits-of) (tripleOf 𝓤 H A credits-of′.signature (credits-of′.spec 𝓤 H A mem run)))
-    (known-added-of : Triple 𝓤 (𝓣 .C #pioneer·added-of) (tripleOf 𝓤 H A added-of′.signature (added-of′.spec 𝓤 H A mem run)))
-    (known-added-count-of : Triple 𝓤 (𝓣 .C #pioneer·added-count-of) (tripleOf 𝓤 H A added-count-of′.signature (added-count-of′.spec 𝓤 H A mem run)))
-    (known-party-table-credit-each : Triple 𝓤 (𝓣 .C #party_table·credit-each) (tripleOf 𝓤 H A party-table-credit-each′.signature
-    (party-table-credit-each′.spec 𝓤 H A mem run))) (known-party-table-put-each : Triple 𝓤 (𝓣 .C #party_table·put-each)
+    (𝓣 : Tables 𝓤 H) (known-credits-of : Triple 𝓤 (𝓣 .C #pioneer_accept·credits-of)
+    (tripleOf 𝓤 H A credits-of′.signature (credits-of′.spec 𝓤 H A mem run))) (known-added-of : Triple 𝓤 (𝓣 .C #pioneer_accept·added-of)
+    (tripleOf 𝓤 H A added-of′.signature (added-of′.spec 𝓤 H A mem run))) (known-added-count-of : Triple 𝓤 (𝓣 .C #pioneer_accept·added-count-of)
+    (tripleOf 𝓤 H A added-count-of′.signature (added-count-of′.spec 𝓤 H A mem run)))
+    (known-party-table-credit-each : Triple 𝓤 (𝓣 .C #party-table·credit-each) (tripleOf 𝓤 H A party-table-credit-each′.signature
+    (party-table-credit-each′.spec 𝓤 H A mem run))) (known-party-table-put-each : Triple 𝓤 (𝓣 .C #party-table·put-each)
     (tripleOf 𝓤 H A party-table-put-each′.signature (party-table-put-each′.spec 𝓤 H A mem run))) where
   walks : Walks 𝓤 H A carry-out′.ended stayed (WpFn 𝓤 H (𝓣 .C) (𝓣 .Λ) code.function) (carry-out′.clauses 𝓤 H A mem run)
   walks =
@@ -360,18 +361,18 @@ pub carry-out-spec : {M : Type 1} → stated.statement M
 unfolding code.routine tablesOf
 carry-out-spec 𝓤 H 𝓜 𝓖 𝓡 =
     entered 𝓤 H (tripleOf 𝓤 H (𝓖 .A) carry-out′.signature (carry-out′.spec 𝓤 H (𝓖 .A) (𝓜 .mem) (𝓡 .run)))
-    (tables 𝓤 H 𝓜 𝓡 code.env .C) (tables 𝓤 H 𝓜 𝓡 code.env .Λ) #pioneer·carry-out code.function (code.unfolded 𝓤 H 𝓜 𝓡)
+    (tables 𝓤 H 𝓜 𝓡 code.env .C) (tables 𝓤 H 𝓜 𝓡 code.env .Λ) #pioneer_accept·carry-out code.function (code.unfolded 𝓤 H 𝓜 𝓡)
     (meets 𝓤 H (𝓖 .A) (givenOf 𝓤 H 𝓜 𝓖) (𝓜 .mem) (𝓡 .run) (tablesOf 𝓤 H 𝓜 (tables 𝓤 H 𝓜 𝓡 code.env))
-    (cited 𝓤 H (tripleOf 𝓤 H (𝓖 .A) credits-of′.signature (credits-of′.spec 𝓤 H (𝓖 .A) (𝓜 .mem) (𝓡 .run))) 𝓜 𝓡 code.env #pioneer·credits-of
-    credits-of-def.routine code.calls-pioneer·credits-of (credits-of-thm.met 𝓤 H 𝓜 𝓖 𝓡))
-    (cited 𝓤 H (tripleOf 𝓤 H (𝓖 .A) added-of′.signature (added-of′.spec 𝓤 H (𝓖 .A) (𝓜 .mem) (𝓡 .run))) 𝓜 𝓡 code.env #pioneer·added-of
-    added-of-def.routine code.calls-pioneer·added-of (added-of-thm.met 𝓤 H 𝓜 𝓖 𝓡))
+    (cited 𝓤 H (tripleOf 𝓤 H (𝓖 .A) credits-of′.signature (credits-of′.spec 𝓤 H (𝓖 .A) (𝓜 .mem) (𝓡 .run))) 𝓜 𝓡 code.env #pioneer_accept·credits-of
+    credits-of-def.routine code.calls-pioneer-accept·credits-of (credits-of-thm.met 𝓤 H 𝓜 𝓖 𝓡))
+    (cited 𝓤 H (tripleOf 𝓤 H (𝓖 .A) added-of′.signature (added-of′.spec 𝓤 H (𝓖 .A) (𝓜 .mem) (𝓡 .run))) 𝓜 𝓡 code.env #pioneer_accept·added-of
+    added-of-def.routine code.calls-pioneer-accept·added-of (added-of-thm.met 𝓤 H 𝓜 𝓖 𝓡))
     (cited 𝓤 H (tripleOf 𝓤 H (𝓖 .A) added-count-of′.signature (added-count-of′.spec 𝓤 H (𝓖 .A) (𝓜 .mem) (𝓡 .run))) 𝓜 𝓡 code.env
-    #pioneer·added-count-of
-    added-count-of-def.routine code.calls-pioneer·added-count-of (added-count-of-thm.met 𝓤 H 𝓜 𝓖 𝓡))
+    #pioneer_accept·added-count-of
+    added-count-of-def.routine code.calls-pioneer-accept·added-count-of (added-count-of-thm.met 𝓤 H 𝓜 𝓖 𝓡))
     (cited 𝓤 H (tripleOf 𝓤 H (𝓖 .A) party-table-credit-each′.signature (party-table-credit-each′.spec 𝓤 H (𝓖 .A) (𝓜 .mem) (𝓡 .run))) 𝓜 𝓡 code.env
-    #party_table·credit-each
+    #party-table·credit-each
     party-table-credit-each-def.routine code.calls-party-table·credit-each (party-table-credit-each-thm.met 𝓤 H 𝓜 𝓖 𝓡))
     (cited 𝓤 H (tripleOf 𝓤 H (𝓖 .A) party-table-put-each′.signature (party-table-put-each′.spec 𝓤 H (𝓖 .A) (𝓜 .mem) (𝓡 .run))) 𝓜 𝓡 code.env
-    #party_table·put-each
+    #party-table·put-each
     party-table-put-each-def.routine code.calls-party-table·put-each (party-table-put-each-thm.met 𝓤 H 𝓜 𝓖 𝓡)))
