@@ -1,10 +1,9 @@
 -- How each case of an answer ends: number, file, place and values as literals.
-use Prim.Native.Nat.{ℕ}
 use mathlib.Core.Path.{_≡_, refl}
 use mathlib.Core.List.{List, [], _∷_, map}
 use lib.IntN.{ℤ, pos}
 use Rattle.tagged.specs.File.{refusal}
-use Rattle.tagged.specs.Ending.{Ending}
+use Rattle.tagged.specs.Ending.{Ending, endingOf}
 use Rattle.reconciliation.specs.Figures.{sample, sampleFigures}
 use Rattle.calls.specs.Decision.{CallAnswer, isAccepted, isDone, isRefused}
 use Rattle.calls.specs.CallEnding.{callEnding}
@@ -16,20 +15,17 @@ use Rattle.calls.specs.declared.answers.OpeningAnswer.the-variants.{NotO
 abbrev acceptedWith : JoiningAnswer → OpeningAnswer → CallAnswer
 acceptedWith joining opening = isAccepted (record { reconciliation = sample; joining = joining; opening = opening })
 
-abbrev ending : ℕ → ℕ → ℕ → List ℤ → Ending
-ending number file place values = record { number = number; file = file; place = place; values = values }
-
 -- kind of the joining, entry, G and scheme opened, before the figures
 abbrev endingRows : List (CallAnswer × Ending)
 endingRows =
     -- plain, opened, joined, small and ended
-    (acceptedWith NotAsked NotOpened, ending 0 0 0 (pos 0 ∷ pos 0 ∷ pos 0 ∷ pos 0 ∷ sampleFigures)) ∷
-    (acceptedWith NotAsked (Opened 12), ending 0 0 0 (pos 0 ∷ pos 0 ∷ pos 0 ∷ pos 12 ∷ sampleFigures)) ∷
-    (acceptedWith (Joined (record { entry = 34; contribution = 5600 })) NotOpened, ending 0 0 0 (pos 1 ∷ pos 34 ∷ pos 5600 ∷ pos 0 ∷ sampleFigures)) ∷
-    (acceptedWith Small NotOpened, ending 0 0 0 (pos 2 ∷ pos 0 ∷ pos 0 ∷ pos 0 ∷ sampleFigures)) ∷
-    (acceptedWith Ended NotOpened, ending 0 0 0 (pos 3 ∷ pos 0 ∷ pos 0 ∷ pos 0 ∷ sampleFigures)) ∷
-    (isDone, ending 0 0 0 []) ∷
-    (isRefused (refusal 5 2 3), ending 5 2 3 []) ∷
+    (acceptedWith NotAsked NotOpened, endingOf 0 0 0 (pos 0 ∷ pos 0 ∷ pos 0 ∷ pos 0 ∷ sampleFigures)) ∷
+    (acceptedWith NotAsked (Opened 12), endingOf 0 0 0 (pos 0 ∷ pos 0 ∷ pos 0 ∷ pos 12 ∷ sampleFigures)) ∷
+    (acceptedWith (Joined (record { entry = 34; contribution = 5600 })) NotOpened, endingOf 0 0 0 (pos 1 ∷ pos 34 ∷ pos 5600 ∷ pos 0 ∷ sampleFigures)) ∷
+    (acceptedWith Small NotOpened, endingOf 0 0 0 (pos 2 ∷ pos 0 ∷ pos 0 ∷ pos 0 ∷ sampleFigures)) ∷
+    (acceptedWith Ended NotOpened, endingOf 0 0 0 (pos 3 ∷ pos 0 ∷ pos 0 ∷ pos 0 ∷ sampleFigures)) ∷
+    (isDone, endingOf 0 0 0 []) ∷
+    (isRefused (refusal 5 2 3), endingOf 5 2 3 []) ∷
     []
 
 pub ending-rows-hold : map (λ row. callEnding (row .0)) endingRows ≡ map (λ row. row .1) endingRows

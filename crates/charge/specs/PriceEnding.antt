@@ -1,17 +1,20 @@
 -- How pricing ends, and the readings before it, by document 01's number and values.
 use Prim.Native.Nat.{ℕ, _≤_}
 use mathlib.Core.Path.{_≡_, refl, sym, ap}
-use mathlib.Core.List.{List}
+use mathlib.Core.List.{List, []}
 use mathlib.Core.Bool.{Bool, true, false}
 use Rattle.tagged.specs.Ending.{Ending, endsRefused, endsDone, standingEnding, numberIs0, refused-by-number, refused-not-done, refusal-by-ending, stands, numbered-to, standing-by-number}
+use Rattle.tagged.specs.File.{refusal}
 use Rattle.tagged.specs.declared.file.Refusal.{Refusal}
 use Rattle.rate_book.specs.Book.{bookOf}
 use Rattle.rate_book.specs.BookFacts.{book-refusal-numbers}
 use Rattle.request.specs.Request.{requestOf}
 use Rattle.request.specs.RequestFacts.{request-refusal-numbers}
-use Rattle.reconciliation.specs.Figures.{figuresTold, reconciliation-by-figures}
+use Rattle.reconciliation.specs.Figures.{figuresTold, sample, sampleFigures, reconciliation-by-figures}
 use Rattle.charge.specs.Price.{priceOf}
 use Rattle.charge.specs.PriceRefusals.{pricing-refusal-numbers}
+use Rattle.charge.specs.declared.Terms.{Terms}
+use Rattle.charge.specs.declared.Applicant.{Applicant}
 use Rattle.charge.specs.declared.Pricing.{Pricing}
 use Rattle.charge.specs.declared.Pricing.the-variants.{Priced, NotPriced}
 
@@ -19,6 +22,12 @@ use Rattle.charge.specs.declared.Pricing.the-variants.{Priced, NotPriced
 abbrev pub pricingEnding : Pricing → Ending
 pricingEnding (Priced bill) = endsDone (figuresTold (bill .reconciliation))
 pricingEnding (NotPriced r) = endsRefused r
+
+pub pricing-ending-rows-hold : (terms : Terms) (applicant : Applicant) →
+    (pricingEnding (Priced (record { reconciliation = sample; terms = terms; applicant = applicant }))
+    ≡ record { number = 0; file = 0; place = 0; values = sampleFigures }) ×
+    (pricingEnding (NotPriced (refusal 5 2 3)) ≡ record { number = 5; file = 2; place = 3; values = [] })
+pricing-ending-rows-hold terms applicant = (refl, refl)
 
 abbrev pub isPriced : Pricing → Bool
 isPriced (Priced bill) = true

@@ -1,6 +1,6 @@
 -- What holds of factor lists that pass.
 use Prim.Native.Nat.{ℕ, zero, suc, _+_, _*_, _≤_, zero-le}
-use mathlib.Core.Path.{_≡_, refl}
+use mathlib.Core.Path.{_≡_}
 use mathlib.Core.List.{List, [], _∷_, map}
 use native.Mathlib.Omega.{arith}
 use lib.ListN.{length, getD}
@@ -11,12 +11,9 @@ use Rattle.tagged.specs.Find.{fieldStart, fieldValue}
 use Rattle.tagged.specs.WalkFacts.{by-test}
 use Rattle.field_values.specs.Judged.{judgeNumbers}
 use Rattle.field_values.specs.JudgedLaws.{judged-within-replicate}
-use Rattle.field_values.specs.Factors.{FactorBytes, factorLimits, judgeFactors, factorAt, factorsIn, factorsOf}
+use Rattle.field_values.specs.Factors.{FactorBytes, factorLimits, judgeFactors, factorAt, factorsOf}
 use Rattle.field_values.specs.declared.factors.Factors.{Factors}
 use Rattle.field_values.specs.declared.judged.Judged.the-variants.{Passes}
-
-pub factors-long : (value : List ℕ) → length (factorsIn value .values) ≡ 8
-factors-long value = refl
 
 -- "1 to 8 of 2 bytes, each 0 to 40,000"
 pub record FactorsWithin (list : Factors) : Type 0 where

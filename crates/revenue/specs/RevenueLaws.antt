@@ -1,6 +1,5 @@
 -- Laws of the revenue: no figure falls where another rises, and what each is at most.
 use Prim.Native.Nat.{ℕ, zero, suc, _*_, _≤_}
-use mathlib.Core.Path.{_≡_, refl}
 use native.Mathlib.Nat.{le-refl, add-le-add, mul-le-mul, div-le-of-le-mul}
 use native.Mathlib.Omega.{arith}
 use Rattle.field_values.specs.declared.factors.Factors.{Factors}
@@ -44,9 +43,6 @@ withRevenue r stream =
       «revenue_factors» = stream .«revenue_factors»;
       «tariff_factors» = stream .«tariff_factors»;
     }
-
-pub with-own-revenue : (stream : Stream) → withRevenue (stream .revenue) stream ≡ stream
-with-own-revenue stream = refl
 
 -- in either stream's revenue, or in both
 pub incremental-revenue-monotone : {d d′ t t′ : ℕ} (distribution transmission : Stream) (b n : ℕ) → d ≤ d′ → t ≤ t′ →

@@ -9,7 +9,7 @@ use lib.ListN.{length, take, drop, set, length-append, length-take, length-drop,
 use lib.Seq.{take-all, take-at, take-add, take-append-seam, drop-append-seam, drop-cons, drop-drop, set-append-seam}
 use Rattle.ledger.specs.Columns.{sumOf}
 use Rattle.numbers.specs.BigEndian.{Bytes, number, bytesOf, written}
-use Rattle.numbers.specs.BigEndianLaws.{Bytes-append, Bytes-take, Bytes-drop, length-bytesOf, bytesOf-bytes, bytesOf-number, number-of-bytesOf, numberAt-below, length-written, written-written}
+use Rattle.numbers.specs.BigEndianLaws.{Bytes-append, Bytes-take, Bytes-drop, length-bytesOf, bytesOf-bytes, bytesOf-number, number-of-bytesOf, length-written, written-written}
 use Rattle.stored.specs.Layout.{recordBytes, valuesAt, recordValues, placed}
 
 -- as many values as widths, each within its width
@@ -64,20 +64,10 @@ recordBytes-valuesAt (width ∷ widths) bytes at are fits =
     let first : bytesOf width (number here) ≡ here = rw long at (bytesOf-number here (Bytes-take width (drop at bytes) (Bytes-drop at bytes are))) in
     rw (take-add, drop-drop) (ap₂ _++_ first (recordBytes-valuesAt widths bytes (at + width) are (omega arith)))
 
--- they fit their widths
-pub valuesAt-fit : (widths bytes : List ℕ) (at : ℕ) → Bytes bytes → at + sumOf widths ≤ length bytes → Fit widths (valuesAt widths at bytes)
-unfolding valuesAt
-valuesAt-fit [] bytes at are fits = tt
-valuesAt-fit (width ∷ widths) bytes at are fits =
-    (numberAt-below bytes at width are (omega arith), valuesAt-fit widths bytes (at + width) are (omega arith))
-
--- bytes of a record's length are the bytes of their values, which fit
+-- bytes of a record's length are the bytes of their values
 pub record-of-values : (widths bytes : List ℕ) → Bytes bytes → length bytes ≡ sumOf widths → recordBytes widths (recordValues widths bytes) ≡ bytes
 record-of-values widths bytes are long =
     recordBytes-valuesAt widths bytes 0 are (omega arith) ∙ take-all (sumOf widths) bytes (omega arith)
-
-pub values-fit : (widths bytes : List ℕ) → Bytes bytes → length bytes ≡ sumOf widths → Fit widths (recordValues widths bytes)
-values-fit widths bytes are long = valuesAt-fit widths bytes 0 are (omega arith)
 
 -- to write no bytes changes nothing
 pub written-none : (out : List ℕ) (at : ℕ) → written out at [] ≡ out

@@ -2,19 +2,23 @@
 -- the rate book are file 1, so a flag beside the ending says whose refusal it is.
 use Prim.Native.Nat.{ℕ}
 use mathlib.Core.Path.{_≡_, refl, sym, ap, _∙_}
-use mathlib.Core.List.{List, [], _∷_}
-use mathlib.Core.Bool.{Bool, true, false}
-use lib.IntN.{pos, natAbs}
+use mathlib.Core.List.{List, [], _∷_, map}
+use mathlib.Core.Bool.{Bool, true, false, cond}
+use lib.IntN.{ℤ, pos, natAbs}
 use lib.ListN.{getD, drop, length}
-use Rattle.tagged.specs.Ending.{Ending, endsRefused, endsDone, numberIs0, refused-by-number}
+use Rattle.tagged.specs.Ending.{Ending, endingOf, refusalIn, endsRefused, endsDone, numberIs0, refused-by-number}
+use Rattle.tagged.specs.File.{refusal}
 use Rattle.tagged.specs.declared.file.Standing.{Standing}
 use Rattle.tagged.specs.declared.file.Standing.the-variants as Standing
+use Rattle.reconciliation.specs.Figures.{sample, sampleFigures}
 use Rattle.ledger.specs.Records.{noParties, newLedger}
 use Rattle.ledger.specs.RefusalNumbers.{one-of-positive}
 use Rattle.calls.specs.Decision.{Call, CallAnswer, isAccepted, isDone, isRefused}
 use Rattle.calls.specs.Calls.{stateOf, answered, leaves}
 use Rattle.calls.specs.CallEnding.{acceptanceValues, callEnding}
 use Rattle.calls.specs.CallEndingLaws.{Numbered, answered-numbered, answer-by-ending}
+use Rattle.calls.specs.declared.answers.JoiningAnswer.the-variants.{Joined}
+use Rattle.calls.specs.declared.answers.OpeningAnswer.the-variants.{NotOpened}
 use Rattle.stored.specs.ReadingLaws.{readingNumbers, ReadRefuses}
 use Rattle.stored.specs.StoredEnding.{read-numbered, write-numbered, WriteNumbered}
 use Rattle.stored.specs.Writing.{WriteEnd, writeOf}
@@ -23,7 +27,10 @@ use Rattle.stored.specs.declared.writing.Written.the-variants as Written
 use Rattle.stored_calls.specs.StoredCalls.{StoredCallAnswer, notRead, notMade, madeAccepted, madeDone, ofStoredAccept, ofStoredAnswer, storedRead, writtenAnswer, endBy, onceRead, storedCallOf, newStoredOf, checkStoredOf}
 use Rattle.stored_calls.specs.StoredCallsFacts.{isMade, stored-read-refuses, StoredCheckRefuses, check-refusal-numbers}
 use Rattle.stored_calls.specs.declared.StoredAccept.{StoredAccept}
+use Rattle.stored_calls.specs.declared.StoredAccept.the-variants as StoredAccept
 use Rattle.stored_calls.specs.declared.StoredAnswer.{StoredAnswer}
+use Rattle.stored_calls.specs.declared.StoredAnswer.the-variants as StoredAnswer
+use Rattle.stored_calls.specs.declared.StoredCounts.{StoredCounts}
 use Rattle.stored_calls.specs.declared.StoredCheck.{StoredCheck}
 use Rattle.stored_calls.specs.declared.StoredCheck.the-variants as StoredCheck
 
@@ -58,6 +65,45 @@ storedCheckEnding (StoredCheck.Sound counts) =
     pos (counts .schemes) ∷
     pos (counts .entries) ∷
     [])
+
+-- ---- each case's ending as literals, and whether the stored ledger itself is refused
+
+abbrev joined : StoredAccept
+joined =
+    StoredAccept.Accepted
+    (record {
+      acceptance = record { reconciliation = sample; joining = Joined (record { entry = 34; contribution = 5600 }); opening = NotOpened };
+      length = 130;
+    })
+
+abbrev acceptRows : List (StoredAccept × (Bool × Ending))
+acceptRows =
+    (StoredAccept.NotRead (refusal 2 1 35), (true, endingOf 2 1 35 [])) ∷
+    (StoredAccept.NotAccepted (refusal 5 2 3), (false, endingOf 5 2 3 [])) ∷
+    (joined, (false, endingOf 0 0 0 (pos 130 ∷ pos 1 ∷ pos 34 ∷ pos 5600 ∷ pos 0 ∷ sampleFigures))) ∷
+    []
+
+abbrev answerRows : List (StoredAnswer × (Bool × Ending))
+answerRows =
+    (StoredAnswer.NotRead (refusal 2 1 35), (true, endingOf 2 1 35 [])) ∷
+    (StoredAnswer.Refused (refusal 12 0 0), (false, endingOf 12 0 0 [])) ∷
+    (StoredAnswer.Done 97, (false, endingOf 0 0 0 (pos 97 ∷ []))) ∷
+    []
+
+abbrev counted : StoredCounts
+counted = record { month = 12; connections = 2; charged = 300; borne = 7; schemes = 1; entries = 4 }
+
+abbrev checkRows : List (StoredCheck × Ending)
+checkRows =
+    (StoredCheck.NotRead (refusal 2 1 35), endingOf 2 1 35 []) ∷
+    (StoredCheck.Sound counted, endingOf 0 0 0 (pos 12 ∷ pos 2 ∷ pos 300 ∷ pos 7 ∷ pos 1 ∷ pos 4 ∷ [])) ∷
+    []
+
+pub stored-ending-rows-hold :
+    (map (λ row. (ofStoredLedger (ofStoredAccept (row .0)), storedAcceptEnding (row .0))) acceptRows ≡ map (λ row. row .1) acceptRows) ×
+    (map (λ row. (ofStoredLedger (ofStoredAnswer (row .0)), storedAnswerEnding (row .0))) answerRows ≡ map (λ row. row .1) answerRows) ×
+    (map (λ row. storedCheckEnding (row .0)) checkRows ≡ map (λ row. row .1) checkRows)
+stored-ending-rows-hold = (refl, refl, refl)
 
 -- ---- what the call itself answered: its refusals and schemes are numbered from 1
 
@@ -154,3 +200,23 @@ stored-by-ending answer other numbered others flags e =
     let call : callTold answer ≡ callTold other =
     answer-by-ending (callTold answer) (callTold other) numbered others (sym (call-ending answer) ∙ ap withoutLength e ∙ call-ending other) in
     sym (answer-from answer) ∙ (λ i. answerFrom (flags i) (call i) (lengthIn (e i))) ∙ answer-from other
+
+-- ---- the ending tells the check of a stored ledger
+
+abbrev storedCheckFrom : Ending → StoredCheck
+storedCheckFrom ending =
+    let value : ℕ → ℕ = λ place. natAbs (getD (ending .values) place (pos 0)) in
+    cond (numberIs0 ending)
+    (StoredCheck.Sound
+    (record { month = value 0; connections = value 1; charged = value 2; borne = value 3; schemes = value 4; entries = value 5 }))
+    (StoredCheck.NotRead (refusalIn ending))
+
+check-from : (check : StoredCheck) → numberIs0 (storedCheckEnding check) ≡ isSound check → storedCheckFrom (storedCheckEnding check) ≡ check
+check-from (StoredCheck.NotRead r) numbered = rw numbered
+check-from (StoredCheck.Sound counts) numbered = refl
+
+pub check-by-ending : (file otherFile : List ℕ) (room otherRoom : ℕ) →
+    storedCheckEnding (checkStoredOf file room) ≡ storedCheckEnding (checkStoredOf otherFile otherRoom) →
+    checkStoredOf file room ≡ checkStoredOf otherFile otherRoom
+check-by-ending file otherFile room otherRoom e =
+    sym (check-from _ (check-by-number file room)) ∙ ap storedCheckFrom e ∙ check-from _ (check-by-number otherFile otherRoom)

@@ -1,8 +1,10 @@
 -- The calls on a ledger that is kept as its stored bytes: reading, the call and writing in turn. Document 01, 'How calls end': a refusal leaves the
 -- output as it was; 14 where it is shorter than the new form.
 use Prim.Native.Nat.{ℕ}
-use mathlib.Core.List.{List}
+use mathlib.Core.Path.{_≡_, refl}
+use mathlib.Core.List.{List, [], _∷_, map}
 use lib.ListN.{take}
+use Rattle.tagged.specs.File.{refusal}
 use Rattle.tagged.specs.declared.file.Refusal.{Refusal}
 use Rattle.tagged.specs.declared.file.Standing.{Standing}
 use Rattle.tagged.specs.declared.file.Standing.the-variants as Standing
@@ -76,6 +78,25 @@ abbrev pub endBy : CallAnswer → WriteEnd → List ℕ → CallEnd
 endBy (isAccepted acceptance) written out = writtenEnd (madeAccepted acceptance) written
 endBy isDone written out = writtenEnd madeDone written
 endBy (isRefused r) written out = record { answer = notMade r; output = out }
+
+-- how writing ends on an output of one byte 7
+abbrev formWritten : WriteEnd
+formWritten = record { answer = Written.Length 1; output = 8 ∷ [] }
+
+abbrev outputTooShort : WriteEnd
+outputTooShort = record { answer = Written.Refused (refusal 14 0 0); output = 7 ∷ [] }
+
+-- the call's answer, writing's end, and the call's end: its own refusal before 14, and nothing written then
+abbrev endRows : List (CallAnswer × WriteEnd × CallEnd)
+endRows =
+    (isDone, formWritten, record { answer = madeDone 1; output = 8 ∷ [] }) ∷
+    (isDone, outputTooShort, record { answer = notMade (refusal 14 0 0); output = 7 ∷ [] }) ∷
+    (isRefused (refusal 12 0 0), outputTooShort, record { answer = notMade (refusal 12 0 0); output = 7 ∷ [] }) ∷
+    (isRefused (refusal 12 0 0), formWritten, record { answer = notMade (refusal 12 0 0); output = 7 ∷ [] }) ∷
+    []
+
+pub end-rows-hold : map (λ row. endBy (row .0) (row .1) (7 ∷ [])) endRows ≡ map (λ row. row .2) endRows
+end-rows-hold = refl
 
 abbrev pub callEnd : State → Call → List ℕ → CallEnd
 callEnd state call out = endBy (answered state call) (writeOf (leaves state call .ledger) (leaves state call .table) out) out

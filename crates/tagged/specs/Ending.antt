@@ -21,12 +21,19 @@ pub record Ending : Type 0 where
   -- what the case carries
   pub values : List ℤ
 
+abbrev pub endingOf : ℕ → ℕ → ℕ → List ℤ → Ending
+endingOf number file place values = record { number = number; file = file; place = place; values = values }
+
+-- the refusal that it tells, where its number isn't 0
+abbrev pub refusalIn : Ending → Refusal
+refusalIn ending = refusal (ending .number) (ending .file) (ending .place)
+
 -- "A refusal returns number, file .. and place", and no values
 abbrev pub endsRefused : Refusal → Ending
-endsRefused r = record { number = r .number; file = r .file; place = r .place; values = [] }
+endsRefused r = endingOf (r .number) (r .file) (r .place) []
 
 abbrev pub endsDone : List ℤ → Ending
-endsDone values = record { number = 0; file = 0; place = 0; values = values }
+endsDone values = endingOf 0 0 0 values
 
 -- of a file that is read: what was read stands beside this answer
 abbrev pub standingEnding : Standing → Ending
@@ -45,7 +52,7 @@ pub refused-not-done : (r : Refusal) (values : List ℤ) → 1 ≤ r .number →
 refused-not-done r values numbered e = let none : r .number ≡ 0 = ap (λ (ending : Ending). ending .number) e in omega arith
 
 pub refusal-by-ending : (r s : Refusal) → endsRefused r ≡ endsRefused s → r ≡ s
-refusal-by-ending r s e = ap (λ (ending : Ending). refusal (ending .number) (ending .file) (ending .place)) e
+refusal-by-ending r s e = ap refusalIn e
 
 -- ---- of a file that is read
 
