@@ -1,25 +1,16 @@
 // Walks a pioneer ledger through its life by the lines of data/calls.txt: document 01's M7 with plain, small and ended connections
 // in between, pay-outs, a hand-over, every refusal, and the stored form, all by the public calls over a lent table. Each call is
 // written with its answer; `show`, `figures` and `entry` write what ledger and table hold.
-mod lines;
-mod text;
-
 use ledger::records::Ledger;
 use ledger::records::Party;
-use lines::write;
-use lines::write_number;
-use stored::writing::Written;
-use text::number;
-ghost use Prim.Native.Nat.{_≤_};
+use ledger_text::lines;
+use ledger_text::lines::write;
+use ledger_text::lines::write_number;
+use ledger_text::words;
+use ledger_text::words::number;
+use ledger_text::words::rest;
+use ledger_text::words::word;
 ghost use Rattle.io.specs.Counts.{Counts};
-
-fn word<'a>(line: &'a [u8]) -> &'a [u8] {
-    text::head(line, b' ')
-}
-
-fn rest<'a>(line: &'a [u8]) -> &'a [u8] {
-    text::tail(line, b' ')
-}
 
 // The table is the first `room` records of the parties.
 struct State {
@@ -34,12 +25,6 @@ fn new_state() -> State {
         parties: ledger::records::no_parties(),
         room: 512,
     }
-}
-
-fn least(a: usize, b: usize) -> usize
-    ensures { λ r. ⌜ (r ≤ a) × (r ≤ b) ⌝ }
-{
-    if a < b { a } else { b }
 }
 
 // ---- the calls
@@ -114,22 +99,6 @@ fn read(name: &[u8]) -> State {
     read_bytes(&space[..size])
 }
 
-// How many bytes of the output the form takes; none where the writing is refused.
-fn written_size(written: Written) -> usize {
-    match written {
-        Written::Length(size) => {
-            write(b"LENGTH ");
-            write_number(size as u64);
-            write(b"\n");
-            size
-        }
-        Written::Refused(refusal) => {
-            lines::write_refusal(refusal);
-            0
-        }
-    }
-}
-
 fn within(n: usize, out: &[u8]) -> usize
     ensures { λ r. ⌜ Counts r (now (out .entry)) ⌝ }
 {
@@ -145,7 +114,7 @@ fn write_form(state: State, out: &mut [u8]) -> usize
     let ledger = state.ledger;
     let parties = state.parties;
     let written = lent_table::write(ledger, parties, state.room, out);
-    let size = written_size(written);
+    let size = lines::write_written(written);
     within(size, out)
 }
 
@@ -171,7 +140,9 @@ fn write_again(form: &[u8]) {
     let mut space = io::large_buffer();
     let size = write_form(state, &mut space);
     say_whether(check::same(form, &space[..size]));
-    show(state);
+    let ledger = state.ledger;
+    let parties = state.parties;
+    lines::write_ledger(ledger, parties);
 }
 
 fn write_and_read_back(state: State) {
@@ -184,7 +155,7 @@ fn write_and_read_back(state: State) {
 fn answered(state: State, line: &[u8]) -> State {
     write(line);
     write(b": ");
-    match text::letter(line) {
+    match words::letter(line) {
         b'a' => accept(state, rest(line)),
         b'p' => change_entry(state, false, rest(line)),
         b'h' => change_entry(state, true, rest(line)),
@@ -194,43 +165,18 @@ fn answered(state: State, line: &[u8]) -> State {
 
 // ---- what ledger and table hold
 
-// The ledger's figures, its schemes and its entries.
-fn show(state: State) {
-    let ledger = state.ledger;
-    let schemes = ledger.schemes;
-    let parties = state.parties;
-    lines::write_figures(ledger);
-    lines::write_schemes(schemes, least(ledger.count as usize, 64));
-    lines::write_entries(parties, least(ledger.entries as usize, 512));
-}
-
-fn show_figures(state: State) {
-    let ledger = state.ledger;
-    lines::write_figures(ledger);
-}
-
-// The entry with this number.
-fn show_entry(state: State, entry: usize) {
-    let parties = state.parties;
-    if entry < 1 {
-        return;
-    }
-    if 512 < entry {
-        return;
-    }
-    lines::write_entry(entry, parties[entry - 1]);
-}
-
 // A line that changes nothing, by its first letter: a heading, show, figures, entry, write, or the stored form there and back.
 fn told(state: State, line: &[u8]) {
-    match text::letter(line) {
+    let ledger = state.ledger;
+    let parties = state.parties;
+    match words::letter(line) {
         b'-' => {
             write(line);
             write(b"\n");
         }
-        b's' => show(state),
-        b'f' => show_figures(state),
-        b'e' => show_entry(state, number(rest(line)) as usize),
+        b's' => lines::write_ledger(ledger, parties),
+        b'f' => lines::write_figures(ledger),
+        b'e' => lines::write_entry(parties, number(rest(line)) as usize),
         b'w' => write_to(state, rest(line)),
         _ => write_and_read_back(state),
     }
@@ -248,7 +194,7 @@ fn altered(state: State, letter: u8, n: u32) -> State {
             room = n as usize;
         }
         b'm' => {
-            ledger.month = least(n as usize, 65535) as u16;
+            ledger.month = (n % 65536) as u16;
         }
         _ => {
             ledger.entries = n;
@@ -263,10 +209,10 @@ fn altered(state: State, letter: u8, n: u32) -> State {
 
 // A call; a new ledger, a table of so many records, a ledger that isn't sound; or what changes nothing.
 fn carried_out(state: State, line: &[u8]) -> State {
-    match text::letter(line) {
+    match words::letter(line) {
         b'a' | b'p' | b'h' | b'r' => answered(state, line),
         b'n' => new_state(),
-        b't' | b'm' | b'c' => altered(state, text::letter(line), number(rest(line))),
+        b't' | b'm' | b'c' => altered(state, words::letter(line), number(rest(line))),
         _ => {
             told(state, line);
             state
@@ -280,8 +226,8 @@ fn run(script: &[u8]) {
     let mut kept = state;
     let mut left = script;
     while 0 < left.len() {
-        let line = text::head(left, b'\n');
-        match text::letter(line) {
+        let line = words::head(left, b'\n');
+        match words::letter(line) {
             b'k' => {
                 kept = state;
             }
@@ -292,7 +238,7 @@ fn run(script: &[u8]) {
                 state = carried_out(state, line);
             }
         }
-        let next = text::tail(left, b'\n');
+        let next = words::tail(left, b'\n');
         left = next;
     }
 }

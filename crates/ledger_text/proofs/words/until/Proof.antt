@@ -4,8 +4,8 @@ use native.Mathlib.Omega.{arith}
 use lib.ListN.{length}
 use lib.Seq.{length-take-le}
 use borrow.Author.Needs.{needs}
-use Rattle.scenario.proofs.text.until.Statement.{statement}
-use Rattle.scenario.proofs.text.until.Tie as tie
+use Rattle.ledger_text.proofs.words.until.Statement.{statement}
+use Rattle.ledger_text.proofs.words.until.Tie as tie
 
 abbrev Inv-loop : tie.InvT-loop
 Inv-loop text byte at₀ at = at ≤ length text

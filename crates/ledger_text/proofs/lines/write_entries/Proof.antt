@@ -1,7 +1,7 @@
 use Prim.Native.Nat.{_≤_, _-_}
 use borrow.Author.Needs.{needs}
-use Rattle.scenario.proofs.lines.write_entries.Statement.{statement}
-use Rattle.scenario.proofs.lines.write_entries.Tie as tie
+use Rattle.ledger_text.proofs.lines.write_entries.Statement.{statement}
+use Rattle.ledger_text.proofs.lines.write_entries.Tie as tie
 
 abbrev Inv-loop : tie.InvT-loop
 Inv-loop entries parties i₀ i = i ≤ entries
@@ -12,17 +12,17 @@ abbrev μ-loop : tie.MeasureT-loop
 loop-holds : tie.Need-loop-holds Inv-loop μ-loop
 loop-holds c = search needs
 
-add-write-entry : tie.Need-add-write-entry Inv-loop μ-loop
-add-write-entry c = search needs
+add-write-party : tie.Need-add-write-party Inv-loop μ-loop
+add-write-party c = search needs
 
-mul-write-entry : tie.Need-mul-write-entry Inv-loop μ-loop
-mul-write-entry c = search needs
+mul-write-party : tie.Need-mul-write-party Inv-loop μ-loop
+mul-write-party c = search needs
 
-array-copy-out-write-entry : tie.Need-array-copy-out-write-entry Inv-loop μ-loop
-array-copy-out-write-entry c = search needs
+array-copy-out-write-party : tie.Need-array-copy-out-write-party Inv-loop μ-loop
+array-copy-out-write-party c = search needs
 
-write-entry-requires : tie.Need-write-entry-requires Inv-loop μ-loop
-write-entry-requires c κs = search needs
+write-party-requires : tie.Need-write-party-requires Inv-loop μ-loop
+write-party-requires c κs = search needs
 
 add-i : tie.Need-add-i Inv-loop μ-loop
 add-i c = search needs
@@ -43,10 +43,10 @@ write-entries-spec =
     Inv-loop
     μ-loop
     loop-holds
-    add-write-entry
-    mul-write-entry
-    array-copy-out-write-entry
-    write-entry-requires
+    add-write-party
+    mul-write-party
+    array-copy-out-write-party
+    write-party-requires
     add-i
     loop-less
     loop-again

@@ -43,6 +43,16 @@ pub fn tail<'a>(text: &'a [u8], byte: u8) -> &'a [u8]
     &text[end..]
 }
 
+// The line's first word.
+pub fn word<'a>(line: &'a [u8]) -> &'a [u8] {
+    head(line, b' ')
+}
+
+// What stands after it and its blank.
+pub fn rest<'a>(line: &'a [u8]) -> &'a [u8] {
+    tail(line, b' ')
+}
+
 fn digit(byte: u8) -> u32
     ensures { λ r. ⌜ r ≤ 9 ⌝ }
 {

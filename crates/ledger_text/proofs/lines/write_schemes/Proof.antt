@@ -1,7 +1,7 @@
 use Prim.Native.Nat.{_≤_, _-_}
 use borrow.Author.Needs.{needs}
-use Rattle.scenario.proofs.lines.write_schemes.Statement.{statement}
-use Rattle.scenario.proofs.lines.write_schemes.Tie as tie
+use Rattle.ledger_text.proofs.lines.write_schemes.Statement.{statement}
+use Rattle.ledger_text.proofs.lines.write_schemes.Tie as tie
 
 abbrev Inv-loop : tie.InvT-loop
 Inv-loop count schemes i₀ i = i ≤ count

@@ -1,4 +1,4 @@
-// The lines of the program's text.
+// The lines of the calls' answers, and of what ledger and table hold, on standard output.
 use calls::answers::AcceptAnswer;
 use calls::answers::Acceptance;
 use calls::answers::Answer;
@@ -9,6 +9,7 @@ use ledger::records::Party;
 use ledger::records::Scheme;
 use libc::STDOUT_FILENO;
 use reconciliation::Reconciliation;
+use stored::writing::Written;
 use tagged::file::Refusal;
 use tagged::file::Standing;
 ghost use Prim.Native.Nat.{_≤_};
@@ -105,6 +106,21 @@ pub fn write_standing(standing: Standing) {
     }
 }
 
+// How many bytes the stored form takes; none where the writing is refused.
+pub fn write_written(written: Written) -> usize {
+    match written {
+        Written::Length(size) => {
+            write_figure(b"LENGTH ", size as u64);
+            write(b"\n");
+            size
+        }
+        Written::Refused(refusal) => {
+            write_refusal(refusal);
+            0
+        }
+    }
+}
+
 fn write_scheme(number: usize, scheme: Scheme) {
     write_figure(b"  scheme ", number as u64);
     write_figure(b": cost ", scheme.cost as u64);
@@ -116,7 +132,7 @@ fn write_scheme(number: usize, scheme: Scheme) {
     write(b"\n");
 }
 
-pub fn write_entry(number: usize, party: Party) {
+fn write_party(number: usize, party: Party) {
     write_figure(b"  entry ", number as u64);
     write_figure(b": scheme ", party.scheme as u64);
     write_figure(b" person ", party.person as u64);
@@ -138,7 +154,7 @@ pub fn write_figures(ledger: Ledger) {
     write(b"\n");
 }
 
-pub fn write_schemes(schemes: [Scheme; 64], count: usize)
+fn write_schemes(schemes: [Scheme; 64], count: usize)
     requires { ⌜ count ≤ 64 ⌝ }
 {
     let mut i: usize = 0;
@@ -148,12 +164,37 @@ pub fn write_schemes(schemes: [Scheme; 64], count: usize)
     }
 }
 
-pub fn write_entries(parties: [Party; 512], entries: usize)
+fn write_entries(parties: [Party; 512], entries: usize)
     requires { ⌜ entries ≤ 512 ⌝ }
 {
     let mut i: usize = 0;
     while i < entries {
-        write_entry(i + 1, parties[i]);
+        write_party(i + 1, parties[i]);
         i += 1;
     }
+}
+
+// The entry with this number; nothing where no record has it.
+pub fn write_entry(parties: [Party; 512], number: usize) {
+    if number < 1 {
+        return;
+    }
+    if 512 < number {
+        return;
+    }
+    write_party(number, parties[number - 1]);
+}
+
+fn least(a: usize, b: usize) -> usize
+    ensures { λ r. ⌜ (r ≤ a) × (r ≤ b) ⌝ }
+{
+    if a < b { a } else { b }
+}
+
+// The ledger's figures, its schemes and its entries.
+pub fn write_ledger(ledger: Ledger, parties: [Party; 512]) {
+    let schemes = ledger.schemes;
+    write_figures(ledger);
+    write_schemes(schemes, least(ledger.count as usize, 64));
+    write_entries(parties, least(ledger.entries as usize, 512));
 }

@@ -1,8 +1,8 @@
 use Prim.Native.Nat.{_≤_, _-_}
 use lib.ListN.{length}
 use borrow.Author.Needs.{needs}
-use Rattle.scenario.proofs.text.number.Statement.{statement}
-use Rattle.scenario.proofs.text.number.Tie as tie
+use Rattle.ledger_text.proofs.words.number.Statement.{statement}
+use Rattle.ledger_text.proofs.words.number.Tie as tie
 
 abbrev Inv-loop : tie.InvT-loop
 Inv-loop digits n₀ i₀ n i = Unit {0}
