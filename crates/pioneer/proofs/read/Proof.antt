@@ -56,7 +56,7 @@ use Rattle.stored.specs.declared.reading.ReadBack.{ReadBack}
 use Rattle.pioneer.proofs.Records.{ReadBackRow, read-back-makes, read-back-typed}
 use Rattle.stored_reading.proofs.read as stored-reading-read′
 use Rattle.stored_reading.proofs.read.Symbol as stored-reading-read-def
-use Rattle.stored_reading.proofs.read.Symbol.{name as #stored_reading·read}
+use Rattle.stored_reading.proofs.read.Symbol.{name as #stored-reading·read}
 use Rattle.stored_reading.proofs.read.Met as stored-reading-read-thm
 use Rattle.pioneer.proofs.read_refused as read-refused′
 use Rattle.pioneer.proofs.read_refused.Symbol as read-refused-def
@@ -144,7 +144,7 @@ module _ {M : Type 1} (𝓤 : URA M) (H : Heap 𝓤) (A : Atoms 𝓤) (W : Given
       owned ! LedgerRow (Is LedgerRow) (ledger-makes 𝓤 H A) ledger _ ledger-fits $
       fjoin ! $ nothing ! $ move ! (3 ∷ 0 ∷ []) $ join ! $ move ! (2 ∷ 0 ∷ []) $ join ! $ frame ! $ frame ! $ done !
 
-  module _ (𝓣 : Tables 𝓤 H) (fm : FmC 𝓤 H (W .laws) (𝓣 .C)) (known-stored-reading-read : Triple 𝓤 (𝓣 .C #stored_reading·read)
+  module _ (𝓣 : Tables 𝓤 H) (fm : FmC 𝓤 H (W .laws) (𝓣 .C)) (known-stored-reading-read : Triple 𝓤 (𝓣 .C #stored-reading·read)
       (tripleOf 𝓤 H A stored-reading-read′.signature (stored-reading-read′.spec 𝓤 H A mem run)))
       (known-read-refused : Triple 𝓤 (𝓣 .C #pioneer·read-refused) (tripleOf 𝓤 H A read-refused′.signature (read-refused′.spec 𝓤 H A mem run)))
       (known-read-result : Triple 𝓤 (𝓣 .C #pioneer·read-result) (tripleOf 𝓤 H A read-result′.signature (read-result′.spec 𝓤 H A mem run)))
@@ -374,7 +374,7 @@ module _ {M : Type 1} (𝓤 : URA M) (H : Heap 𝓤) (A : Atoms 𝓤) (W : Given
         by ! (exits told-value))))))))))))))))))))))))))))))))))))))))))
 
 module _ {M : Type 1} (𝓤 : URA M) (H : Heap 𝓤) (A : Atoms 𝓤) (W : Given 𝓤 H A) (mem : Memory → SProp 𝓤) (run : Routine → Fun 𝓤)
-    (𝓣 : Tables 𝓤 H) (known-stored-reading-read : Triple 𝓤 (𝓣 .C #stored_reading·read)
+    (𝓣 : Tables 𝓤 H) (known-stored-reading-read : Triple 𝓤 (𝓣 .C #stored-reading·read)
     (tripleOf 𝓤 H A stored-reading-read′.signature (stored-reading-read′.spec 𝓤 H A mem run)))
     (known-read-refused : Triple 𝓤 (𝓣 .C #pioneer·read-refused) (tripleOf 𝓤 H A read-refused′.signature (read-refused′.spec 𝓤 H A mem run)))
     (known-read-result : Triple 𝓤 (𝓣 .C #pioneer·read-result) (tripleOf 𝓤 H A read-result′.signature (read-result′.spec 𝓤 H A mem run)))
@@ -411,7 +411,7 @@ read-spec 𝓤 H 𝓜 𝓖 𝓡 =
     (tables 𝓤 H 𝓜 𝓡 code.env .C) (tables 𝓤 H 𝓜 𝓡 code.env .Λ) #pioneer·read code.function (code.unfolded 𝓤 H 𝓜 𝓡)
     (meets 𝓤 H (𝓖 .A) (givenOf 𝓤 H 𝓜 𝓖) (𝓜 .mem) (𝓡 .run) (tablesOf 𝓤 H 𝓜 (tables 𝓤 H 𝓜 𝓡 code.env))
     (cited 𝓤 H (tripleOf 𝓤 H (𝓖 .A) stored-reading-read′.signature (stored-reading-read′.spec 𝓤 H (𝓖 .A) (𝓜 .mem) (𝓡 .run))) 𝓜 𝓡 code.env
-    #stored_reading·read
+    #stored-reading·read
     stored-reading-read-def.routine code.calls-stored-reading·read (stored-reading-read-thm.met 𝓤 H 𝓜 𝓖 𝓡))
     (cited 𝓤 H (tripleOf 𝓤 H (𝓖 .A) read-refused′.signature (read-refused′.spec 𝓤 H (𝓖 .A) (𝓜 .mem) (𝓡 .run))) 𝓜 𝓡 code.env #pioneer·read-refused
     read-refused-def.routine code.calls-pioneer·read-refused (read-refused-thm.met 𝓤 H 𝓜 𝓖 𝓡))

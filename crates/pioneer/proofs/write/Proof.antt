@@ -54,7 +54,7 @@ use Rattle.party_table.proofs.snapshot.Symbol.{name as #party-table·snapshot}
 use Rattle.party_table.proofs.snapshot.Met as party-table-snapshot-thm
 use Rattle.stored_writing.proofs.write as stored-writing-write′
 use Rattle.stored_writing.proofs.write.Symbol as stored-writing-write-def
-use Rattle.stored_writing.proofs.write.Symbol.{name as #stored_writing·write}
+use Rattle.stored_writing.proofs.write.Symbol.{name as #stored-writing·write}
 use Rattle.stored_writing.proofs.write.Met as stored-writing-write-thm
 use Rattle.pioneer.proofs.write.Key.{name as #pioneer·write}
 use Rattle.pioneer.proofs.write as write′
@@ -117,7 +117,7 @@ module _ {M : Type 1} (𝓤 : URA M) (H : Heap 𝓤) (A : Atoms 𝓤) (W : Given
 
   module _ (𝓣 : Tables 𝓤 H) (fm : FmC 𝓤 H (W .laws) (𝓣 .C)) (known-party-table-snapshot : Triple 𝓤 (𝓣 .C #party-table·snapshot)
       (tripleOf 𝓤 H A party-table-snapshot′.signature (party-table-snapshot′.spec 𝓤 H A mem run)))
-      (known-stored-writing-write : Triple 𝓤 (𝓣 .C #stored_writing·write) (tripleOf 𝓤 H A stored-writing-write′.signature
+      (known-stored-writing-write : Triple 𝓤 (𝓣 .C #stored-writing·write) (tripleOf 𝓤 H A stored-writing-write′.signature
       (stored-writing-write′.spec 𝓤 H A mem run))) where
     walk : ent 𝓤 (onEntry 𝓤 H A write′.signature (κ₀, (κ₁, tt)) (q₀, (q₁, tt)) arguments values)
         (WpFn 𝓤 H (𝓣 .C) (𝓣 .Λ) code.function (ledger-value ledger ∷ table-value ∷ out-value ∷ []) Post)
@@ -235,7 +235,7 @@ module _ {M : Type 1} (𝓤 : URA M) (H : Heap 𝓤) (A : Atoms 𝓤) (W : Given
 module _ {M : Type 1} (𝓤 : URA M) (H : Heap 𝓤) (A : Atoms 𝓤) (W : Given 𝓤 H A) (mem : Memory → SProp 𝓤) (run : Routine → Fun 𝓤)
     (𝓣 : Tables 𝓤 H) (known-party-table-snapshot : Triple 𝓤 (𝓣 .C #party-table·snapshot)
     (tripleOf 𝓤 H A party-table-snapshot′.signature (party-table-snapshot′.spec 𝓤 H A mem run)))
-    (known-stored-writing-write : Triple 𝓤 (𝓣 .C #stored_writing·write) (tripleOf 𝓤 H A stored-writing-write′.signature
+    (known-stored-writing-write : Triple 𝓤 (𝓣 .C #stored-writing·write) (tripleOf 𝓤 H A stored-writing-write′.signature
     (stored-writing-write′.spec 𝓤 H A mem run))) where
   walks : Walks 𝓤 H A write′.ended stayed (WpFn 𝓤 H (𝓣 .C) (𝓣 .Λ) code.function) (write′.clauses 𝓤 H A mem run)
   walks =
@@ -269,5 +269,5 @@ write-spec 𝓤 H 𝓜 𝓖 𝓡 =
     #party-table·snapshot
     party-table-snapshot-def.routine code.calls-party-table·snapshot (party-table-snapshot-thm.met 𝓤 H 𝓜 𝓖 𝓡))
     (cited 𝓤 H (tripleOf 𝓤 H (𝓖 .A) stored-writing-write′.signature (stored-writing-write′.spec 𝓤 H (𝓖 .A) (𝓜 .mem) (𝓡 .run))) 𝓜 𝓡 code.env
-    #stored_writing·write
+    #stored-writing·write
     stored-writing-write-def.routine code.calls-stored-writing·write (stored-writing-write-thm.met 𝓤 H 𝓜 𝓖 𝓡)))
