@@ -1,3 +1,4 @@
+-- The plan on the table's records is the call's and stays within them where it accepts (accept-promised, fits-array).
 use mathlib.Core.Path.{ap, _∙_}
 use borrow.Author.Needs.{needs}
 use Rattle.charge.specs.Price.{priceOf}

@@ -1,3 +1,4 @@
+-- The array is sound as its table is (sound-array), so the plan is the call's and stays within the table (accept-promised).
 use mathlib.Core.Path.{ap, _∙_}
 use borrow.Author.Needs.{needs}
 use Rattle.charge.specs.Price.{priceOf}

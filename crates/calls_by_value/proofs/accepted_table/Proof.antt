@@ -1,3 +1,4 @@
+-- By the two cases of the answer; a plan that accepts fits, so it can be carried out.
 use mathlib.Core.Path.{ap}
 use borrow.Author.Needs.{needs}
 use Rattle.calls.specs.declared.answers.AcceptAnswer.the-variants.{Accepted}

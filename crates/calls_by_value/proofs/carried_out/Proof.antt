@@ -1,3 +1,4 @@
+-- The credits and then the added entries, by the two contracts; PlanFits gives what both require.
 use mathlib.Core.Path.{ap, _∙_}
 use lib.ListN.{take}
 use lib.Seq.{sets}

@@ -1,3 +1,4 @@
+-- By the two cases of the answer; where the change is done, its place lies within the array.
 use borrow.Author.Needs.{needs}
 use Rattle.calls_by_value.proofs.changed_table.Statement.{statement}
 use Rattle.calls_by_value.proofs.changed_table.Tie as tie

@@ -1,3 +1,4 @@
+-- The loop keeps that the entries passed are credited; the entry at its place is still as given, so the sum fits by CreditsFit.
 use Prim.Native.Nat.{_≤_, _-_}
 use mathlib.Core.Path.{_≡_, sym, ap, _∙_}
 use native.Mathlib.Omega.{arith}

@@ -1,3 +1,4 @@
+-- The loop keeps that storing the added entries left, from its place on, gives the contract's array; after the last none is left.
 use Prim.Native.Nat.{suc, _+_, _≤_, _-_}
 use mathlib.Core.Path.{_≡_, sym, ap, ap₂, _∙_}
 use native.Mathlib.Numerals.{add-one}

@@ -1,3 +1,4 @@
+-- Each return is one case of the definition, in its order; in 64 bits no product of a 32-bit rate overflows.
 use borrow.Author.Tests.{eq-eqb, ne-eqb, lt-ltb, le-ltb}
 use borrow.Author.Tests.{eq-eqb, ne-eqb}
 use borrow.Author.Needs.{needs}

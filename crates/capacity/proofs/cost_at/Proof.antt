@@ -1,3 +1,4 @@
+-- The contracts of `rate_used` and `tier_cost` together are the definition; both rates are within the limit, so the one used is too.
 use lib.Dec.{eqb}
 use borrow.Author.Needs.{needs}
 use Rattle.capacity.specs.Capacity.{modeAt}

@@ -1,3 +1,4 @@
+-- Each return is one case of the definition, in its order: every tier tested before it is allowed.
 use mathlib.Core.Path.{_≡_}
 use mathlib.Core.Bool.{true}
 use borrow.Author.Needs.{needs}

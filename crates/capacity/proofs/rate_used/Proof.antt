@@ -1,3 +1,4 @@
+-- The test is the definition's.
 use borrow.Author.Tests.{eq-eqb, ne-eqb}
 use Rattle.capacity.proofs.rate_used.Statement.{statement}
 use Rattle.capacity.proofs.rate_used.Tie as tie

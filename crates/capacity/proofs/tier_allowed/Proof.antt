@@ -1,3 +1,4 @@
+-- The test is the definition's; in mode 2 the answer is that of `bespoke_allowed` at the tier's two rates.
 use borrow.Author.Tests.{eq-eqb, ne-eqb}
 use borrow.Author.Needs.{needs}
 use Rattle.capacity.proofs.tier_allowed.Statement.{statement}

@@ -1,3 +1,4 @@
+-- The test is the definition's; the limits of rate and demand bound their product, so it fits 64 bits.
 use mathlib.Core.Path.{refl}
 use native.Mathlib.Nat.{mul-le-mul}
 use native.Mathlib.Omega.{arith}

@@ -1,3 +1,4 @@
+-- Both capacity costs and the reconciliation are the definition's by their contracts; the other values are copied from book and request.
 use Prim.Native.Nat.{ℕ}
 use mathlib.Core.Path.{_≡_, ap, ap₂, _∙_}
 use Rattle.rate_book.specs.declared.book.Book.{Book}

@@ -1,3 +1,4 @@
+-- Each return is one case of the definition, in its order; an accepted book is within the limits that pricing the request requires.
 use mathlib.Core.Path.{_≡_, sym, ap, ap₂, subst, subst₂, _∙_}
 use denote.Ref.{now}
 use Rattle.numbers.specs.BigEndian.{Bytes}

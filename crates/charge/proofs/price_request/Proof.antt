@@ -1,3 +1,4 @@
+-- Each return is one case of the definition; an accepted request is within the limits that pricing its values requires.
 use mathlib.Core.Path.{_≡_, sym, ap, subst, _∙_}
 use denote.Ref.{now}
 use Rattle.numbers.specs.BigEndian.{Bytes}

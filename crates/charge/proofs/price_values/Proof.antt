@@ -1,3 +1,4 @@
+-- Each return is one case of the definition, in its order: 4, 5, the bill; a zone that is found is one of the book's, so its rates are within limits.
 use Prim.Native.Nat.{ℕ, _<_, _≤_}
 use mathlib.Core.Path.{_≡_, sym, ap, subst, _∙_}
 use mathlib.Core.List.{[]}

@@ -1,3 +1,4 @@
+-- The loop keeps the buffer's length and that done is at most that; a read moves at most what is left, so this still holds after it.
 use mathlib.Core.List.{List}
 use mathlib.Core.Path.{sym, subst, _∙_}
 use lib.ListN.{take, drop}

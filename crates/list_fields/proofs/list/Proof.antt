@@ -1,3 +1,4 @@
+-- The loop keeps that the rest is at most as long as the fields, so no offset is below 0; it ends since each rest is shorter than the last.
 use Prim.Native.Nat.{ℕ, _+_, _-_, _<_, _≤_}
 use mathlib.Core.List.{List}
 use mathlib.Core.Bool.{Bool, true, false, cond}

@@ -1,3 +1,4 @@
+-- A file below 4,096 bytes is its own first 4,096; of any other the part is taken as the definition takes it.
 use mathlib.Core.Path.{refl, sym}
 use native.Mathlib.Omega.{arith}
 use lib.ListN.{length-take}

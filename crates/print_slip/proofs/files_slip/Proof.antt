@@ -1,3 +1,4 @@
+-- The contracts of `counted`, `price` and `slip_text`, each applied to the result of the one before, are this one.
 use mathlib.Core.Path.{ap, ap₂, _∙_}
 use Rattle.charge.specs.Price.{priceOf}
 use Rattle.slip_text.specs.Slip.{slipWritten, slipBuffer}

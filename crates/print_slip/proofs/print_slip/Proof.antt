@@ -1,3 +1,4 @@
+-- What is read is within its space, and a slip that is written is at most as long as its buffer, so each part taken is there.
 use Prim.Native.Nat.{_≤_}
 use mathlib.Core.Path.{sym, _∙_}
 use lib.ListN.{replicate}

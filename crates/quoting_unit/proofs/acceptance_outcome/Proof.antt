@@ -1,3 +1,4 @@
+-- What is told is the definition's by the contract of `acceptance_told`, and `done` makes the outcome of it.
 use mathlib.Core.Path.{ap, _∙_}
 use borrow.Author.Needs.{needs}
 use Rattle.quoting_unit.specs.Interface.{isDone, outcomeOf}

@@ -1,3 +1,4 @@
+-- Each return is one case of the definition, in its order; only reading's refusal is of the stored ledger itself.
 use borrow.Author.Needs.{needs}
 use Rattle.quoting_unit.proofs.call_outcome.Statement.{statement}
 use Rattle.quoting_unit.proofs.call_outcome.Tie as tie

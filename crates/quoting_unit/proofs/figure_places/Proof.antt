@@ -1,3 +1,4 @@
+-- By its bounds each figure fits 64 bits with its sign and reads back as it was; their order is the definition's.
 use mathlib.Core.Path.{_≡_, _∙_}
 use lib.IntN.{ℤ}
 use mir.Syntax.{w64}

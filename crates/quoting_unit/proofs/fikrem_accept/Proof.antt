@@ -1,3 +1,4 @@
+-- Each return is one case: answer short, figures short, not read, refused, and accepted, whose figures `accepted-bounded` bounds.
 use mathlib.Core.Path.{refl, sym}
 use native.Mathlib.Omega.{arith}
 use borrow.Author.Needs.{needs}

@@ -1,3 +1,4 @@
+-- Short figures are 14; a priced request's figures are bounded (`priced-within`) and are written; a refusal writes none.
 use mathlib.Core.Path.{refl, sym, _∙_}
 use native.Mathlib.Omega.{arith}
 use borrow.Author.Needs.{needs}

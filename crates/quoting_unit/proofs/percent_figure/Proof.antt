@@ -1,3 +1,4 @@
+-- Each return is one case of the definition, in its order; a whole percentage fits 64 bits with its sign and reads back as it was.
 use mir.ValLaws.{toZ-ofZ}
 use mir.Val.{SFits}
 use mir.Syntax.{w64}

@@ -1,3 +1,4 @@
+-- The test is the definition's, and what either branch returns is below 2^56.
 use native.Mathlib.Omega.{arith}
 use borrow.Author.Tests.{lt-ltb, le-ltb}
 use Rattle.quoting_unit.proofs.place_told.Statement.{statement}

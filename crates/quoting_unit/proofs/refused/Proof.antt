@@ -1,3 +1,4 @@
+-- The result is the definition's by the contract of `result_of`; the four places are 0 in both.
 use mathlib.Core.Path.{ap}
 use mathlib.Core.List.{[], _∷_}
 use Prim.Native.Nat.{ℕ}

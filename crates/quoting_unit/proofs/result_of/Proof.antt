@@ -1,3 +1,4 @@
+-- The sum is the definition's; it fits 64 bits since the remainders keep the first part below 256 and the place is below 2^56.
 use borrow.Author.Needs.{needs}
 use Rattle.quoting_unit.proofs.result_of.Statement.{statement}
 use Rattle.quoting_unit.proofs.result_of.Tie as tie

@@ -1,3 +1,4 @@
+-- The test is the definition's: a result other than 0 leaves the answer, a result of 0 writes its places.
 use mathlib.Core.Path.{refl}
 use borrow.Author.Needs.{needs}
 use borrow.Author.Tests.{eq-eqb, ne-eqb}

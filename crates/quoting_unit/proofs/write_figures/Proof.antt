@@ -1,3 +1,4 @@
+-- The loop keeps that the first i places are copied and the rest is as it was (`copy-one-more`); at 21 all are copied.
 use mir.Syntax.{w64}
 use mir.Val.{SFits}
 use mir.ValLaws.{toZ-ofZ}

@@ -1,3 +1,4 @@
+-- The formula is the definition's; with a share of at most 10,000 the product fits 64 bits and the credit is at most IR.
 use mathlib.Core.Path.{refl}
 use native.Mathlib.Nat.{mul-le-mul-left}
 use native.Mathlib.Omega.{arith}

@@ -1,3 +1,4 @@
+-- Two numbers that fit 63 bits keep their value as signed ones, and their difference fits 64 bits with a sign.
 use mir.ValLaws.{toZ-pos, toZ-ofZ}
 use mir.Syntax.{w64}
 use borrow.Author.Needs.{needs}

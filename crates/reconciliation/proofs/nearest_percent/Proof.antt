@@ -1,3 +1,4 @@
+-- The formula is the definition's; the limits keep product and sum within 64 bits, and a quotient is at most what is divided.
 use mathlib.Core.Path.{refl}
 use Prim.Native.Nat.{_+_, _*_}
 use native.Mathlib.Nat.{div-le-self}

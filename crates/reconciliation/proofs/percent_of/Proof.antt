@@ -1,3 +1,4 @@
+-- Each return is one case of the definition: divisor 0, a difference of 0 or more, and a negative one, whose size is rounded, then negated.
 use Prim.Native.Nat.{_-_}
 use native.Mathlib.Omega.{arith}
 use lib.IntN.{+ℤ-idl}

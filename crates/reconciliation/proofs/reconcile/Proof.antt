@@ -1,3 +1,4 @@
+-- Each figure is the definition's by the contract of its step; subtracting two amounts is subtracting their sum, and the limits keep all in range.
 use mir.ValLaws.{toZ-ofZ}
 use mir.Syntax.{w64}
 use borrow.Author.Needs.{needs}

@@ -1,3 +1,4 @@
+-- A number that fits 63 bits has the same value with a sign as without one.
 use mir.ValLaws.{toZ-pos}
 use mir.Syntax.{w64}
 use borrow.Author.Needs.{needs}

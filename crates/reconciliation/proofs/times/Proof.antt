@@ -1,3 +1,4 @@
+-- Two cases, since a is 1 or 0: once the amount is the amount, and 0 times it is 0.
 use mathlib.Core.Path.{_≡_, sym}
 use native.Mathlib.Nat.{le-refl, one-mul, zero-mul}
 use native.Mathlib.Omega.{arith}

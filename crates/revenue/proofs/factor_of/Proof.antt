@@ -1,3 +1,4 @@
+-- The smaller of the year and the last place is within the list, so the read is the definition's; every factor of the list is at most 40,000.
 use borrow.Author.Needs.{needs}
 use Rattle.revenue.proofs.factor_of.Statement.{statement}
 use Rattle.revenue.proofs.factor_of.Tie as tie

@@ -1,3 +1,4 @@
+-- The loop keeps that f is the discount factor of year n and sum the revenue of the years before; 31 years of greatest revenue fit 64 bits.
 use Prim.Native.Nat.{suc, _+_, _-_, _≤_}
 use mathlib.Core.Path.{_≡_, refl}
 use native.Mathlib.Numerals.{add-one}

@@ -1,3 +1,4 @@
+-- The test is the definition's.
 use borrow.Author.Tests.{eq-eqb, ne-eqb}
 use borrow.Author.Needs.{needs}
 use Rattle.revenue.proofs.life_of.Statement.{statement}

@@ -1,3 +1,4 @@
+-- The formula is the definition's; the factor is at most 10,000, so 16 bits hold it.
 use mathlib.Core.Path.{refl}
 use Rattle.revenue.specs.RevenueLaws.{opex-factor-at-most}
 use native.Mathlib.Omega.{arith}

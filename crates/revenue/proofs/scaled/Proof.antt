@@ -1,3 +1,4 @@
+-- The formula is the definition's; the two limits bound the product, and a factor of at most 40,000 gives at most four times the amount.
 use mathlib.Core.Path.{refl}
 use native.Mathlib.Nat.{mul-le-mul, mul-le-mul-left}
 use native.Mathlib.Omega.{arith}

@@ -1,3 +1,4 @@
+-- Each contract gives the definition's next division; the factors give at most 64,000,000,000, whose product with F(n) fits 64 bits.
 use Prim.Native.Nat.{_*_, _/_}
 use mathlib.Core.Path.{_≡_}
 use native.Mathlib.Nat.{mul-le-mul-left}

@@ -1,3 +1,4 @@
+-- By the test n is at most the length; otherwise 0 is.
 use mathlib.Core.Path.{sym}
 use lib.Seq.{length-take-le}
 use native.Mathlib.Omega.{arith}

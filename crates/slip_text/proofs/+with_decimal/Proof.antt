@@ -1,3 +1,4 @@
+-- By recursion on n: below 10 one digit, otherwise the digits of n / 10, which is smaller, and one more; the lengths add up likewise.
 use native.Mathlib.Omega.{arith}
 use borrow.Author.Needs.{needs}
 use mathlib.Core.Path.{_≡_, ap, _∙_}

@@ -1,3 +1,4 @@
+-- Each return is one case of the definition: the lines of the reconciliation, or the line of the refusal.
 use borrow.Author.Needs.{needs}
 use Rattle.slip_text.specs.Slip.{slipOf}
 use Rattle.slip_text.proofs.pricing_text.Statement.{statement}

@@ -1,3 +1,4 @@
+-- Each call adds the definition's next line to those before it; by the bounds of the eight lines they fit the room of 256 bytes.
 use mathlib.Core.Path.{_≡_}
 use mathlib.Core.List.{List, flatten}
 use Prim.Native.Nat.{ℕ, _≤_}

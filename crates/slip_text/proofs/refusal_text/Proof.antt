@@ -1,3 +1,4 @@
+-- Each call adds the next piece of the definition's line; a label of 7 bytes, three figures and the line's end fit the room of 256 bytes.
 use mathlib.Core.List.{List, [], _∷_, flatten}
 use mathlib.Core.Path.{_≡_, _∙_}
 use Prim.Native.Nat.{ℕ}

@@ -1,3 +1,4 @@
+-- Two cases by sign: below 0, -1 - n is one less than the size and fits, so adding 1 doesn't overflow; any other n is its own size.
 use Prim.Native.Nat.{_<_, _^_}
 use native.Mathlib.Omega.{arith}
 use borrow.Author.Needs.{needs}

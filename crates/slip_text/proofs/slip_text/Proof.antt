@@ -1,3 +1,4 @@
+-- The text is the slip and its length the slip's, so the test is the definition's and each return one of its two cases.
 use mathlib.Core.Path.{_≡_}
 use native.Mathlib.Omega.{arith}
 use borrow.Author.Tests.{lt-ltb, le-ltb}

@@ -1,3 +1,4 @@
+-- The first len + 1 bytes after the write are the first len bytes before it and then the new one.
 use mathlib.Core.Path.{refl}
 use Prim.Native.Nat.{_<_}
 use native.Mathlib.Numerals.{add-one}

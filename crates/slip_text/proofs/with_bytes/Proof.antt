@@ -1,3 +1,4 @@
+-- The loop keeps that the text is the old one and then the first i bytes; there is room for each, and after the last turn i is their number.
 use mathlib.Core.Path.{_≡_, sym, _∙_}
 use mathlib.Core.List.{_++_, append-nil, append-assoc}
 use Prim.Native.Nat.{_<_, _+_, _-_, _≤_}

@@ -1,3 +1,4 @@
+-- Each return is one kind of figure, added after the blank; a number of 64 bits has at most 20 digits, so the bytes added are at most 22.
 use mathlib.Core.List.{[], _∷_}
 use native.Mathlib.Omega.{arith}
 use borrow.Author.Needs.{needs}

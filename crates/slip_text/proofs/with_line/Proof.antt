@@ -1,3 +1,4 @@
+-- Label, blank with figure, and byte 0A are added in turn; appending is associative, so together they are the definition's line.
 use mathlib.Core.List.{List, [], _∷_, _++_, append-assoc}
 use mathlib.Core.Path.{ap, _∙_}
 use Prim.Native.Nat.{ℕ}

@@ -1,3 +1,4 @@
+-- Each return is one case of the definition: a whole number by the contract of `with_signed`, and none as one byte.
 use native.Mathlib.Omega.{arith}
 use borrow.Author.Needs.{needs}
 use mir.ValLaws.{toZ-ofZ}

@@ -1,3 +1,4 @@
+-- Two cases by sign: below 0 the definition is a minus and the digits of the size, otherwise the digits; at most 20 digits and a sign.
 use mathlib.Core.Path.{_≡_}
 use mathlib.Core.List.{[], _∷_}
 use native.Mathlib.Omega.{arith}

@@ -1,3 +1,4 @@
+-- The loop keeps that the first i bytes are the text's and the others as they were; after the last turn i is the text's length.
 use mathlib.Core.Path.{_≡_}
 use Prim.Native.Nat.{_-_, _≤_}
 use native.Mathlib.Omega.{arith}

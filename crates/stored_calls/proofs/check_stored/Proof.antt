@@ -1,3 +1,4 @@
+-- Answer and ledger are those of the definition's reading, and each return is one case of that answer.
 use mathlib.Core.Path.{sym, ap, _∙_}
 use borrow.Author.Needs.{needs}
 use Rattle.stored_calls.specs.StoredCalls.{checkBy}

@@ -1,3 +1,4 @@
+-- A new ledger is sound, so that its form, written without a test, is the one that the definition writes (`new-written`).
 use mathlib.Core.Path.{ap, _∙_}
 use native.Mathlib.Omega.{arith}
 use borrow.Author.Needs.{needs}

@@ -1,3 +1,4 @@
+-- Entries that are accepted fit the table, so that what is read by value is the definition's reading (`read-by-value`).
 use mathlib.Core.Path.{ap, ap₂, _∙_}
 use borrow.Author.Needs.{needs}
 use Rattle.stored.specs.Reading.{readBack}

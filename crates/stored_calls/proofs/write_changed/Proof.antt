@@ -1,3 +1,4 @@
+-- Each return is one case of `endBy`: done, answer and output are writing's; refused, nothing is written.
 use mathlib.Core.Path.{sym, ap, _∙_}
 use borrow.Author.Needs.{needs}
 use Rattle.calls.specs.Decision.{ofEntryCall}

@@ -1,3 +1,4 @@
+-- Each return is one case of the definition, in its order.
 use mathlib.Core.Path.{sym, ap}
 use borrow.Author.Needs.{needs}
 use Rattle.stored_calls.specs.StoredCalls.{madeAccepted, writtenAnswer}

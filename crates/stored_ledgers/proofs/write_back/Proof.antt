@@ -1,3 +1,4 @@
+-- A form that is written is no longer than the output (`written-within`), so that its bytes are a part of the output.
 use Prim.Native.Nat.{_≤_}
 use mathlib.Core.Path.{sym, _∙_}
 use lib.ListN.{length}

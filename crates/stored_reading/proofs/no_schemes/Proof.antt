@@ -1,3 +1,4 @@
+-- By the definition; a new ledger holds noScheme at each of its 64 places.
 use borrow.Author.Needs.{needs}
 use Rattle.stored.specs.Form.{noSchemes}
 use Rattle.stored_reading.proofs.no_schemes.Statement.{statement}

@@ -1,3 +1,4 @@
+-- Each return is one case of the definition; the fields of a file that stands walk (stands-means), as read_fields requires.
 use mathlib.Core.Path.{sym, ap, _∙_}
 use borrow.Author.Needs.{needs}
 use Rattle.tagged.specs.File.{fieldsPart}

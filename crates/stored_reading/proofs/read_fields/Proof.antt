@@ -1,3 +1,4 @@
+-- Each return is one case of the definition: 3 where the letters fail, and otherwise what the values answer (read-lettered).
 use mathlib.Core.Path.{sym, ap, _∙_}
 use borrow.Author.Needs.{needs}
 use Rattle.stored.specs.Reading.{readBy}

@@ -1,3 +1,4 @@
+-- Field 02 has 22 bytes (head-sized), so its four numbers lie within; the schemes are those of read_schemes, the entries as given.
 use mathlib.Core.Path.{_≡_, ap, _∙_}
 use native.Mathlib.Omega.{arith}
 use lib.ListN.{length}

@@ -1,3 +1,4 @@
+-- The loop keeps that the schemes of the fields passed stand in the first places (Collected); the rows allow 64, so each has its place.
 use Prim.Native.Nat.{ℕ, _<_, _≤_}
 use mathlib.Core.Path.{_≡_, ap}
 use mathlib.Core.Logic.{⊎-elim}

@@ -1,3 +1,4 @@
+-- The returns are 9, 13 and the reading, in the definition's order; entries in the first places are as sound as alone (sound-placed).
 use Prim.Native.Nat.{_<_, _≤_}
 use mathlib.Core.Path.{_≡_, sym, ap, ap₂, _∙_}
 use native.Mathlib.Omega.{arith}

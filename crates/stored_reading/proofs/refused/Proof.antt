@@ -1,3 +1,4 @@
+-- By the definition; the parties are those of no_parties.
 use borrow.Author.Needs.{needs}
 use Rattle.tagged.specs.declared.file.Standing.the-variants.{Refused}
 use Rattle.stored_reading.proofs.refused.Statement.{statement}

@@ -1,3 +1,4 @@
+-- 13 with the output as it was, and then the form; soundness bounds schemes and entries, as write_form requires.
 use mathlib.Core.Path.{sym, ap, _∙_}
 use borrow.Author.Needs.{needs}
 use Rattle.ledger.specs.SoundFacts.{sound-means}

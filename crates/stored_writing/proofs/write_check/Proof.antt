@@ -1,3 +1,4 @@
+-- The check is over the bytes before the field and then its three first bytes, as in the definition (written-check).
 use Prim.Native.Nat.{_+_, _≤_}
 use mathlib.Core.Path.{sym}
 use lib.ListN.{length}

@@ -1,3 +1,4 @@
+-- Letters, head, schemes and entries, each written where the one before ends, are all the fields (written-stored).
 use mathlib.Core.Path.{_≡_}
 use lib.ListN.{length}
 use Rattle.ledger.proofs.Places.{schemes-places}

@@ -1,3 +1,4 @@
+-- The size is the form's length (length-form), so the test is 14's; the fields and the check after them are the form (written-closed).
 use Prim.Native.Nat.{_+_, _≤_}
 use mathlib.Core.Path.{_≡_, sym, ap, _∙_}
 use mathlib.Core.List.{List}

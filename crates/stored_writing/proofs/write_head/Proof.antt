@@ -1,3 +1,4 @@
+-- Tag, length and the four numbers, each written where the one before ends, are the field (written-field).
 use mathlib.Core.Path.{refl}
 use mathlib.Core.List.{[], _∷_}
 use Rattle.stored.specs.Layout.{headWidths}

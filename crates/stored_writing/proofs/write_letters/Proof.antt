@@ -1,3 +1,4 @@
+-- Tag, length and four letters, each written where the one before ends, are the field (written-field).
 use mathlib.Core.Path.{refl}
 use mathlib.Core.List.{[], _∷_}
 use Rattle.numbers.specs.BigEndian.{bytesOf}

@@ -1,3 +1,4 @@
+-- The loop keeps that the fields of the schemes passed are written, 27 bytes each; a turn writes the next where they end (one-more).
 use Prim.Native.Nat.{_-_, _<_, _≤_}
 use mathlib.Core.Path.{_≡_, refl, sym, _∙_}
 use mathlib.Core.List.{flatMap, map}

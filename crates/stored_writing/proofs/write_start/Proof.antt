@@ -1,3 +1,4 @@
+-- The length's two bytes follow the tag's one, so the two writes are one (written-start).
 use Rattle.stored_writing.proofs.Fields.{written-start}
 use native.Mathlib.Omega.{arith}
 use borrow.Author.Needs.{needs}

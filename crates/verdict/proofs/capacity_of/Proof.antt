@@ -1,3 +1,4 @@
+-- The loop keeps that the total is K of the entries passed, and at most 4294967295 for each of them, so no sum overflows.
 use Prim.Native.Nat.{_*_, _-_, _<_, _≤_}
 use mathlib.Core.Path.{_≡_, refl}
 use mathlib.Core.Logic.{⊎-elim}

@@ -1,3 +1,4 @@
+-- By the definition; the product of two 32-bit numbers fits 64 bits, and the quotient is at most the cost (contribution-le-cost).
 use Prim.Native.Nat.{_≤_}
 use native.Mathlib.Nat.{mul-le-mul}
 use native.Mathlib.Omega.{arith}

@@ -1,3 +1,4 @@
+-- Each return is one case of the definition, in its order; count, entries and room are those of the books (Counted).
 use mathlib.Core.Path.{sym, _∙_}
 use borrow.Author.Needs.{needs}
 use Rattle.calls.specs.VerdictLaws.{course-refused-8, course-refused-9, course-accepted}

@@ -1,3 +1,4 @@
+-- By the two cases of opens, which add 1 or 0 to the joining's entries; these are at most 1, so the sum is at most 2.
 use Prim.Native.Nat.{ℕ}
 use mathlib.Core.Path.{ap}
 use mathlib.Core.Bool.{cond}

@@ -1,3 +1,4 @@
+-- Each return is one case of the definition, in its order; capacity_of's sum is K of the books, as the contract supposes.
 use mathlib.Core.Path.{sym, _∙_}
 use borrow.Author.Needs.{needs}
 use Rattle.ledger.specs.Books.{schemeRow}

@@ -1,3 +1,4 @@
+-- Each test that fails makes the whole false, and the last one is the whole where the others hold.
 use borrow.Author.Tests.{eq-eqb, ne-eqb}
 use borrow.Author.Needs.{needs}
 use Rattle.ledger.proofs.Tests.{last-holds}

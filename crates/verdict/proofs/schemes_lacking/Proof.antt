@@ -1,3 +1,4 @@
+-- Where no scheme opens the whole is false; where one opens, the second test is the whole.
 use borrow.Author.Tests.{not-true, not-false}
 use Rattle.ledger.proofs.Tests.{last-holds}
 use Rattle.verdict.proofs.schemes_lacking.Statement.{statement}

@@ -1,3 +1,4 @@
+-- Each return is one case of the definition, in its order; by soundness the books have as many rows as the ledger counts.
 use Prim.Native.Nat.{_+_, _<_, _≤_}
 use mathlib.Core.Path.{_≡_, sym, ap₂, _∙_}
 use native.Mathlib.Omega.{arith}

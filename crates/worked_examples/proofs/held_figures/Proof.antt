@@ -1,3 +1,4 @@
+-- The loop keeps k at most 131, so that each figure asked for exists; 131 less k falls each turn.
 use Prim.Native.Nat.{_≤_, _-_}
 use borrow.Author.Needs.{needs}
 use Rattle.worked_examples.proofs.held_figures.Statement.{statement}

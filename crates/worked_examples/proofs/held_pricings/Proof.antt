@@ -1,3 +1,4 @@
+-- The loop keeps the pricing's number at most 23; 23 less that number falls each turn.
 use Prim.Native.Nat.{_≤_, _-_}
 use borrow.Author.Needs.{needs}
 use Rattle.worked_examples.proofs.held_pricings.Statement.{statement}

@@ -1,3 +1,4 @@
+-- 13, and then the plan without it.
 use mathlib.Core.Path.{sym, _∙_}
 use borrow.Author.Needs.{needs}
 use Rattle.ledger.proofs.Tests.{passes, fails}

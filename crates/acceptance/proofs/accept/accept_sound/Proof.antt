@@ -1,3 +1,4 @@
+-- The ledger is sound, so the pricing decides (plan-priced): a refusal, or a bill, which is within its limits (priced-within).
 use mathlib.Core.Path.{sym, _∙_}
 use denote.Ref.{now}
 use borrow.Author.Needs.{needs}

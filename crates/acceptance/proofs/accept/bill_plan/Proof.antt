@@ -1,3 +1,4 @@
+-- The two cases are those of the verdict (bill-planned); a verdict that accepts gives all that course_plan requires (course-due).
 use mathlib.Core.Path.{_≡_, sym, _∙_}
 use lib.ListN.{length}
 use borrow.Author.Needs.{needs}

@@ -1,3 +1,4 @@
+-- Each part is the definition's by its function's contract; a joining adds no scheme and at most one entry, so an opening has its places.
 use Prim.Native.Nat.{ℕ}
 use mathlib.Core.Path.{refl, ap}
 use mathlib.Core.Bool.{cond}

@@ -1,3 +1,4 @@
+-- The loop keeps credits, running capacity and sum credited of the entries passed (Credited); the capacity is at most K, so products fit.
 use Prim.Native.Nat.{_+_, _-_, _<_, _≤_}
 use mathlib.Core.Path.{_≡_, ap₂, _∙_}
 use mathlib.Core.Logic.{⊎-elim}

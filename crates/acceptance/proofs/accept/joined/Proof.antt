@@ -1,3 +1,4 @@
+-- The cases are the definition's, of the joining and of the scheme's place; where a fee is taken, FeesDue gives what fee_taken requires.
 use mathlib.Core.Path.{sym, _∙_}
 use borrow.Author.Needs.{needs}
 use Rattle.acceptance.proofs.accept.joined.Statement.{statement}

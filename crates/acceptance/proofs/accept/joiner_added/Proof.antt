@@ -1,3 +1,4 @@
+-- The four cases are the definition's; where the joiner pays, none_added's count of 0 leaves a place for the entry.
 use native.Mathlib.Omega.{arith}
 use borrow.Author.Needs.{needs}
 use Rattle.acceptance.proofs.accept.joiner_added.Statement.{statement}

@@ -1,3 +1,4 @@
+-- The four cases are the definition's; the joiner's entry number is entries + 1, which is the books' next.
 use borrow.Author.Needs.{needs}
 use Rattle.acceptance.proofs.accept.joining_answer.Statement.{statement}
 use Rattle.acceptance.proofs.accept.joining_answer.Tie as tie

@@ -1,3 +1,4 @@
+-- By the definition; both records are no_party's.
 use borrow.Author.Needs.{needs}
 use Rattle.acceptance.proofs.accept.none_added.Statement.{statement}
 use Rattle.acceptance.proofs.accept.none_added.Tie as tie

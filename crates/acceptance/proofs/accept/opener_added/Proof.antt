@@ -1,3 +1,4 @@
+-- By the two cases of opens; X fits 32 bits since the bill is within its limits.
 use borrow.Author.Tests.{not-true, not-false}
 use borrow.Author.Needs.{needs}
 use Rattle.acceptance.proofs.accept.opener_added.Statement.{statement}

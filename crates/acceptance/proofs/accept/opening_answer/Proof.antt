@@ -1,3 +1,4 @@
+-- By the two cases of opens.
 use Rattle.acceptance.proofs.accept.opening_answer.Statement.{statement}
 use Rattle.acceptance.proofs.accept.opening_answer.Tie as tie
 

@@ -1,3 +1,4 @@
+-- By the definition; the added entries are those of none_added.
 use borrow.Author.Needs.{needs}
 use Rattle.acceptance.proofs.accept.refused_plan.Statement.{statement}
 use Rattle.acceptance.proofs.accept.refused_plan.Tie as tie

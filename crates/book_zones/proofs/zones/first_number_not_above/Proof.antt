@@ -1,3 +1,4 @@
+-- The loop keeps that the zones from its own on decide, with one above the last number as the least; a turn is rise-on.
 use Prim.Native.Nat.{_-_, _≤_, _+_, _*_}
 use mathlib.Core.Path.{_≡_, sym, _∙_}
 use native.Mathlib.Nat.{add-zero}

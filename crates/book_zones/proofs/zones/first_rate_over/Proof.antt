@@ -1,3 +1,4 @@
+-- The outer loop keeps that the zones from its own on decide, the inner that the tiers from its own on and then the later zones do.
 use Prim.Native.Nat.{_-_, _≤_, _+_, _*_}
 use mathlib.Core.List.{[]}
 use mathlib.Core.Path.{_≡_, refl, sym, _∙_}

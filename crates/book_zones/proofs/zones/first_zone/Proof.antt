@@ -1,3 +1,4 @@
+-- The start of the place found is the definition's; the zones end where the fields do, by zones-stand.
 use mathlib.Core.Path.{ap, _∙_}
 use native.Mathlib.Omega.{arith}
 use borrow.Author.Needs.{needs}

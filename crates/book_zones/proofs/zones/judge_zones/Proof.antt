@@ -1,3 +1,4 @@
+-- The lower place of the two scans is the first in byte order (judge-zones-by-scans), since the zones stand 24 bytes apart.
 use borrow.Author.Needs.{needs}
 use Rattle.book_zones.specs.ZonesLaws.{judge-zones-by-scans}
 use Rattle.book_zones.specs.ZonesStand.{zones-stand}

@@ -1,3 +1,4 @@
+-- Each return is one case of the definition.
 use borrow.Author.Tests.{lt-ltb, le-ltb}
 use borrow.Author.Needs.{needs}
 use Rattle.book_zones.proofs.zones.lower.Statement.{statement}

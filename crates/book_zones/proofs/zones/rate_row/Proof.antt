@@ -1,3 +1,4 @@
+-- Each of the five numbers is read at the definition's offset, and the zone's 21 bytes lie within the fields.
 use mathlib.Core.List.{[], _∷_}
 use borrow.Author.Needs.{needs}
 use Rattle.book_zones.proofs.zones.rate_row.Statement.{statement}

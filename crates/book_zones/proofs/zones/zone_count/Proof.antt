@@ -1,3 +1,4 @@
+-- The zones, at most 8, take 24 bytes each up to the end of the fields (zones-stand), so the division is exact.
 use native.Mathlib.Omega.{arith}
 use borrow.Author.Needs.{needs}
 use Rattle.book_zones.specs.ZonesStand.{zones-stand}

@@ -1,3 +1,4 @@
+-- The two tests together are the definition's one, written without a sum that could overflow.
 use Prim.Native.Nat.{_+_}
 use native.Mathlib.Omega.{arith}
 use lib.ListN.{length}

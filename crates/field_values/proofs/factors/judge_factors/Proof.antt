@@ -1,3 +1,4 @@
+-- The limits are the definition's, and by computation each is 2 bytes wide.
 use mathlib.Core.Path.{refl}
 use borrow.Author.Needs.{needs}
 use Rattle.field_values.specs.Judged.{narrow}

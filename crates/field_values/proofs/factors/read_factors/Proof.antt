@@ -1,3 +1,4 @@
+-- The value found is the field's, and each place holds the factor that the definition reads there.
 use borrow.Author.Needs.{needs}
 use Rattle.field_values.proofs.factors.read_factors.Statement.{statement}
 use Rattle.field_values.proofs.factors.read_factors.Tie as tie

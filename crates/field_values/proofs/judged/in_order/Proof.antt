@@ -1,3 +1,4 @@
+-- By the two cases of the first judgement.
 use borrow.Author.Needs.{needs}
 use Rattle.field_values.proofs.judged.in_order.Statement.{statement}
 use Rattle.field_values.proofs.judged.in_order.Tie as tie

@@ -1,3 +1,4 @@
+-- By the two cases of the test.
 use Rattle.field_values.proofs.judged.judge.Statement.{statement}
 use Rattle.field_values.proofs.judged.judge.Tie as tie
 

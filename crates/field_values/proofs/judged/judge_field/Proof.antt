@@ -1,3 +1,4 @@
+-- Value and offset are those of the field found; a part ends within the file (part-ends-within), so no offset overflows.
 use native.Mathlib.Omega.{arith}
 use borrow.Author.Needs.{needs}
 use Rattle.field_values.proofs.Numbers.{part-ends-within}

@@ -1,3 +1,4 @@
+-- Value and offset are those of field 01, and the comparison of bytes is the definition's.
 use borrow.Author.Needs.{needs}
 use Rattle.field_values.proofs.judged.judge_letters.Statement.{statement}
 use Rattle.field_values.proofs.judged.judge_letters.Tie as tie

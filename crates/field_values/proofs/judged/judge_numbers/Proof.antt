@@ -1,3 +1,4 @@
+-- The loop keeps its offset within the value, and that the limits from its own on, all narrow, decide for the bytes from there on.
 use Prim.Native.Nat.{_+_, _-_, _≤_}
 use mathlib.Core.Bool.{true}
 use mathlib.Core.Path.{_≡_}

@@ -1,3 +1,4 @@
+-- By the three widths: one that is neither 1 nor 2 is 4, and each reading is the number of that width.
 use Prim.Native.Nat.{ℕ}
 use mathlib.Core.Path.{_≡_}
 use mathlib.Core.Logic.{_⊎_, inl, inr}

@@ -1,3 +1,4 @@
+-- Different lengths mean different bytes; where the lengths agree, the loop keeps that the bytes from its place on decide.
 use Prim.Native.Nat.{_-_, _≤_, _<_}
 use mathlib.Core.Path.{_≡_, refl}
 use native.Mathlib.Omega.{arith}

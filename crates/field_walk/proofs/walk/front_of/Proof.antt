@@ -1,3 +1,4 @@
+-- Each return is one case of the definition, in its order; a row that is due is one of the table's, so its lengths can be read.
 use mathlib.Core.Path.{subst}
 use lib.ListN.{length}
 use borrow.Author.Tests.{lt-ltb, le-ltb, eq-eqb, ne-eqb, lt-leb, le-leb}

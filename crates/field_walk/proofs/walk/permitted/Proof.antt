@@ -1,3 +1,4 @@
+-- The tests are the definition's, in its order; the step isn't 0 where the division is reached.
 use borrow.Author.Tests.{lt-ltb, le-ltb, eq-eqb, ne-eqb}
 use borrow.Author.Needs.{needs}
 use Rattle.field_walk.proofs.walk.permitted.Statement.{statement}

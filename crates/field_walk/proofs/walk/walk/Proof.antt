@@ -1,3 +1,4 @@
+-- The loop keeps that the walk of the rest decides that of the file; a field ends within the rest, so each rest is shorter.
 use Prim.Native.Nat.{_+_, _≤_}
 use mathlib.Core.Path.{sym, subst, _∙_}
 use native.Mathlib.Omega.{arith}

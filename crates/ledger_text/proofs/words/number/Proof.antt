@@ -1,3 +1,4 @@
+-- Each place read is below the length by the loop's test; the length less the place falls each turn.
 use Prim.Native.Nat.{_≤_, _-_}
 use lib.ListN.{length}
 use borrow.Author.Needs.{needs}

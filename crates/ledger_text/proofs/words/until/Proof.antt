@@ -1,3 +1,4 @@
+-- The loop keeps the place at most the text's length, and both returns are such a place.
 use Prim.Native.Nat.{_≤_, _-_}
 use mathlib.Core.Path.{sym}
 use native.Mathlib.Omega.{arith}

@@ -1,3 +1,4 @@
+-- The number of one byte is that byte (numberAt-one).
 use mathlib.Core.Path.{sym}
 use Rattle.numbers.specs.BigEndianLaws.{numberAt-one}
 use native.Mathlib.Omega.{arith}

@@ -1,3 +1,4 @@
+-- To write a number as one byte is to store it (written-one).
 use mathlib.Core.Path.{sym}
 use Rattle.numbers.specs.BigEndianLaws.{written-one}
 use native.Mathlib.Omega.{arith}

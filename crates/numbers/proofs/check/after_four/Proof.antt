@@ -1,3 +1,4 @@
+-- One division after four steps gives what a division after each gives (four-steps); h is below 65,521, so no sum overflows.
 use native.Mathlib.Omega.{arith}
 use borrow.Author.Needs.{needs}
 use Rattle.numbers.proofs.Checking.{four-steps}

@@ -1,3 +1,4 @@
+-- The check of the bytes after the whole fours, going on from what check_fours gives, is the check of all bytes.
 use mathlib.Core.Path.{ap, _∙_}
 use native.Mathlib.Nat.{le-of-eq}
 use lib.ListN.{length-drop}

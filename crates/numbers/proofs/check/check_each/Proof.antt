@@ -1,3 +1,4 @@
+-- The loop keeps that its sum, going on over the bytes from its place on, comes to the check of all; past the last it is the sum.
 use Prim.Native.Nat.{_-_, _<_}
 use mathlib.Core.Path.{_≡_, refl, sym, _∙_}
 use native.Mathlib.Numerals.{add-one}

@@ -1,3 +1,4 @@
+-- The loop keeps that its sum, going on over the bytes after its fours, comes to the check of all; a turn is check-on-four.
 use Prim.Native.Nat.{_+_, _*_, _-_, _<_, _≤_}
 use mathlib.Core.Path.{_≡_, refl, sym, _∙_}
 use native.Mathlib.Omega.{arith}

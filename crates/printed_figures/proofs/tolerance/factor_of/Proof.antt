@@ -1,3 +1,4 @@
+-- Both places read are within the list, which has 1 to 8 factors, and every factor in it is at most 40,000.
 use borrow.Author.Needs.{needs}
 use Rattle.printed_figures.proofs.tolerance.factor_of.Statement.{statement}
 use Rattle.printed_figures.proofs.tolerance.factor_of.Tie as tie

@@ -1,3 +1,4 @@
+-- A book that stands lies within document 01's limits (`book-within-limits`), which is what `request_bounds` requires.
 use mathlib.Core.Path.{_≡_}
 use Rattle.tagged.specs.declared.file.Standing.the-variants.{Stands}
 use Rattle.rate_book.specs.Book.{bookOf}

@@ -1,3 +1,4 @@
+-- The limits of book, request and units are those that `near_stream` requires; O and what it lies off are bounded by their contracts.
 use Rattle.printed_figures.proofs.tolerance.near_distribution.Statement.{statement}
 use Rattle.printed_figures.proofs.tolerance.near_distribution.Tie as tie
 

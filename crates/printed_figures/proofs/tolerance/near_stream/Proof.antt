@@ -1,3 +1,4 @@
+-- The loop keeps that f is the discount factor of year n and that the sum is within the limit, which `plus` keeps.
 use Prim.Native.Nat.{_+_, _-_, _≤_}
 use mathlib.Core.Path.{_≡_, refl}
 use native.Mathlib.Numerals.{add-one}

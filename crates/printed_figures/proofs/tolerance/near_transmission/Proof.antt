@@ -1,3 +1,4 @@
+-- The limits of book, request and units are those that `near_stream` requires; O is 10,000 and lies off by 0.
 use lib.Dec.{lit≤}
 use Rattle.printed_figures.proofs.tolerance.near_transmission.Statement.{statement}
 use Rattle.printed_figures.proofs.tolerance.near_transmission.Tie as tie

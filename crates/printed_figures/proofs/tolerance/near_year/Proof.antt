@@ -1,3 +1,4 @@
+-- Every factor is within what `times` requires, and so are f in ten-thousandths and n; each `times` keeps the limit.
 use native.Mathlib.Omega.{arith}
 use borrow.Author.Needs.{needs}
 use Rattle.printed_figures.proofs.tolerance.near_year.Statement.{statement}

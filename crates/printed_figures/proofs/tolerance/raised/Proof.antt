@@ -1,3 +1,4 @@
+-- The product is at most limit × 100,000, which fits 64 bits with 9,999 added; `capped` keeps the result within the limit.
 use Prim.Native.Nat.{ℕ, _*_, _≤_}
 use native.Mathlib.Nat.{mul-le-mul}
 use Rattle.printed_figures.specs.Tolerance.{limit}

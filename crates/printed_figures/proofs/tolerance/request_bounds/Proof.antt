@@ -1,3 +1,4 @@
+-- A request that stands lies within document 01's limits (`request-within-limits`), which is what `bounds_of` requires.
 use mathlib.Core.Path.{_≡_}
 use Rattle.tagged.specs.declared.file.Standing.the-variants.{Stands}
 use Rattle.request.specs.Request.{requestOf}

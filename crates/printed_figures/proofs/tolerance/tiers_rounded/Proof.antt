@@ -1,3 +1,4 @@
+-- The loop keeps that no more tiers are counted than are passed; at most five are passed.
 use Prim.Native.Nat.{_≤_, _-_}
 use mathlib.Core.Logic.{⊎-elim}
 use native.Mathlib.Omega.{arith}

@@ -1,3 +1,4 @@
+-- Each value is read from the field found, whose length the rows fix (book-sizes), so every offset lies within it.
 use mathlib.Core.Path.{_≡_, refl, ap}
 use native.Mathlib.Omega.{arith}
 use lib.ListN.{length}

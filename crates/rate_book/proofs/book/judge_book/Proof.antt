@@ -1,3 +1,4 @@
+-- The judgements are the definition's, in its order; the Passes after its last one changes nothing (in-order-end).
 use mathlib.Core.Path.{refl}
 use borrow.Author.Needs.{needs}
 use Rattle.field_values.specs.Judged.{narrow}

@@ -1,3 +1,4 @@
+-- Field 03 has 40 bytes (book-sizes), so both sums can be read; the two judgements are the definition's, in its order.
 use mathlib.Core.Path.{_≡_, ap}
 use native.Mathlib.Omega.{arith}
 use lib.ListN.{length}

@@ -1,3 +1,4 @@
+-- Field 06 has 14 bytes within the fields (book-sizes), so no place overflows; the judgements are the definition's, in its order.
 use mathlib.Core.Path.{_≡_, ap}
 use native.Mathlib.Omega.{arith}
 use lib.ListN.{length}

@@ -1,3 +1,4 @@
+-- Every value is the definition's: 0, or the factors that no_factors gives.
 use borrow.Author.Needs.{needs}
 use Rattle.rate_book.proofs.book.no_book.Statement.{statement}
 use Rattle.rate_book.proofs.book.no_book.Tie as tie

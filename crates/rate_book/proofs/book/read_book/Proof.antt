@@ -1,3 +1,4 @@
+-- Each return is one case of the definition; the fields of a book that stands walk (book-walks), as the reading of its rates needs.
 use mathlib.Core.Path.{sym, _∙_}
 use borrow.Author.Needs.{needs}
 use Rattle.rate_book.specs.BookFacts.{book-refused, book-walks}

@@ -1,3 +1,4 @@
+-- The file stands, so the judgement decides (book-judged): each return is one case of it.
 use borrow.Author.Needs.{needs}
 use Rattle.rate_book.specs.BookFacts.{book-judged, book-walks}
 use Rattle.rate_book.proofs.book.read_standing_book.Statement.{statement}

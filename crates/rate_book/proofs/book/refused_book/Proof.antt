@@ -1,3 +1,4 @@
+-- The refusal is as given, and the book is that of no_book.
 use borrow.Author.Needs.{needs}
 use Rattle.rate_book.proofs.book.refused_book.Statement.{statement}
 use Rattle.rate_book.proofs.book.refused_book.Tie as tie

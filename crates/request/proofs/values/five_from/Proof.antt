@@ -1,3 +1,4 @@
+-- The fifth number ends within the value, so the four before it do too and no offset overflows; each read is the definition's number.
 use borrow.Author.Needs.{needs}
 use Rattle.request.proofs.values.five_from.Statement.{statement}
 use Rattle.request.proofs.values.five_from.Tie as tie

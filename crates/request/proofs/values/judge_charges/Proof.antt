@@ -1,3 +1,4 @@
+-- The two judgements are joined in the definition's order, and nothing follows the last; the widths of the limits are checked by computation.
 use mathlib.Core.Path.{refl, sym, _∙_}
 use borrow.Author.Needs.{needs}
 use Rattle.field_values.specs.Judged.{narrow}

@@ -1,3 +1,4 @@
+-- The nine judgements are joined in the definition's order, from the last one back, each equal to the definition's by its own contract.
 use mathlib.Core.Path.{refl, sym, _∙_}
 use borrow.Author.Needs.{needs}
 use Rattle.field_values.specs.Judged.{narrow}

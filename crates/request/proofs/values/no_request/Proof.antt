@@ -1,3 +1,4 @@
+-- By computation: zeros on both sides, and no factors by the contract of `no_factors`.
 use borrow.Author.Needs.{needs}
 use Rattle.request.proofs.values.no_request.Statement.{statement}
 use Rattle.request.proofs.values.no_request.Tie as tie

@@ -1,3 +1,4 @@
+-- Each return is one case of the definition; the values may be read where the file stands, since its fields then walk.
 use mathlib.Core.Path.{_≡_, sym, ap, _∙_}
 use borrow.Author.Needs.{needs}
 use Rattle.field_walk.specs.Walk.{walk}

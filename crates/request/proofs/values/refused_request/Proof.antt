@@ -1,3 +1,4 @@
+-- By computation, with the values of `no_request` by its contract.
 use borrow.Author.Needs.{needs}
 use Rattle.request.proofs.values.refused_request.Statement.{statement}
 use Rattle.request.proofs.values.refused_request.Tie as tie

@@ -1,3 +1,4 @@
+-- The walk fixes the length of each field, so every read is within the part found; each value is the definition's at the same offset.
 use Prim.Native.Nat.{ℕ, _≤_}
 use mathlib.Core.Path.{_≡_, ap, _∙_}
 use lib.ListN.{length}

@@ -1,3 +1,4 @@
+-- The number that is read and the check that is computed are the two that the definition compares.
 use native.Mathlib.Omega.{arith}
 use lib.ListN.{length-take}
 use borrow.Author.Needs.{needs}

@@ -1,3 +1,4 @@
+-- Below five bytes the size less 5 counts as 0, so the part is empty; otherwise it is the definition's. Both start where the file does.
 use Prim.Native.Nat.{_-_}
 use mathlib.Core.Path.{_≡_, refl}
 use native.Mathlib.Omega.{arith}

@@ -1,3 +1,4 @@
+-- Each return is one case of the definition, in its order; where the last five bytes stand, 2 can be taken from the size.
 use Prim.Native.Nat.{ℕ}
 use mathlib.Core.Path.{_≡_, refl, sym, ap, _∙_}
 use mathlib.Core.List.{List}

@@ -1,3 +1,4 @@
+-- The tests are the definition's, in its order; after the first the file has five bytes, so each place lies within it.
 use borrow.Author.Needs.{needs}
 use borrow.Author.Tests.{lt-ltb, le-ltb, eq-eqb, ne-eqb}
 use Rattle.tagged.proofs.file.tail_stands.Statement.{statement}

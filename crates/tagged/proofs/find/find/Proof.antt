@@ -1,3 +1,4 @@
+-- place_of gives the definition's place, which lies within the fields, and part gives the part there.
 use borrow.Author.Needs.{needs}
 use Rattle.tagged.proofs.find.find.Statement.{statement}
 use Rattle.tagged.proofs.find.find.Tie as tie

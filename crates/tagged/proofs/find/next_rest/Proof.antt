@@ -1,3 +1,4 @@
+-- rest_place gives the definition's place, which lies within the rest, and part gives the part there.
 use borrow.Author.Needs.{needs}
 use Rattle.tagged.proofs.find.next_rest.Statement.{statement}
 use Rattle.tagged.proofs.find.next_rest.Tie as tie

@@ -1,3 +1,4 @@
+-- value_place gives the definition's place, which lies within the rest, and part gives the part there.
 use borrow.Author.Needs.{needs}
 use Rattle.tagged.proofs.find.next_value.Statement.{statement}
 use Rattle.tagged.proofs.find.next_value.Tie as tie

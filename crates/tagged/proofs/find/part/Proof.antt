@@ -1,3 +1,4 @@
+-- By the two cases of a place: the one given lies within the file, so the slice is its part; Nowhere gives no bytes.
 use Prim.Native.Nat.{ℕ, _+_, _≤_}
 use mathlib.Core.Path.{ap, refl, subst}
 use native.Mathlib.Nat.{add-sub-cancel-left}

@@ -1,3 +1,4 @@
+-- The loop keeps that the search in the rest decides that in the file; a whole field ends within the rest, so each rest is shorter.
 use Prim.Native.Nat.{_+_, _≤_}
 use mathlib.Core.Path.{sym}
 use native.Mathlib.Omega.{arith}

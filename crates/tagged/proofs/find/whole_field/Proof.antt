@@ -1,3 +1,4 @@
+-- The tests are the definition's; after the first there are three bytes, so the length can be read.
 use borrow.Author.Tests.{lt-ltb, le-ltb}
 use borrow.Author.Needs.{needs}
 use Rattle.tagged.proofs.find.whole_field.Statement.{statement}

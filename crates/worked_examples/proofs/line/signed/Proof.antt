@@ -1,3 +1,4 @@
+-- Below 0, -1 less n is from 0 to 2^63 - 1, so that no step overflows; otherwise n is its own size.
 use mir.Syntax.{w64}
 use mir.ValLaws.{toZ-pos}
 use Rattle.worked_examples.proofs.Signs.{below-zero, not-below-zero}

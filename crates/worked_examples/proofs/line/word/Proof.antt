@@ -1,3 +1,4 @@
+-- The loop keeps the end from the start to the text's length, so that both parts returned lie within the text.
 use Prim.Native.Nat.{_≤_, _-_}
 use lib.ListN.{length}
 use borrow.Author.Needs.{needs}
