@@ -1,4 +1,4 @@
--- each scheme has its place
+-- Each return is one case of the definition; the scheme and K found by place are those of the books (scheme-by-place, capacity-by-place).
 use Prim.Native.Nat.{_≤_}
 use mathlib.Core.Path.{sym, _∙_}
 use native.Mathlib.Omega.{arith}
@@ -12,6 +12,7 @@ use Rattle.verdict.specs.Snapshot.{snapshotBooks}
 use Rattle.verdict.proofs.joining_part.Statement.{statement}
 use Rattle.verdict.proofs.joining_part.Tie as tie
 
+-- each scheme has its place
 fits : (start : tie.Start) → start .args .ledger .count ≤ length (start .args .ledger .schemes)
 fits start = omega (arith, start .pre .0, schemes-places (start .args .ledger) _ (start .good .0))
 
