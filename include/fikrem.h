@@ -4,6 +4,9 @@
  * call allocates, keeps anything or writes past the sizes that it is handed. Every buffer is a pointer and its size in elements.
  * No pointer is NULL, also where its size is 0, and no two buffers of one call overlap where one of them is written.
  *
+ * docs/FORMAT.md has the bytes of a rate book, a request and a stored ledger with every limit; docs/RULES.md the rules: which bespoke
+ * rates are allowed ('Charge and reconciliation'), when a scheme opens or is joined ('Accept'), which ledgers are sound ('Soundness').
+ *
  * Money is in whole cents, capacity in hundredths of a kVA; a month is year * 12 + (month - 1), so that April 2026 is 24315.
  *
  * A call takes at most this much stack, in KiB, as c/stack.c measures it on a painted stack with the longest ledger: price 4, slip

@@ -1,4 +1,4 @@
-"""The rate book and the request of each example of document 000 that the program worked_examples prices.
+"""The rate book and the request of each example of document 000 (docs/WORKED_EXAMPLES.md) that the program worked_examples prices.
 
 Numbers in brackets are document 000's paragraphs. Factors are in ten-thousandths, money in cents, rates in
 cents per kVA, demands in hundredths of a kVA.

@@ -3,7 +3,8 @@
 A reference of RULES is `path: name, name`, where a path starts in crates/ or is rust/..; a cell is a dash or references with commas between them, and the
 edits have a column of their own. Of PROMISES are checked: `name` in `path`, with names before it; paths that start with crates/; `crate::module::function`;
 and a theorem's name, which has a hyphen, in any file. Every must-fail edit stands in one of the two pages, and so does every public theorem that nothing
-else uses, since it is there for the reader alone. Prints what is missing and ends with 1.
+else uses, since it is there for the reader alone. A heading that a comment or a page cites as document 01's (`Document 01, 'Accept'`, document 01's
+'The slip') is one of RULES, and words that are quoted from document 01 come with theirs. Prints what is missing and ends with 1.
 
 With --gaps it prints the rules that have no theorem or row, and those that have no edit.
 """
@@ -19,6 +20,9 @@ REFERENCE = rf"`([\w./-]+): ({WORD}(?:, {WORD})*)`"
 CELL = re.compile(rf"{REFERENCE}(?:, {REFERENCE})*")
 NAMED_IN = re.compile(r"((?:`[^`]+`(?: \([^()]*\))?(?:, and |, | and )?)+) in `(crates/[^`]+)`")
 MODIFIERS = ("abbrev", "unfoldable", "pub")
+CITED = re.compile(r"[Dd]ocument 01(?:,|'s(?: \w+)?) ('[^']+'(?:(?:,| and) '[^']+')*)")
+QUOTED = re.compile(r'[Dd]ocument 01: "')
+CITING = (".antt", ".rt", ".edit", ".rs", ".h", ".md")
 
 
 def definitions(text):
@@ -149,6 +153,19 @@ def theorems_for_readers(texts):
                     yield file.relative_to(root), name
 
 
+def check_headings(failures):
+    """Holds each heading that is cited as document 01's against those of RULES; how many are cited."""
+    headings = set(re.findall(r"(?m)^#+ (.+)$", (root / "docs/RULES.md").read_text()))
+    cited = 0
+    for file in sorted(file for folder in ("crates", "include", "rust", "docs") for file in (root / folder).rglob("*") if file.suffix in CITING):
+        text = re.sub(r"\s*\n\s*(?:--|//[/!]?|\*)?\s*", " ", file.read_text())
+        names = [name for span in CITED.findall(text) for name in re.findall(r"'([^']+)'", span)]
+        cited += len(names)
+        failures += [f"{file.relative_to(root)}: document 01's '{name}' is no heading of docs/RULES.md" for name in names if name not in headings]
+        failures += [f"{file.relative_to(root)}: a quotation of document 01 without its heading"] * len(QUOTED.findall(text))
+    return cited
+
+
 def print_gaps(found):
     for column in ("Theorem or row", "Edit"):
         print(f"No {column.lower()}:")
@@ -163,6 +180,7 @@ def main():
     everywhere = {name for file, text in texts.items() if file.suffix == ".antt" for name, _ in definitions(text)}
     found = check_rules(failures, cited)
     promised = check_promises(failures, cited, everywhere)
+    headings = check_headings(failures)
     edits = sorted((root / "crates").glob("*/must-fail/*.edit"))
     failures += [f"{edit.relative_to(root)}: on neither page" for edit in edits if edit.stem not in cited]
     failures += [f"{file}: {name} is used nowhere and on neither page" for file, name in theorems_for_readers(texts) if name not in cited]
@@ -172,7 +190,7 @@ def main():
         print(failure)
     if failures or not found:
         sys.exit(1)
-    print(f"docs/RULES.md: {len(found)} rules; docs/PROMISES.md: {promised} names with their files; {len(edits)} edits")
+    print(f"docs/RULES.md: {len(found)} rules; docs/PROMISES.md: {promised} names with their files; {len(edits)} edits; {headings} headings of document 01 cited")
 
 
 main()

@@ -17,7 +17,7 @@ def carry_out():
   count = plan .«added_count»
 
   abbrev after : List Party
-  after = carriedOut entries table plan
+  after = planCarriedOut entries table plan
 
   after-length : length after ≡ length table
   after-length = length-sets credited entries (take count (plan .added)) ∙ credited-length
@@ -30,10 +30,10 @@ def carry_out():
         requires="PlanFits entries (length table) table plan",
         imports=[
             "use lib.Seq.{length-sets}",
-            "use Rattle.ledger.specs.Table.{creditEach}",
-            "use Rattle.ledger.specs.TableLaws.{length-credit-each}",
-            "use Rattle.acceptance.specs.PlanFits.{CreditsFit, PlanFits}",
-            "use Rattle.pioneer_accept.specs.Calls.{carriedOut}",
+            "use Rattle.ledger.specs.Table.{creditEach, CreditsFit}",
+            "use Rattle.ledger.specs.Theorems.Table.{length-credit-each}",
+            "use Rattle.acceptance.specs.PlanFits.{PlanFits}",
+            "use Rattle.acceptance.specs.PlanCarried.{planCarriedOut}",
         ],
     )
     entries = ("entries", U32, "entries-fits")
@@ -41,7 +41,7 @@ def carry_out():
     walk.point_again("_5", "_6")
     walk.call("credits_of", [planned], ["_3"], CREDITS, "shares", "shares ≡ plan .credits")
     shares = walk.got_value(CREDITS, "shares", "_7", "(plan .credits)")
-    fact = "(entries ≤ 512) × (entries ≤ length table) × CreditsFit entries table (plan .credits)"
+    fact = "(entries ≤ mostEntries) × (entries ≤ length table) × CreditsFit entries table (plan .credits)"
     proof = "(omega (arith, required .limit), omega (arith, required .places), required .credits)"
     arguments, read = [walk.lend_again(), entries, shares], ["_6", "_2", "_7"]
     walk.call("party_table::credit_each", arguments, read, NOTHING, "done", "last .0 ≡ credited", requires=(fact, proof))
@@ -85,7 +85,7 @@ def accept():
   after-length : length after ≡ length table
   after-length = plan-length ledger table plan
 
-  places : length (ledger .schemes) ≡ 64
+  places : length (ledger .schemes) ≡ mostSchemes
   places = schemes-length ledger _ ledger-fits
 
   carries : T (not (notAccepted (plan .answer))) → PlanFits (ledger .entries) (length table) table plan
@@ -99,14 +99,17 @@ def accept():
         "pioneer_accept", "accept", [("ledger", LEDGER), ("table", TABLE), ("book", BYTES_SEEN), ("request", BYTES_SEEN)], types,
         ["party_table::snapshot", "acceptance::accept::accept", "not_accepted", "accept_result", "carry_out"], definitions,
         result=(ACCEPT_RESULT, result),
-        says="plan-promised ledger table places book request",
+        says="plan-promised (same-entries ledger table) places book request",
         imports=[
             "use Rattle.charge.specs.Price.{priceOf}",
             "use Rattle.acceptance.specs.Plan.{planOf, planTable}",
             "use Rattle.acceptance.specs.PlanFits.{PlanFits}",
+            "use Rattle.acceptance.specs.Theorems.PlanPromised.{plan-promised}",
             "use Rattle.party_table.specs.PartyTable.{snapshotOf}",
-            "use Rattle.pioneer_accept.specs.Calls.{notAccepted, carriedOut, acceptResult}",
-            "use Rattle.pioneer_accept.proofs.Plans.{plan-length, kept-leaves, carried-leaves, plan-carries, plan-promised}",
+            "use Rattle.acceptance.specs.PlanCarried.{planCarriedOut}",
+            "use Rattle.pioneer_accept.specs.AcceptResult.{notAccepted, acceptResult}",
+            "use Rattle.pioneer_accept.specs.Theorems.Snapshots.{same-entries}",
+            "use Rattle.pioneer_accept.proofs.Plans.{plan-length, kept-leaves, carried-leaves, plan-carries}",
             "use Rattle.pioneer_accept.proofs.Records.{entries-fits, schemes-length}",
         ],
     )
@@ -136,7 +139,7 @@ def accept():
     walk.branch("_10", refuses, "t-8")
     walk.point_again("_12", "_13")
     required = ("PlanFits (ledger .entries) (length table) table plan", "carries tested")
-    ensures = "last .0 ≡ carriedOut (ledger .entries) table plan"
+    ensures = "last .0 ≡ planCarriedOut (ledger .entries) table plan"
     walk.call("carry_out", [walk.lend_again(), entries, decided], ["_13", ("_1", 4), "_6"], NOTHING, "done", ensures, requires=required)
     walk.got_unit("done", "_11")
     walk.comes_back()

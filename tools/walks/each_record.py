@@ -126,15 +126,14 @@ def credit_each():
     fits = "subst (λ (p : Party). p .credited + getD credits i 0 < 2 ^ 64) (sym (credited-at i table credits)) (required .2 i l)"
     each(
         "credit_each", [("entries", U32), ("credits", CREDITS)], "0", "credit_one", definitions,
-        requires="(entries ≤ 512) × (entries ≤ length table) × CreditsFit entries table credits",
+        requires="(entries ≤ mostEntries) × (entries ≤ length table) × CreditsFit entries table credits",
         needs=(f"(i < length (changed i)) × ({fact})", f"(there l, {fits})"),
         last="set (changed i) i (creditedMore (getD (changed i) i noParty) (getD credits i 0))",
         next="credited-next i table credits (within l) (inside l)",
         imports=[
-            "use Rattle.ledger.specs.Table.{creditedMore, creditEach}",
-            "use Rattle.party_table.specs.PartyTable.{CreditsFit}",
-            "use Rattle.ledger.specs.TableLaws.{length-credit-each, credit-none}",
-            "use Rattle.ledger.specs.Crediting.{credited-at, credited-next}",
+            "use Rattle.ledger.specs.Table.{creditedMore, creditEach, CreditsFit}",
+            "use Rattle.ledger.specs.Theorems.Table.{length-credit-each, credit-none}",
+            "use Rattle.ledger.specs.Theorems.Crediting.{credited-at, credited-next}",
         ],
     )
 
@@ -154,7 +153,7 @@ def store_each():
 """
     each(
         "store_each", [("entries", U32), ("parties", PARTIES)], "noParty", "put_one", definitions,
-        requires="(entries ≤ 512) × (entries ≤ length table)",
+        requires="(entries ≤ mostEntries) × (entries ≤ length table)",
         needs=("i < length (changed i)", "there l"),
         last="set (changed i) i (getD parties i noParty)",
         next="copied-next i parties table (inside l) (within l)",

@@ -50,7 +50,7 @@ def change_entry(name, parameter, decided, new, imported, one, room):
             f"use Rattle.ledger.specs.Updates.{{{imported}}}",
             f"use Rattle.entry_calls.specs.EntryCalls.{{{decided}, changedTable}}",
             "use Rattle.party_table.specs.PartyTable.{snapshotOf}",
-            "use Rattle.pioneer.specs.Calls.{notDone}",
+            "use Rattle.pioneer.specs.ReadResult.{notDone}",
             f"use Rattle.pioneer.proofs.Changes.{{Changes, changed-length, refused-leaves, done-leaves, {laws}-changes, {laws}-promised}}",
             "use Rattle.pioneer_accept.proofs.Records.{entries-fits}",
             "use Rattle.pioneer.proofs.Records.{paid-out-fits}",

@@ -4,9 +4,9 @@ from writer import *
 
 DEFINITIONS = """\
   abbrev records : ℕ
-  records = min room 512
+  records = min room mostEntries
 
-  all : length parties ≡ 512
+  all : length parties ≡ mostEntries
   all = parties-length parties _ parties-fits
 
   records-room : Room PartyRow records

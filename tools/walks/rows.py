@@ -1,4 +1,4 @@
-"""The types that the walks meet, and how each is written in antt: names of imports.txt and of crates/party_table/proofs/Rows.antt."""
+"""The types that the walks meet, and how each is written in antt: names of imports.txt and of crates/party_table/proofs/MachineValues.antt."""
 import re
 
 from context import atom
@@ -113,9 +113,9 @@ U8 = number("u8", "w8", 8)
 U32 = number("u32", "w32", 32)
 U64 = number("u64", "w64", 64)
 USIZE = number("usize", "w64", 64)
-PARTIES = array(PARTY, 512, f"(party-lawful {GIVEN})")
+PARTIES = array(PARTY, "mostEntries", f"(party-lawful {GIVEN})")
 ADDED = array(PARTY, 2, f"(party-lawful {GIVEN})")
-CREDITS = array(U64, 512, f"(uint-lawful {GIVEN} w64)")
+CREDITS = array(U64, "mostEntries", f"(uint-lawful {GIVEN} w64)")
 # what a function without a result returns
 NOTHING = Row("unit", "Unit {0}", "tyUnit", None, None, None, None, None, None, None)
 
@@ -138,7 +138,7 @@ BYTES, BYTES_SEEN = Slice(True, U8), Slice(False, U8)
 # how many bytes an element has; of an array its elements, and how many they are
 SIZE = {PARTY: 32, U64: 8}
 ELEMENT = {PARTIES: PARTY, ADDED: PARTY, CREDITS: U64}
-COUNT = {PARTIES: 512, ADDED: 2, CREDITS: 512}
+COUNT = {PARTIES: "mostEntries", ADDED: 2, CREDITS: "mostEntries"}
 
 # MIR types of locals
 UNIT, BOOL, POINTER = "tyUnit", "tyBool", "tyPtr"

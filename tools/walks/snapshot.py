@@ -4,35 +4,35 @@ from writer import *
 
 DEFINITIONS = """\
   abbrev count : ℕ
-  count = min (min entries 512) (length table)
+  count = min (min entries mostEntries) (length table)
 
   abbrev zeros : List Party
   zeros = noParties
 
-  zeros-length : length zeros ≡ 512
+  zeros-length : length zeros ≡ mostEntries
   zeros-length = length-no-parties
 
   -- the array where i records are copied
   abbrev parties : ℕ → List Party
   parties i = copied i table zeros
 
-  count-512 : count ≤ 512
-  count-512 = le-trans (min-le-left (min entries 512) (length table)) (min-le-right entries 512)
+  count-most : count ≤ mostEntries
+  count-most = le-trans (min-le-left (min entries mostEntries) (length table)) (min-le-right entries mostEntries)
 
   count-zeros : count ≤ length zeros
-  count-zeros = subst (λ (k : ℕ). count ≤ k) (sym zeros-length) count-512
+  count-zeros = subst (λ (k : ℕ). count ≤ k) (sym zeros-length) count-most
 
   count-table : count ≤ length table
-  count-table = min-le-right (min entries 512) (length table)
+  count-table = min-le-right (min entries mostEntries) (length table)
 
   within : {i : ℕ} → i < count → i < length table
   within l = lt-of-lt-of-le l count-table
 
-  parties-length : {i : ℕ} → i ≤ count → length (parties i) ≡ 512
+  parties-length : {i : ℕ} → i ≤ count → length (parties i) ≡ mostEntries
   parties-length {i} l = copied-length i table zeros (le-trans l count-table) (le-trans l count-zeros) ∙ zeros-length
 
   inside : {i : ℕ} → i < count → i < length (parties i)
-  inside {i} l = subst (λ (k : ℕ). i < k) (sym (parties-length (le-of-lt l))) (lt-of-lt-of-le l count-512)
+  inside {i} l = subst (λ (k : ℕ). i < k) (sym (parties-length (le-of-lt l))) (lt-of-lt-of-le l count-most)
 """
 
 types = [PARTIES.type, slice_of("imm", "named 0"), U32.type, USIZE.type, PARTIES.type, USIZE.type, USIZE.type, PARTIES.type, BOOL]
@@ -42,7 +42,7 @@ walk = Walk(
     result=(PARTIES, "(parties count)"),
     says="copied-snapshot entries table",
     imports=[
-        "use Rattle.ledger.specs.TableLaws.{length-no-parties}",
+        "use Rattle.ledger.specs.Theorems.Table.{length-no-parties}",
         "use Rattle.party_table.proofs.Copying.{copied, copied-next, copied-length, copied-snapshot}",
     ],
 )
@@ -84,6 +84,6 @@ walk.loop(
     bound="count", limit="_3", counter="_5", test="_8",
     invariant=walk.looked() + [("array", "‵ (row PartyRow fullShare (parties i) l₄ 0)")],
     cells={"_1": "table-value", "_2": U32.value("entries"), "_3": USIZE.value("count")},
-    body=turn, after=after, rest="t-7", fits="omega (arith, l, count-512)", share=True,
+    body=turn, after=after, rest="t-7", fits="omega (arith, l, count-most)", share=True,
 )
 walk.write()

@@ -77,8 +77,8 @@ def read():
             "use mathlib.Core.List.{_++_}",
             "use lib.ListN.{drop as dropped}",
             "use Rattle.stored.specs.Reading.{readBack, ReadEnd, readOf}",
-            "use Rattle.pioneer.specs.Calls.{readRefused, readResult}",
-            "use Rattle.stored.specs.ReadFacts.{read-length}",
+            "use Rattle.pioneer.specs.ReadResult.{readRefused, readResult}",
+            "use Rattle.stored.specs.Theorems.ReadLedger.{read-length}",
             "use Rattle.pioneer.proofs.Readings.{read-same, refused-leaves, Stores, standing-stores}",
         ],
     )
@@ -105,7 +105,7 @@ def read():
     walk.call("parties_of", [found], ["_4"], PARTIES, "kept", "kept ≡ back .parties")
     kept = walk.got_value(PARTIES, "kept", "_11", "(back .parties)")
     arguments = [walk.lend_again(), ("(back .ledger .entries)", U32, "(count-known .1)"), kept]
-    fact, proof = "(back .ledger .entries ≤ 512) × (back .ledger .entries ≤ length table)", "(stores tested .limit, stores tested .room)"
+    fact, proof = "(back .ledger .entries ≤ mostEntries) × (back .ledger .entries ≤ length table)", "(stores tested .limit, stores tested .room)"
     ensures = "last .0 ≡ take (back .ledger .entries) (back .parties) ++ dropped (back .ledger .entries) table"
     walk.call("party_table::store_each", arguments, ["_9", "_10", "_11"], NOTHING, "done", ensures, requires=(fact, proof))
     walk.got_unit("done", "_7")

@@ -1,5 +1,4 @@
-pub mod ByPricing
 pub mod AcceptAnswers
 pub mod AlteredFiles
-pub mod AcceptRows
-pub mod MarkedFigures
+pub mod Cases
+pub mod Theorems

@@ -9,12 +9,14 @@ use native.Mathlib.Omega.{arith}
 use lib.Dec.{eqb}
 use lib.ListN.{length, take, getD, set, replicate, length-append, length-map}
 use lib.Seq.{take-suc, set-append-seam, length-take-le}
+use Rattle.field_values.specs.Limits.{highestCapacity}
+use Rattle.ledger.specs.Limits.{mostEntries}
 use Rattle.ledger.specs.Columns.{schemeColumn, capacityColumn, sumOver, sumOf}
-use Rattle.ledger.specs.ColumnsLaws.{of-own, of-other}
+use Rattle.ledger.specs.Theorems.Columns.{of-own, of-other}
 use Rattle.ledger.specs.declared.records.Party.{Party}
-use Rattle.calls.specs.RulesLaws.{rises}
+use Rattle.calls.specs.Theorems.Rules.{rises}
 use Rattle.calls.specs.CreditColumns.{weights, shares}
-use Rattle.calls.specs.CreditColumnsLaws.{length-weights, sum-weights, length-shares}
+use Rattle.calls.specs.Theorems.CreditColumns.{length-weights, sum-weights, length-shares}
 use Rattle.acceptance.specs.Plan.{padded}
 use Rattle.verdict.proofs.Deciding.{capacityUpTo, capacity-own, capacity-other}
 
@@ -63,10 +65,10 @@ capacity-rises s [] (suc i) n h = zero-le
 capacity-rises s (party ∷ parties) (suc i) zero h = absurd (omega arith)
 capacity-rises s (party ∷ parties) (suc i) (suc n) h = omega (arith, capacity-rises s parties i n (omega arith))
 
-pub product-fits : (amount part total : ℕ) → amount < 4294967296 → part ≤ total → total ≤ 512000000 → amount * part < 18446744073709551616
+pub product-fits : (amount part total : ℕ) → amount < 4294967296 → part ≤ total → total ≤ highestCapacity * mostEntries → amount * part < 18446744073709551616
 product-fits amount part total a p t =
     let below : amount ≤ 4294967295 = omega arith in
-    let few : part ≤ 512000000 = omega arith in
+    let few : part ≤ highestCapacity * mostEntries = omega arith in
     omega (arith, mul-le-mul below few)
 
 -- what each of the first i entries is credited of an amount
@@ -79,7 +81,7 @@ pub record Credited (parties : List Party) (s amount total : ℕ) (credits : Lis
   pub capacity : running ≡ capacityUpTo s parties i
   pub together : told ≡ amount * running / total
 
-pub credited-none : (parties : List Party) (s amount total : ℕ) → Credited parties s amount total (replicate 512 0) 0 0 0
+pub credited-none : (parties : List Party) (s amount total : ℕ) → Credited parties s amount total (replicate mostEntries 0) 0 0 0
 unfolding shares weights sumOver
 credited-none parties s amount total = record { each = refl; capacity = refl; together = simp (mul-zero, zero-div) }
 
@@ -111,7 +113,7 @@ module _ {parties : List Party} {s amount total : ℕ} {credits : List ℕ} {run
 
   -- an entry of the scheme
   module _ (own : getD parties i none .scheme ≡ s) where
-    pub credited-own : i < 512 →
+    pub credited-own : i < mostEntries →
         let grown = amount * (running + getD parties i none .capacity) / total in
         Credited parties s amount total (set credits i (grown - told)) (running + getD parties i none .capacity) grown (i + 1)
     credited-own room =
@@ -119,7 +121,7 @@ module _ {parties : List Party} {s amount total : ℕ} {credits : List ℕ} {run
         record {
           each =
               ap₂ (λ figures place. set figures place share) (before .each) (sym shares-length)
-              ∙ filled-set 512 (sharesUpTo s amount total parties i) (omega (arith, shares-length)) share
+              ∙ filled-set mostEntries (sharesUpTo s amount total parties i) (omega (arith, shares-length)) share
               ∙ ap padded (sym (shares-more-at _ (of-own (getD parties i none .scheme) s _ own)));
           capacity = omega (arith, before .capacity, capacity-own s parties i none within own);
           together = refl;
@@ -130,14 +132,14 @@ module _ {parties : List Party} {s amount total : ℕ} {credits : List ℕ} {run
         omega (arith, before .capacity, capacity-own s parties i none within own, capacity-rises s parties (i + 1) entries (omega arith))
 
   -- an entry of another scheme
-  pub credited-other : (getD parties i none .scheme ≡ s → ⊥) → i < 512 → Credited parties s amount total credits running told (i + 1)
+  pub credited-other : (getD parties i none .scheme ≡ s → ⊥) → i < mostEntries → Credited parties s amount total credits running told (i + 1)
   credited-other other room =
       let no-share : amount * (running + 0) / total - told ≡ 0 = rw (add-zero, before .together) (omega arith) in
       let longer : sharesUpTo s amount total parties (i + 1) ≡ sharesUpTo s amount total parties i ++ (0 ∷ []) =
       shares-more-at 0 (of-other (getD parties i none .scheme) s _ other)
       ∙ ap (λ share. sharesUpTo s amount total parties i ++ (share ∷ [])) no-share in
       record {
-        each = before .each ∙ filled-zero 512 (sharesUpTo s amount total parties i) (omega (arith, shares-length)) ∙ ap padded (sym longer);
+        each = before .each ∙ filled-zero mostEntries (sharesUpTo s amount total parties i) (omega (arith, shares-length)) ∙ ap padded (sym longer);
         capacity = omega (arith, before .capacity, capacity-other s parties i none within other);
         together = before .together;
       }

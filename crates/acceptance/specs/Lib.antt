@@ -1,6 +1,6 @@
+pub mod PlanCarried
 pub mod Plan
-pub mod PlanNeeds
-pub mod PlanLaws
-pub mod PlanIsCall
 pub mod PlanFits
-pub mod AcceptedRows
+pub mod PlanNeeds
+pub mod Cases
+pub mod Theorems

@@ -4,16 +4,16 @@ use Prim.Native.Nat.{ℕ, _+_, _-_}
 use mathlib.Core.List.{List, [], _++_}
 use mathlib.Core.Bool.{Bool, true, false, cond}
 use lib.ListN.{length, take, getD, set, replicate}
-use lib.Seq.{sets}
 use Rattle.tagged.specs.File.{refusal}
+use Rattle.tagged.specs.Refusals.{ledgerUnsound}
 use Rattle.tagged.specs.declared.file.Refusal.{Refusal}
 use Rattle.charge.specs.declared.Bill.{Bill}
 use Rattle.charge.specs.declared.Pricing.{Pricing}
 use Rattle.charge.specs.declared.Pricing.the-variants.{Priced, NotPriced}
+use Rattle.ledger.specs.Limits.{mostEntries}
 use Rattle.ledger.specs.Records.{noScheme, noParty}
 use Rattle.ledger.specs.Updates.{withFees, withConnection, withEntries, withSchemes}
 use Rattle.ledger.specs.Lookup.{schemePlace}
-use Rattle.ledger.specs.Table.{creditEach}
 use Rattle.ledger.specs.Sound.{sound}
 use Rattle.ledger.specs.declared.records.Party.{Party}
 use Rattle.ledger.specs.declared.records.Ledger.{Ledger}
@@ -31,11 +31,11 @@ use Rattle.calls.specs.declared.courses.Verdict.the-variants.{Accepts, Refuses}
 use Rattle.calls.specs.declared.answers.AcceptAnswer.{AcceptAnswer}
 use Rattle.calls.specs.declared.answers.AcceptAnswer.the-variants.{Accepted, NotAccepted}
 use Rattle.verdict.specs.Snapshot.{snapshotBooks}
+use Rattle.acceptance.specs.PlanCarried.{planCarriedOut}
 use Rattle.acceptance.specs.declared.accept.Plan.{Plan}
 use Rattle.acceptance.specs.declared.accept.Added.{Added}
 
 -- ---- the ledger
-
 abbrev pub bookedLedger : Bill → Ledger → Ledger
 bookedLedger bill ledger = withConnection (bill .applicant .month) (bill .reconciliation .cc) (bill .reconciliation .borne) ledger
 
@@ -62,10 +62,9 @@ openedLedger false bill ledger = ledger
 openedLedger true bill ledger =
     withEntries (ledger .entries + 1) (withSchemes (ledger .count + 1) (set (ledger .schemes) (ledger .count) (newScheme bill)) ledger)
 
--- ---- what each entry is credited: 512 figures, nothing for those past the last
-
+-- ---- what each entry is credited: a figure for each place, nothing for those past the last
 abbrev pub padded : List ℕ → List ℕ
-padded figures = figures ++ replicate (512 - length figures) 0
+padded figures = figures ++ replicate (mostEntries - length figures) 0
 
 abbrev pub creditsBy : List Party → Bill → Joining → List ℕ
 creditsBy entries bill NotAsked = []
@@ -74,7 +73,6 @@ creditsBy entries bill Small = []
 creditsBy entries bill (Pays paid) = creditsAmong (bill .applicant .scheme) (paid .collected - paid .fee) entries
 
 -- ---- the entries that are added: a joiner's, then the first of a scheme that opens
-
 abbrev pub noneAdded : Added
 noneAdded = record { parties = replicate 2 noParty; count = 0 }
 
@@ -91,7 +89,6 @@ abbrev pub openerAdded : ℕ → Bill → Bool → Added → Added
 openerAdded number bill opens added = cond opens (entryAdded (newParty number bill (bill .reconciliation .x)) added) added
 
 -- ---- the plan
-
 abbrev pub refusedPlan : Ledger → Refusal → Plan
 refusedPlan ledger r =
     record { answer = NotAccepted r; ledger = ledger; credits = padded []; added = noneAdded .parties; «added_count» = noneAdded .count }
@@ -120,14 +117,12 @@ pricedPlan ledger parties room (NotPriced r) = refusedPlan ledger r
 
 unfoldable pub planOf : Ledger → List Party → ℕ → Pricing → Plan
 planOf ledger parties room pricing =
-    cond (sound ledger parties room) (pricedPlan ledger parties room pricing) (refusedPlan ledger (refusal 13 0 0))
+    cond (sound ledger parties room) (pricedPlan ledger parties room pricing) (refusedPlan ledger (refusal ledgerUnsound 0 0))
 
 -- ---- the table that a plan makes
-
 abbrev pub planTable : Ledger → List Party → Plan → List Party
 planTable ledger table plan = byAnswer (plan .answer)
   where
     byAnswer : AcceptAnswer → List Party
-    byAnswer (Accepted acceptance) =
-        sets (creditEach table (take (ledger .entries) (plan .credits))) (ledger .entries) (take (plan .«added_count») (plan .added))
+    byAnswer (Accepted acceptance) = planCarriedOut (ledger .entries) table plan
     byAnswer (NotAccepted r) = table

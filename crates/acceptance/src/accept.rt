@@ -10,17 +10,23 @@ use calls::courses::Joining;
 use calls::courses::Verdict;
 use charge::Bill;
 use charge::Pricing;
+use ledger::limits::Credits;
+use ledger::limits::MOST_ENTRIES;
+use ledger::limits::Parties;
 use ledger::lookup::SchemeAt;
 use ledger::records::Ledger;
 use ledger::records::Party;
 use ledger::records::Scheme;
 use tagged::file::Refusal;
+use tagged::refusals::LEDGER_UNSOUND;
 ghost use mathlib.Core.Path.{_≡_};
 ghost use mathlib.Core.Bool.{true, cond};
-ghost use Prim.Native.Nat.{ℕ, _+_, _<_, _≤_};
+ghost use Prim.Native.Nat.{ℕ, _+_, _*_, _<_, _≤_};
 ghost use lib.ListN.{take};
 ghost use Rattle.charge.specs.Price.{priceOf};
-ghost use Rattle.charge.specs.PriceFacts.{BillWithin};
+ghost use Rattle.charge.specs.BillLimits.{BillWithin};
+ghost use Rattle.field_values.specs.Limits.{highestCapacity};
+ghost use Rattle.ledger.specs.Limits.{mostSchemes, mostEntries};
 ghost use Rattle.ledger.specs.Books.{Books};
 ghost use Rattle.ledger.specs.Columns.{schemeColumn, capacityColumn, sumOver};
 ghost use Rattle.ledger.specs.Sound.{sound};
@@ -35,7 +41,7 @@ ghost use Rattle.acceptance.specs.PlanNeeds.{Bookable, FeeDue, FeesDue, 
 pub struct Plan {
     pub answer: AcceptAnswer,
     pub ledger: Ledger,
-    pub credits: [u64; 512],
+    pub credits: Credits,
     pub added: [Party; 2],
     pub added_count: u32,
 }
@@ -94,7 +100,7 @@ fn joined(ledger: Ledger, bill: Bill, joining: Joining) -> Ledger
 
 // The scheme that opens, and its first entry counted.
 fn opened(ledger: Ledger, bill: Bill, opens: bool) -> Ledger
-    requires { ⌜ (opens ≡ true → (ledger .count < 64) × (ledger .entries < 512)) × BillWithin bill ⌝ }
+    requires { ⌜ (opens ≡ true → (ledger .count < mostSchemes) × (ledger .entries < mostEntries)) × BillWithin bill ⌝ }
     ensures { λ r. ⌜ r ≡ openedLedger opens bill ledger ⌝ }
 {
     if !opens {
@@ -120,17 +126,11 @@ fn opened(ledger: Ledger, bill: Bill, opens: bool) -> Ledger
 // ---- what each entry is credited
 
 // Each entry of a scheme, of an amount: what the quotient by the running capacity grows by.
-fn credits_of(
-    parties: [Party; 512],
-    entries: u32,
-    scheme: u16,
-    amount: u64,
-    total: u64,
-) -> [u64; 512]
-    requires { ⌜ (entries ≤ 512) × (amount < 4294967296) × (1 ≤ total) × (total ≤ 512000000) × (total ≡ sumOver scheme (schemeColumn (take entries parties)) (capacityColumn (take entries parties))) ⌝ }
+fn credits_of(parties: Parties, entries: u32, scheme: u16, amount: u64, total: u64) -> Credits
+    requires { ⌜ (entries ≤ mostEntries) × (amount < 4294967296) × (1 ≤ total) × (total ≤ highestCapacity * mostEntries) × (total ≡ sumOver scheme (schemeColumn (take entries parties)) (capacityColumn (take entries parties))) ⌝ }
     ensures { λ r. ⌜ r ≡ padded (creditsAmong scheme amount (take entries parties)) ⌝ }
 {
-    let mut credits = [0u64; 512];
+    let mut credits = [0u64; MOST_ENTRIES];
     let mut before: u64 = 0;
     let mut told: u64 = 0;
     let mut i = 0;
@@ -147,11 +147,11 @@ fn credits_of(
     credits
 }
 
-fn credits_by(parties: [Party; 512], entries: u32, bill: Bill, joining: Joining) -> [u64; 512]
-    requires { ⌜ (entries ≤ 512) × CreditsDue (take entries parties) bill joining ⌝ }
+fn credits_by(parties: Parties, entries: u32, bill: Bill, joining: Joining) -> Credits
+    requires { ⌜ (entries ≤ mostEntries) × CreditsDue (take entries parties) bill joining ⌝ }
     ensures { λ r. ⌜ r ≡ padded (creditsBy (take entries parties) bill joining) ⌝ }
 {
-    let none = [0u64; 512];
+    let none = [0u64; MOST_ENTRIES];
     match joining {
         Joining::NotAsked => none,
         Joining::Ended => none,
@@ -227,7 +227,7 @@ fn opener_added(added: Added, number: u16, bill: Bill, opens: bool) -> Added
 // ---- the answer
 
 fn joining_answer(entries: u32, joining: Joining) -> JoiningAnswer
-    requires { ⌜ entries ≤ 512 ⌝ }
+    requires { ⌜ entries ≤ mostEntries ⌝ }
     ensures { λ r. ⌜ ((books : Books) → books .nextEntry ≡ entries + 1 → r ≡ joiningAnswer books joining) ⌝ }
 {
     match joining {
@@ -260,13 +260,13 @@ fn refused_plan(ledger: Ledger, refusal: Refusal) -> Plan
     Plan {
         answer: AcceptAnswer::NotAccepted(refusal),
         ledger,
-        credits: [0u64; 512],
+        credits: [0u64; MOST_ENTRIES],
         added: parties,
         added_count: added.count,
     }
 }
 
-fn course_plan(ledger: Ledger, parties: [Party; 512], bill: Bill, course: Course) -> Plan
+fn course_plan(ledger: Ledger, parties: Parties, bill: Bill, course: Course) -> Plan
     requires { ⌜ CourseDue ledger parties bill course ⌝ }
     ensures { λ r. ⌜ ((room : ℕ) → r ≡ coursePlan ledger parties room bill course) ⌝ }
 {
@@ -295,7 +295,7 @@ fn course_plan(ledger: Ledger, parties: [Party; 512], bill: Bill, course: Course
     }
 }
 
-fn bill_plan(ledger: Ledger, parties: [Party; 512], room: usize, bill: Bill) -> Plan
+fn bill_plan(ledger: Ledger, parties: Parties, room: usize, bill: Bill) -> Plan
     requires { ⌜ (sound ledger parties room ≡ true) × BillWithin bill ⌝ }
     ensures { λ r. ⌜ r ≡ billPlan ledger parties room bill ⌝ }
 {
@@ -316,7 +316,7 @@ fn bill_plan(ledger: Ledger, parties: [Party; 512], room: usize, bill: Bill) -> 
 // then by the verdict.
 pub fn accept_sound(
     ledger: Ledger,
-    parties: [Party; 512],
+    parties: Parties,
     room: usize,
     book: &[u8],
     request: &[u8],
@@ -331,20 +331,14 @@ pub fn accept_sound(
 }
 
 // The same on any ledger: 13 first.
-pub fn accept(
-    ledger: Ledger,
-    parties: [Party; 512],
-    room: usize,
-    book: &[u8],
-    request: &[u8],
-) -> Plan
+pub fn accept(ledger: Ledger, parties: Parties, room: usize, book: &[u8], request: &[u8]) -> Plan
     ensures { λ r. ⌜ r ≡ planOf ledger parties room (priceOf (now (book .entry)) (now (request .entry))) ⌝ }
 {
     if !ledger::sound::sound(ledger, parties, room) {
         return refused_plan(
             ledger,
             Refusal {
-                number: 13,
+                number: LEDGER_UNSOUND,
                 file: 0,
                 place: 0,
             },

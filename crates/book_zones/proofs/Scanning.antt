@@ -8,6 +8,7 @@ use native.Mathlib.Omega.{arith}
 use lib.ListN.{length, getD, take, drop, drop-of-length-le}
 use lib.Seq.{drop-cons, getD-take, length-take-le}
 use lib.Dec.{leb}
+use Rattle.field_values.specs.Limits.{tierCount, highestRate}
 use Rattle.field_values.specs.Judged.{judge, inOrder, firstFailure}
 use Rattle.field_values.specs.declared.judged.Judged.{Judged}
 use Rattle.field_values.specs.declared.judged.Judged.the-variants.{Passes}
@@ -51,8 +52,8 @@ module _ (first : ℕ) (n i : ℕ) where
 abbrev pub judgeTiers : ℕ → List ℕ → ℕ → Judged
 judgeTiers at row tier = firstFailure (drop tier (rowJudgements at row))
 
-pub tier-on : (at : ℕ) (row : List ℕ) (tier : ℕ) → tier < 5 → judgeTiers at row tier ≡
-    inOrder (judge (leb (getD row tier 0) 10000000) (at + 4 * tier + 1)) (judgeTiers at row (tier + 1))
+pub tier-on : (at : ℕ) (row : List ℕ) (tier : ℕ) → tier < tierCount → judgeTiers at row tier ≡
+    inOrder (judge (leb (getD row tier 0) highestRate) (at + 4 * tier + 1)) (judgeTiers at row (tier + 1))
 tier-on at row zero h = rw add-assoc
 tier-on at row (suc zero) h = rw add-assoc
 tier-on at row (suc (suc zero)) h = rw add-assoc
@@ -60,5 +61,5 @@ tier-on at row (suc (suc (suc zero))) h = rw add-assoc
 tier-on at row (suc (suc (suc (suc zero)))) h = rw add-assoc
 tier-on at row (suc (suc (suc (suc (suc tier))))) h = absurd (omega arith)
 
-pub tier-end : (at : ℕ) (row : List ℕ) (tier : ℕ) → 5 ≤ tier → judgeTiers at row tier ≡ Passes
+pub tier-end : (at : ℕ) (row : List ℕ) (tier : ℕ) → tierCount ≤ tier → judgeTiers at row tier ≡ Passes
 tier-end at row tier h = ap firstFailure (drop-of-length-le _ h)

@@ -1,5 +1,5 @@
-pub mod Rows
+pub mod BookRows
 pub mod Zones
-pub mod ZonesStand
-pub mod ZonesLaws
-pub mod ZonesWithin
+pub mod ZoneLimits
+pub mod Cases
+pub mod Theorems

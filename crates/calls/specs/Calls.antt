@@ -1,11 +1,12 @@
 -- Each call on a ledger and its table: what it answers and leaves, its promise, and the traces of calls made one after the other.
 use Prim.Native.Nat.{_^_, _<_}
-use mathlib.Core.Path.{_≡_, ap}
+use mathlib.Core.Path.{_≡_}
 use mathlib.Core.List.{List, [], _∷_}
 use mathlib.Core.Bool.{cond}
 use lib.ListN.{length}
 use Rattle.numbers.specs.BigEndian.{Bytes}
 use Rattle.tagged.specs.File.{refusal}
+use Rattle.tagged.specs.Refusals.{ledgerUnsound}
 use Rattle.ledger.specs.Sound.{sound}
 use Rattle.ledger.specs.declared.records.Party.{Party}
 use Rattle.ledger.specs.declared.records.Ledger.{Ledger}
@@ -19,7 +20,7 @@ stateOf ledger table = record { ledger = ledger; table = table }
 -- 13 comes before everything else: "ledger unsound, or table shorter than its entries"
 abbrev pub decidedOn : State → Call → Decision
 decidedOn state call =
-    cond (sound (state .ledger) (state .table) (length (state .table))) (decided (booksOn state) call) (refused (refusal 13 0 0))
+    cond (sound (state .ledger) (state .table) (length (state .table))) (decided (booksOn state) call) (refused (refusal ledgerUnsound 0 0))
 
 unfoldable pub answered : State → Call → CallAnswer
 answered state call = answerTo (booksOn state) (decidedOn state call)
@@ -32,10 +33,6 @@ pub record Promised (before : State) (call : Call) (answer : CallAnswer) (after 
   pub answers : answer ≡ answered before call
   pub ends : callEnding answer ≡ callEnding (answered before call)
   pub leaving : after ≡ leaves before call
-
-pub promise-from : {before : State} {call : Call} {answer : CallAnswer} {after : State} → answer ≡ answered before call → after ≡ leaves before call →
-    Promised before call answer after
-promise-from answers leaving = record { answers = answers; ends = ap callEnding answers; leaving = leaving }
 
 -- calls made one after the other
 pub data Trace : State → List Call → List CallAnswer → State → Type 0 where

@@ -1,4 +1,4 @@
--- A ledger with its table, and what a decision makes of them. Document 01: accept "adds the connection, CC and the borne sum, and sets the month"; what it
+-- A ledger with its table, and what a decision makes of them. Document 01, 'Accept': it "adds the connection, CC and the borne sum, and sets the month"; what it
 -- joins comes next, and what it opens last.
 use Prim.Native.Nat.{ℕ, _+_}
 use mathlib.Core.List.{List, [], _∷_, _++_}
@@ -6,8 +6,7 @@ use mathlib.Core.Bool.{Bool, true, false, cond}
 use lib.ListN.{take}
 use lib.Dec.{eqb}
 use Rattle.charge.specs.declared.Bill.{Bill}
-use Rattle.ledger.specs.Lists.{numberedFrom}
-pub use Rattle.ledger.specs.Lists.{atStart}
+use Rattle.ledger.specs.Lists.{numberedFrom, atStart}
 use Rattle.ledger.specs.Books.{Books, booksOf}
 use Rattle.ledger.specs.Updates.{withPerson, withCredited, withPaidOut, withFees, withConnection, withEntries, withSchemes}
 use Rattle.ledger.specs.declared.records.Scheme.{Scheme}
@@ -33,7 +32,6 @@ abbrev pub entriesOn : State → List Party
 entriesOn state = take (state .ledger .entries) (state .table)
 
 -- ---- changes of the entries, and of the schemes
-
 abbrev pub withTable : List Party → State → State
 withTable entries state = record { ledger = state .ledger; table = atStart entries (state .table) }
 
@@ -108,7 +106,6 @@ opened true bill state =
     entered (entriesOn state) (newParty (booksOn state .nextScheme) bill (bill .reconciliation .x)) (schemeOpened bill state)
 
 -- ---- pay-out and hand-over leave the ledger as it is
-
 abbrev pub isPaid : ℕ → ℕ → ℕ → Party → Party
 isPaid e amount number party = cond (eqb e number) (withPaidOut (party .«paid_out» + amount) party) party
 

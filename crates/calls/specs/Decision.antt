@@ -4,13 +4,14 @@ use mathlib.Core.List.{List, []}
 use mathlib.Core.Bool.{cond}
 use lib.Dec.{leb}
 use Rattle.tagged.specs.File.{refusal}
+use Rattle.tagged.specs.Refusals.{noSuchEntry, payOutAboveCredit}
 use Rattle.tagged.specs.declared.file.Refusal.{Refusal}
 use Rattle.charge.specs.Price.{priceOf}
 use Rattle.charge.specs.declared.Bill.{Bill}
 use Rattle.charge.specs.declared.Pricing.{Pricing}
 use Rattle.charge.specs.declared.Pricing.the-variants.{Priced, NotPriced}
 use Rattle.ledger.specs.Lists.{Found, none, found}
-use Rattle.ledger.specs.Books.{EntryRow, Books, entryAt}
+use Rattle.ledger.specs.Books.{EntryParticulars, Books, entryAt}
 use Rattle.calls.specs.Rules.{Credit, partiesOf, shared}
 use Rattle.calls.specs.Verdict.{verdict}
 use Rattle.calls.specs.declared.courses.Joining.{Joining}
@@ -20,12 +21,12 @@ use Rattle.calls.specs.declared.courses.Verdict.{Verdict}
 use Rattle.calls.specs.declared.courses.Verdict.the-variants.{Accepts, Refuses}
 use Rattle.calls.specs.declared.answers.Acceptance.{Acceptance}
 use Rattle.calls.specs.declared.answers.JoiningAnswer.{JoiningAnswer}
-use Rattle.calls.specs.declared.answers.JoiningAnswer.the-variants as JoiningAnswer
 use Rattle.calls.specs.declared.answers.OpeningAnswer.{OpeningAnswer}
-use Rattle.calls.specs.declared.answers.OpeningAnswer.the-variants as OpeningAnswer
 use Rattle.calls.specs.declared.answers.AcceptAnswer.{AcceptAnswer}
-use Rattle.calls.specs.declared.answers.AcceptAnswer.the-variants as AcceptAnswer
 use Rattle.calls.specs.declared.answers.Answer.{Answer}
+use Rattle.calls.specs.declared.answers.JoiningAnswer.the-variants as JoiningAnswer
+use Rattle.calls.specs.declared.answers.OpeningAnswer.the-variants as OpeningAnswer
+use Rattle.calls.specs.declared.answers.AcceptAnswer.the-variants as AcceptAnswer
 use Rattle.calls.specs.declared.answers.Answer.the-variants as Answer
 
 -- Demand 3's calls.
@@ -66,15 +67,15 @@ acceptBy books (NotPriced r) = refused r
 
 -- ---- pay-out and hand-over
 
--- "Pay-out names an entry and an amount up to its standing credit (credited − paid out); 0 is allowed." 11: no such entry; 12: above standing credit
-abbrev pub payOutBy : Found EntryRow → ℕ → Decision
-payOutBy none amount = refused (refusal 11 0 0)
+-- "Pay-out names an entry and an amount up to its standing credit (credited − paid out); 0 is allowed."
+abbrev pub payOutBy : Found EntryParticulars → ℕ → Decision
+payOutBy none amount = refused (refusal noSuchEntry 0 0)
 payOutBy (found row) amount =
-    cond (leb (row .paidOut + amount) (row .credited)) (paidOut (row .scheme) (row .number) amount) (refused (refusal 12 0 0))
+    cond (leb (row .paidOut + amount) (row .credited)) (paidOut (row .scheme) (row .number) amount) (refused (refusal payOutAboveCredit 0 0))
 
 -- "Hand-over gives an entry another person number."
-abbrev pub handOverBy : Found EntryRow → ℕ → Decision
-handOverBy none person = refused (refusal 11 0 0)
+abbrev pub handOverBy : Found EntryParticulars → ℕ → Decision
+handOverBy none person = refused (refusal noSuchEntry 0 0)
 handOverBy (found row) person = handedOver (row .number) person
 
 abbrev pub decided : Books → Call → Decision

@@ -4,7 +4,7 @@ use mathlib.Core.List.{List, [], _∷_, map}
 use mathlib.Core.Bool.{cond}
 use lib.Dec.{eqb}
 use Rattle.ledger.specs.Lists.{sumBy}
-use Rattle.ledger.specs.Books.{EntryRow, Books, ofScheme}
+use Rattle.ledger.specs.Books.{EntryParticulars, Books, ofScheme}
 
 -- a party of the scheme, by its entry's number
 pub record Holding : Type 0 where
@@ -16,7 +16,7 @@ pub record Credit : Type 0 where
   pub entry : ℕ
   pub amount : ℕ
 
-abbrev pub holding : EntryRow → Holding
+abbrev pub holding : EntryParticulars → Holding
 holding row = record { entry = row .number; capacity = row .capacity }
 
 -- the parties of scheme s, in order

@@ -4,9 +4,11 @@ use mathlib.Core.List.{[], _∷_}
 use mathlib.Core.Bool.{Bool, true, false, cond}
 use lib.ListN.{length}
 use lib.Dec.{leb, ltb, eqb}
+use Rattle.tagged.specs.Refusals.{schemeNeverOpened, monthBeforeLast, noSchemeLeft, noEntryLeft, noConnectionLeft}
 use Rattle.charge.specs.declared.Bill.{Bill}
+use Rattle.ledger.specs.Limits.{mostSchemes, mostEntries, mostConnections}
 use Rattle.ledger.specs.Lists.{Found, none, found}
-use Rattle.ledger.specs.Books.{SchemeRow, Books, schemeAt}
+use Rattle.ledger.specs.Books.{SchemeParticulars, Books, schemeAt}
 use Rattle.ledger.specs.Sound.{allHold}
 use Rattle.calls.specs.Rules.{partiesOf, capacityOf, contribution}
 use Rattle.calls.specs.declared.courses.Joining.{Joining}
@@ -19,7 +21,7 @@ use Rattle.calls.specs.declared.courses.Verdict.the-variants.{Accepts, R
 
 -- "Joined, and month ≥ opening + term: .. "ended". .. Below the minimum: nothing collected, no entry, answer "small". Otherwise G is collected": by the
 -- scheme's fee, minimum and term
-abbrev pub joiningOf : Books → Bill → SchemeRow → Joining
+abbrev pub joiningOf : Books → Bill → SchemeParticulars → Joining
 joiningOf books bill row =
     let K = capacityOf (partiesOf (bill .applicant .scheme) books) in
     let G = contribution (row .cost) (bill .applicant .capacity) K in
@@ -27,7 +29,7 @@ joiningOf books bill row =
     (cond (ltb G (row .minimum)) Small (Pays (record { collected = G; fee = row .fee; capacity = K })))
 
 -- every scheme that was opened stands, so that the first case doesn't come up once 6 is judged
-abbrev pub joiningBy : Books → Bill → Found SchemeRow → Joining
+abbrev pub joiningBy : Books → Bill → Found SchemeParticulars → Joining
 joiningBy books bill none = Ended
 joiningBy books bill (found row) = joiningOf books bill row
 
@@ -59,18 +61,23 @@ entriesOfJoining (Pays contribution) = 1
 abbrev pub entriesNeeded : Course → ℕ
 entriesNeeded course = entriesOfJoining (course .joining) + cond (course .opens) 1 0
 
+-- a ledger "keeps up to 64 schemes"; where none opens, none is lacking
+abbrev pub schemesLacking : ℕ → Bool → Bool
+schemesLacking schemes opens = allHold (opens ∷ leb mostSchemes schemes ∷ [])
+
 -- entries are "at most 512 and at most the table's length"; where none is needed, none is lacking
 abbrev pub entriesLacking : ℕ → ℕ → ℕ → Bool
-entriesLacking entries room needed = cond (eqb needed 0) false (cond (ltb 512 (entries + needed)) true (ltb room (entries + needed)))
+entriesLacking entries room needed = cond (eqb needed 0) false (cond (ltb mostEntries (entries + needed)) true (ltb room (entries + needed)))
 
 abbrev pub courseVerdict : Books → Course → Verdict
 courseVerdict books course =
-    cond (allHold (course .opens ∷ leb 64 (length (books .schemes)) ∷ [])) (Refuses 8)
-    (cond (entriesLacking (length (books .entries)) (books .room) (entriesNeeded course)) (Refuses 9) (Accepts course))
+    cond (schemesLacking (length (books .schemes)) (course .opens)) (Refuses noSchemeLeft)
+    (cond (entriesLacking (length (books .entries)) (books .room) (entriesNeeded course)) (Refuses noEntryLeft) (Accepts course))
 
 -- the order of the refusals: 10, 7, 6, 8, 9
 unfoldable pub verdict : Books → Bill → Verdict
 verdict books bill =
-    cond (leb 1000000 (books .connections)) (Refuses 10)
-    (cond (ltb (bill .applicant .month) (books .month)) (Refuses 7)
-    (cond (leb (books .nextScheme) (bill .applicant .scheme)) (Refuses 6) (courseVerdict books (courseOf books bill))))
+    cond (leb mostConnections (books .connections)) (Refuses noConnectionLeft)
+    (cond (ltb (bill .applicant .month) (books .month)) (Refuses monthBeforeLast)
+    (cond (leb (books .nextScheme) (bill .applicant .scheme)) (Refuses schemeNeverOpened)
+    (courseVerdict books (courseOf books bill))))

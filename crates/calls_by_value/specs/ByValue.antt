@@ -4,9 +4,7 @@ use mathlib.Core.Path.{_≡_}
 use mathlib.Core.List.{List}
 use mathlib.Core.Bool.{true}
 use lib.ListN.{length, take, drop}
-use lib.Seq.{sets}
 use Rattle.ledger.specs.Sound.{sound}
-use Rattle.ledger.specs.Table.{creditEach}
 use Rattle.ledger.specs.declared.records.Party.{Party}
 use Rattle.ledger.specs.declared.records.Ledger.{Ledger}
 use Rattle.calls.specs.Decision.{Call, CallAnswer}
@@ -20,24 +18,19 @@ use Rattle.calls_by_value.specs.declared.AcceptedTable.{AcceptedTable}
 use Rattle.calls_by_value.specs.declared.ChangedTable.{ChangedTable}
 
 -- the table is the first `room` records, or all of them
-abbrev pub SoundWithin : ℕ → Ledger → List Party → Type 0
-SoundWithin room ledger parties = sound ledger (take room parties) (length (take room parties)) ≡ true
+abbrev pub SoundOnRecords : ℕ → Ledger → List Party → Type 0
+SoundOnRecords room ledger parties = sound ledger (take room parties) (length (take room parties)) ≡ true
 
 -- the records past the table stay as they are
-pub record PromisedWithin (room : ℕ) (ledger : Ledger) (parties : List Party) (call : Call) (answer : CallAnswer) (after : Ledger) (left : List Party) : Type 0 where
+pub record PromisedOnRecords (room : ℕ) (ledger : Ledger) (parties : List Party) (call : Call) (answer : CallAnswer) (after : Ledger) (left : List Party) : Type 0 where
   pub promised : Promised (stateOf ledger (take room parties)) call answer (stateOf after (take room left))
   pub past : drop room left ≡ drop room parties
 
 -- ---- accept
-
-abbrev pub carriedOut : ℕ → List Party → Plan → List Party
-carriedOut entries parties plan = sets (creditEach parties (take entries (plan .credits))) entries (take (plan .«added_count») (plan .added))
-
 abbrev pub acceptedTable : Ledger → List Party → Plan → AcceptedTable
 acceptedTable ledger parties plan = record { answer = plan .answer; ledger = plan .ledger; parties = planTable ledger parties plan }
 
 -- ---- pay-out and hand-over
-
 abbrev pub PlaceIfDone : ℕ → EntryChange → Type 0
 PlaceIfDone records change = change .answer ≡ Done → change .place < records
 

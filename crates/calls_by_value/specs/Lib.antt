@@ -1,3 +1,2 @@
 pub mod ByValue
-pub mod ByValueLaws
-pub mod ByValuePromises
+pub mod Theorems

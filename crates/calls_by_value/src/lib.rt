@@ -1,9 +1,11 @@
 // The calls on a ledger and its parties by value, for callers that have no table to lend. The table is the first `room` records of the
-// array, or all 512.
+// array, or all of them.
 use acceptance::accept::Plan;
 use calls::answers::AcceptAnswer;
 use calls::answers::Answer;
 use entry_calls::EntryChange;
+use ledger::limits::MOST_ENTRIES;
+use ledger::limits::Parties;
 use ledger::records::Ledger;
 use ledger::records::Party;
 ghost use mathlib.Core.Path.{_≡_};
@@ -12,32 +14,38 @@ ghost use lib.ListN.{take};
 ghost use lib.Seq.{sets};
 ghost use Rattle.calls.specs.Decision.{ofAccept, ofEntryCall};
 ghost use Rattle.calls.specs.Decision as Call;
-ghost use Rattle.ledger.specs.Table.{creditEach};
-ghost use Rattle.acceptance.specs.PlanFits.{CreditsFit, PlanFits, FitsIfAccepted};
-ghost use Rattle.calls_by_value.specs.ByValue.{SoundWithin, PromisedWithin, PlaceIfDone, carriedOut, acceptedTable, changedParties};
+ghost use Rattle.ledger.specs.Limits.{mostEntries};
+ghost use Rattle.ledger.specs.Table.{creditEach, CreditsFit};
+ghost use Rattle.acceptance.specs.PlanCarried.{planCarriedOut};
+ghost use Rattle.acceptance.specs.PlanFits.{PlanFits, FitsIfAccepted};
+ghost use Rattle.calls_by_value.specs.ByValue.{SoundOnRecords, PromisedOnRecords, PlaceIfDone, acceptedTable, changedParties};
 
 pub struct AcceptedTable {
     pub answer: AcceptAnswer,
     pub ledger: Ledger,
-    pub parties: [Party; 512],
+    pub parties: Parties,
 }
 
 pub struct ChangedTable {
     pub answer: Answer,
-    pub parties: [Party; 512],
+    pub parties: Parties,
 }
 
 // How many records the table has.
 pub fn records_of(room: usize) -> usize
-    ensures { λ r. ⌜ r ≡ min room 512 ⌝ }
+    ensures { λ r. ⌜ r ≡ min room mostEntries ⌝ }
 {
-    if room < 512 { room } else { 512 }
+    if room < MOST_ENTRIES {
+        room
+    } else {
+        MOST_ENTRIES
+    }
 }
 
 // ---- carrying out
 
-fn credit_each(parties: [Party; 512], entries: u32, credits: [u64; 512]) -> [Party; 512]
-    requires { ⌜ (entries ≤ 512) × CreditsFit entries parties credits ⌝ }
+fn credit_each(parties: Parties, entries: u32, credits: [u64; MOST_ENTRIES]) -> Parties
+    requires { ⌜ (entries ≤ mostEntries) × CreditsFit entries parties credits ⌝ }
     ensures { λ r. ⌜ r ≡ creditEach parties (take entries credits) ⌝ }
 {
     let mut after = parties;
@@ -51,8 +59,8 @@ fn credit_each(parties: [Party; 512], entries: u32, credits: [u64; 512]) -> [Par
     after
 }
 
-fn put_each(parties: [Party; 512], at: u32, added: [Party; 2], count: u32) -> [Party; 512]
-    requires { ⌜ (count ≤ 2) × (at + count ≤ 512) ⌝ }
+fn put_each(parties: Parties, at: u32, added: [Party; 2], count: u32) -> Parties
+    requires { ⌜ (count ≤ 2) × (at + count ≤ mostEntries) ⌝ }
     ensures { λ r. ⌜ r ≡ sets parties at (take count added) ⌝ }
 {
     let mut after = parties;
@@ -65,9 +73,9 @@ fn put_each(parties: [Party; 512], at: u32, added: [Party; 2], count: u32) -> [P
 }
 
 // The entries get their credits, and those that are added their records.
-fn carried_out(parties: [Party; 512], entries: u32, plan: Plan) -> [Party; 512]
-    requires { ⌜ PlanFits entries 512 parties plan ⌝ }
-    ensures { λ r. ⌜ r ≡ carriedOut entries parties plan ⌝ }
+fn plan_carried_out(parties: Parties, entries: u32, plan: Plan) -> Parties
+    requires { ⌜ PlanFits entries mostEntries parties plan ⌝ }
+    ensures { λ r. ⌜ r ≡ planCarriedOut entries parties plan ⌝ }
 {
     let credits = plan.credits;
     let added = plan.added;
@@ -80,8 +88,8 @@ fn carried_out(parties: [Party; 512], entries: u32, plan: Plan) -> [Party; 512]
 }
 
 // What a plan makes of a ledger and its parties.
-fn accepted_table(ledger: Ledger, parties: [Party; 512], plan: Plan) -> AcceptedTable
-    requires { ⌜ FitsIfAccepted (ledger .entries) 512 parties plan ⌝ }
+fn accepted_table(ledger: Ledger, parties: Parties, plan: Plan) -> AcceptedTable
+    requires { ⌜ FitsIfAccepted (ledger .entries) mostEntries parties plan ⌝ }
     ensures { λ r. ⌜ r ≡ acceptedTable ledger parties plan ⌝ }
 {
     let answer = plan.answer;
@@ -90,7 +98,7 @@ fn accepted_table(ledger: Ledger, parties: [Party; 512], plan: Plan) -> Accepted
         AcceptAnswer::Accepted(_) => AcceptedTable {
             answer,
             ledger: after,
-            parties: carried_out(parties, ledger.entries, plan),
+            parties: plan_carried_out(parties, ledger.entries, plan),
         },
         AcceptAnswer::NotAccepted(_) => AcceptedTable {
             answer,
@@ -100,8 +108,8 @@ fn accepted_table(ledger: Ledger, parties: [Party; 512], plan: Plan) -> Accepted
     }
 }
 
-fn changed_table(parties: [Party; 512], change: EntryChange) -> ChangedTable
-    requires { ⌜ PlaceIfDone 512 change ⌝ }
+fn changed_table(parties: Parties, change: EntryChange) -> ChangedTable
+    requires { ⌜ PlaceIfDone mostEntries change ⌝ }
     ensures { λ r. ⌜ r ≡ changedParties parties change ⌝ }
 {
     let answer = change.answer;
@@ -124,12 +132,12 @@ fn changed_table(parties: [Party; 512], change: EntryChange) -> ChangedTable
 
 pub fn accept(
     ledger: Ledger,
-    parties: [Party; 512],
+    parties: Parties,
     room: usize,
     book: &[u8],
     request: &[u8],
 ) -> AcceptedTable
-    ensures { λ r. ⌜ PromisedWithin room ledger parties (Call.accept (now (book .entry)) (now (request .entry))) (ofAccept (r .answer)) (r .ledger) (r .parties) ⌝ }
+    ensures { λ r. ⌜ PromisedOnRecords room ledger parties (Call.accept (now (book .entry)) (now (request .entry))) (ofAccept (r .answer)) (r .ledger) (r .parties) ⌝ }
 {
     let plan = acceptance::accept::accept(ledger, parties, records_of(room), book, request);
     accepted_table(ledger, parties, plan)
@@ -138,13 +146,13 @@ pub fn accept(
 // Each of these on a ledger that is known to be sound.
 pub fn accept_sound(
     ledger: Ledger,
-    parties: [Party; 512],
+    parties: Parties,
     room: usize,
     book: &[u8],
     request: &[u8],
 ) -> AcceptedTable
-    requires { ⌜ SoundWithin room ledger parties ⌝ }
-    ensures { λ r. ⌜ PromisedWithin room ledger parties (Call.accept (now (book .entry)) (now (request .entry))) (ofAccept (r .answer)) (r .ledger) (r .parties) ⌝ }
+    requires { ⌜ SoundOnRecords room ledger parties ⌝ }
+    ensures { λ r. ⌜ PromisedOnRecords room ledger parties (Call.accept (now (book .entry)) (now (request .entry))) (ofAccept (r .answer)) (r .ledger) (r .parties) ⌝ }
 {
     let plan = acceptance::accept::accept_sound(ledger, parties, records_of(room), book, request);
     accepted_table(ledger, parties, plan)
@@ -152,12 +160,12 @@ pub fn accept_sound(
 
 pub fn pay_out(
     ledger: Ledger,
-    parties: [Party; 512],
+    parties: Parties,
     room: usize,
     entry: u32,
     amount: u64,
 ) -> ChangedTable
-    ensures { λ r. ⌜ PromisedWithin room ledger parties (Call.payOut entry amount) (ofEntryCall (r .answer)) ledger (r .parties) ⌝ }
+    ensures { λ r. ⌜ PromisedOnRecords room ledger parties (Call.payOut entry amount) (ofEntryCall (r .answer)) ledger (r .parties) ⌝ }
 {
     let change = entry_calls::pay_out(ledger, parties, records_of(room), entry, amount);
     changed_table(parties, change)
@@ -165,13 +173,13 @@ pub fn pay_out(
 
 pub fn pay_out_sound(
     ledger: Ledger,
-    parties: [Party; 512],
+    parties: Parties,
     room: usize,
     entry: u32,
     amount: u64,
 ) -> ChangedTable
-    requires { ⌜ SoundWithin room ledger parties ⌝ }
-    ensures { λ r. ⌜ PromisedWithin room ledger parties (Call.payOut entry amount) (ofEntryCall (r .answer)) ledger (r .parties) ⌝ }
+    requires { ⌜ SoundOnRecords room ledger parties ⌝ }
+    ensures { λ r. ⌜ PromisedOnRecords room ledger parties (Call.payOut entry amount) (ofEntryCall (r .answer)) ledger (r .parties) ⌝ }
 {
     let change = entry_calls::pay_out_sound(ledger, parties, entry, amount);
     changed_table(parties, change)
@@ -179,12 +187,12 @@ pub fn pay_out_sound(
 
 pub fn hand_over(
     ledger: Ledger,
-    parties: [Party; 512],
+    parties: Parties,
     room: usize,
     entry: u32,
     person: u32,
 ) -> ChangedTable
-    ensures { λ r. ⌜ PromisedWithin room ledger parties (Call.handOver entry person) (ofEntryCall (r .answer)) ledger (r .parties) ⌝ }
+    ensures { λ r. ⌜ PromisedOnRecords room ledger parties (Call.handOver entry person) (ofEntryCall (r .answer)) ledger (r .parties) ⌝ }
 {
     let change = entry_calls::hand_over(ledger, parties, records_of(room), entry, person);
     changed_table(parties, change)
@@ -192,13 +200,13 @@ pub fn hand_over(
 
 pub fn hand_over_sound(
     ledger: Ledger,
-    parties: [Party; 512],
+    parties: Parties,
     room: usize,
     entry: u32,
     person: u32,
 ) -> ChangedTable
-    requires { ⌜ SoundWithin room ledger parties ⌝ }
-    ensures { λ r. ⌜ PromisedWithin room ledger parties (Call.handOver entry person) (ofEntryCall (r .answer)) ledger (r .parties) ⌝ }
+    requires { ⌜ SoundOnRecords room ledger parties ⌝ }
+    ensures { λ r. ⌜ PromisedOnRecords room ledger parties (Call.handOver entry person) (ofEntryCall (r .answer)) ledger (r .parties) ⌝ }
 {
     let change = entry_calls::hand_over_sound(ledger, parties, entry, person);
     changed_table(parties, change)

@@ -1,6 +1,6 @@
 -- Document 01, 'Charge and reconciliation': "A tier costs ⌊rate × demand / 100⌋; 0 in mode 1. A bespoke rate is allowed only where the posted rate
 -- isn't 0 and the bespoke is above 150% or below 80% of it. MC sums the tiers of field 06; CC2 sums the demands of field 07 at the same rates and modes."
-use Prim.Native.Nat.{ℕ, _+_, _*_, _/_, _≤_}
+use Prim.Native.Nat.{ℕ, _+_, _*_, _/_}
 use mathlib.Core.List.{List}
 use mathlib.Core.Bool.{Bool, true, false, cond}
 use lib.ListN.{getD}
@@ -53,11 +53,3 @@ costAt tiers demands tier =
 
 abbrev pub capacityCost : Tiers → List ℕ → ℕ
 capacityCost tiers demands = costAt tiers demands 0 + costAt tiers demands 1 + costAt tiers demands 2 + costAt tiers demands 3 + costAt tiers demands 4
-
--- what an accepted book and request give of the tiers' rates and of demands
-pub record TiersWithin (tiers : Tiers) : Type 0 where
-  pub posted : (tier : ℕ) → postedAt tiers tier ≤ 10000000
-  pub bespoke : (tier : ℕ) → bespokeAt tiers tier ≤ 10000000
-
-abbrev pub DemandsWithin : List ℕ → Type 0
-DemandsWithin demands = (tier : ℕ) → getD demands tier 0 ≤ 1000000

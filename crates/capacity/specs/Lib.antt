@@ -1,3 +1,4 @@
 pub mod Capacity
-pub mod CapacityLaws
-pub mod CapacityFacts
+pub mod CapacityLimits
+pub mod Cases
+pub mod Theorems

@@ -1,14 +1,17 @@
 // Upstream capacity, tier by tier: LV mains, distribution substation, HV feeder, zone substation,
 // sub-transmission.
+use field_values::limits::TIERS;
 ghost use mathlib.Core.Path.{_≡_};
 ghost use Prim.Native.Nat.{_<_, _≤_};
-ghost use Rattle.capacity.specs.Capacity.{bespokeAllowed, tierAllowed, firstNotAllowed, rateUsed, tierCost, costAt, capacityCost, TiersWithin, DemandsWithin};
+ghost use Rattle.capacity.specs.Capacity.{bespokeAllowed, tierAllowed, firstNotAllowed, rateUsed, tierCost, costAt, capacityCost};
+ghost use Rattle.field_values.specs.Limits.{tierCount, highestRate, highestDemand};
+ghost use Rattle.capacity.specs.CapacityLimits.{highestTierCost, highestCapacityCost, TiersWithin, DemandsWithin};
 
 // Mode (0 posted, 1 extension-like, 2 bespoke), posted rate and bespoke rate of each tier.
 pub struct Tiers {
-    pub modes: [u8; 5],
-    pub posted: [u32; 5],
-    pub bespoke: [u32; 5],
+    pub modes: [u8; TIERS],
+    pub posted: [u32; TIERS],
+    pub bespoke: [u32; TIERS],
 }
 
 // Whether every bespoke rate is allowed, or the first tier, 1 to 5, whose rate isn't.
@@ -37,7 +40,7 @@ fn bespoke_allowed(posted: u32, bespoke: u32) -> bool
 }
 
 fn tier_allowed(tiers: Tiers, tier: usize) -> bool
-    requires { ⌜ tier < 5 ⌝ }
+    requires { ⌜ tier < tierCount ⌝ }
     ensures { λ r. ⌜ r ≡ tierAllowed tiers tier ⌝ }
 {
     let modes = tiers.modes;
@@ -77,8 +80,8 @@ fn rate_used(mode: u8, posted: u32, bespoke: u32) -> u32
 }
 
 fn tier_cost(mode: u8, rate: u32, demand: u32) -> u64
-    requires { ⌜ (rate ≤ 10000000) × (demand ≤ 1000000) ⌝ }
-    ensures { λ r. ⌜ (r ≡ tierCost mode rate demand) × (r ≤ 100000000000) ⌝ }
+    requires { ⌜ (rate ≤ highestRate) × (demand ≤ highestDemand) ⌝ }
+    ensures { λ r. ⌜ (r ≡ tierCost mode rate demand) × (r ≤ highestTierCost) ⌝ }
 {
     if mode == 1 {
         return 0;
@@ -86,9 +89,9 @@ fn tier_cost(mode: u8, rate: u32, demand: u32) -> u64
     wide(rate) * wide(demand) / 100
 }
 
-fn cost_at(tiers: Tiers, demands: [u32; 5], tier: usize) -> u64
-    requires { ⌜ TiersWithin tiers × DemandsWithin demands × (tier < 5) ⌝ }
-    ensures { λ r. ⌜ (r ≡ costAt tiers demands tier) × (r ≤ 100000000000) ⌝ }
+fn cost_at(tiers: Tiers, demands: [u32; TIERS], tier: usize) -> u64
+    requires { ⌜ TiersWithin tiers × DemandsWithin demands × (tier < tierCount) ⌝ }
+    ensures { λ r. ⌜ (r ≡ costAt tiers demands tier) × (r ≤ highestTierCost) ⌝ }
 {
     let modes = tiers.modes;
     let posted = tiers.posted;
@@ -99,9 +102,9 @@ fn cost_at(tiers: Tiers, demands: [u32; 5], tier: usize) -> u64
 }
 
 // What the demands of the five tiers cost.
-pub fn capacity_cost(tiers: Tiers, demands: [u32; 5]) -> u64
+pub fn capacity_cost(tiers: Tiers, demands: [u32; TIERS]) -> u64
     requires { ⌜ TiersWithin tiers × DemandsWithin demands ⌝ }
-    ensures { λ r. ⌜ (r ≡ capacityCost tiers demands) × (r ≤ 500000000000) ⌝ }
+    ensures { λ r. ⌜ (r ≡ capacityCost tiers demands) × (r ≤ highestCapacityCost) ⌝ }
 {
     cost_at(tiers, demands, 0)
         + cost_at(tiers, demands, 1)

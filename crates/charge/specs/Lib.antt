@@ -1,7 +1,6 @@
+pub mod BillLimits
 pub mod Price
-pub mod PriceLaws
-pub mod PriceFacts
-pub mod PriceRefusals
 pub mod PriceEnding
-pub mod MarkedFigures
-pub mod PricingRows
+pub mod PriceRefusals
+pub mod Cases
+pub mod Theorems

@@ -1,12 +1,13 @@
--- Document 01: "Pricing (slip): book, request, 4, 5." The pricing of a request by a rate book, from their bytes alone.
+-- Document 01, 'How calls end': "Pricing (slip): book, request, 4, 5." The pricing of a request by a rate book, from their bytes alone.
 use Prim.Native.Nat.{ℕ, zero, suc, _+_, _<_}
 use mathlib.Core.List.{List, []}
 use mathlib.Core.Bool.{cond}
 use lib.ListN.{getD}
 use lib.Dec.{eqb}
 use Rattle.tagged.specs.File.{fieldsPart, refusal}
-use Rattle.tagged.specs.declared.file.Standing.{Standing}
-use Rattle.tagged.specs.declared.file.Standing.the-variants.{Stands, Refused}
+use Rattle.tagged.specs.Refusals.{zoneNotInBook, bespokeNotAllowed}
+use Rattle.tagged.specs.declared.file.FileAnswer.{FileAnswer}
+use Rattle.tagged.specs.declared.file.FileAnswer.the-variants.{Stands, Refused}
 use Rattle.rate_book.specs.Book.{bookOf}
 use Rattle.book_zones.specs.Zones.{zoneRates}
 use Rattle.rate_book.specs.declared.book.Book.{Book}
@@ -93,19 +94,19 @@ billOf book tiers request ir =
           };
     }
 
--- 5: "bespoke rate not allowed", file 2, place the tier
+-- "bespoke rate not allowed", file 2, place the tier
 abbrev pub ifAllowed : BespokeRates → Bill → Pricing
 ifAllowed Allowed bill = Priced bill
-ifAllowed (NotAllowed tier) bill = NotPriced (refusal 5 2 tier)
+ifAllowed (NotAllowed tier) bill = NotPriced (refusal bespokeNotAllowed 2 tier)
 
 abbrev pub pricedAt : Book → List ℕ → Request → ℕ → ℕ → Pricing
 pricedAt book posted request distribution transmission =
     ifAllowed (firstNotAllowed (tiersOf posted request))
     (billOf book (tiersOf posted request) request (incrementalRevenueOf book request distribution transmission))
 
--- 4: "zone not in the book", file 2, place 0
+-- "zone not in the book", file 2, place 0
 abbrev pub inZone : Zone → (ℕ → Pricing) → Pricing
-inZone NotInBook priced = NotPriced (refusal 4 2 0)
+inZone NotInBook priced = NotPriced (refusal zoneNotInBook 2 0)
 inZone (At zone) priced = priced zone
 
 unfoldable pub valuesPriced : Book → List (List ℕ) → Request → ℕ → ℕ → Pricing
@@ -113,7 +114,7 @@ valuesPriced book rates request distribution transmission =
     inZone (zoneFound 0 (book .zones) (book .«zone_numbers») (request .zone))
     (λ zone. pricedAt book (getD rates zone []) request distribution transmission)
 
-abbrev pub ifStands : Standing → Pricing → Pricing
+abbrev pub ifStands : FileAnswer → Pricing → Pricing
 ifStands Stands priced = priced
 ifStands (Refused r) priced = NotPriced r
 

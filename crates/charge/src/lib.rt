@@ -1,20 +1,27 @@
 // The pricing call: a rate book and a request in, the reconciliation or a refusal out.
 use capacity::BespokeRates;
 use capacity::Tiers;
+use field_values::limits::MOST_ZONES;
+use field_values::limits::Rates;
 use rate_book::book::Book;
 use reconciliation::Costs;
 use reconciliation::Reconciliation;
 use request::values::Request;
 use revenue::Stream;
+use revenue::TRANSMISSION_OPEX_FACTOR;
+use tagged::file::FileAnswer;
 use tagged::file::Refusal;
-use tagged::file::Standing;
+use tagged::refusals::BESPOKE_NOT_ALLOWED;
+use tagged::refusals::ZONE_NOT_IN_BOOK;
 ghost use mathlib.Core.Path.{_≡_};
-ghost use Prim.Native.Nat.{ℕ, _+_, _<_, _≤_};
+ghost use Prim.Native.Nat.{_+_, _<_, _≤_};
 ghost use Rattle.tagged.specs.File.{refusal};
-ghost use Rattle.capacity.specs.Capacity.{TiersWithin};
-ghost use Rattle.rate_book.specs.BookWithin.{BookWithin};
-ghost use Rattle.book_zones.specs.ZonesWithin.{RatesWithin};
-ghost use Rattle.request.specs.RequestWithin.{RequestWithin};
+ghost use Rattle.capacity.specs.CapacityLimits.{TiersWithin};
+ghost use Rattle.rate_book.specs.BookLimits.{BookWithin};
+ghost use Rattle.book_zones.specs.ZoneLimits.{RatesWithin};
+ghost use Rattle.request.specs.RequestLimits.{RequestWithin};
+ghost use Rattle.field_values.specs.Limits.{mostZones, highestRevenue};
+ghost use Rattle.revenue.specs.RevenueLimits.{highestIncrementalRevenue};
 ghost use Rattle.charge.specs.Price.{zoneFound, incrementalRevenueOf, billOf, valuesPriced, requestPriced, priceOf, ZoneBelow};
 
 // What a scheme that opens takes from the book.
@@ -61,8 +68,8 @@ fn not_priced(number: u8, file: u8, place: usize) -> Pricing
 }
 
 // The row of a zone among the book's zones.
-fn zone_found(numbers: [u16; 8], zones: usize, number: u16) -> Zone
-    requires { ⌜ zones ≤ 8 ⌝ }
+fn zone_found(numbers: [u16; MOST_ZONES], zones: usize, number: u16) -> Zone
+    requires { ⌜ zones ≤ mostZones ⌝ }
     ensures { λ r. ⌜ r ≡ zoneFound 0 zones numbers number ⌝ }
     ensures { λ r. ⌜ ZoneBelow zones r ⌝ }
 {
@@ -83,8 +90,8 @@ pub fn incremental_revenue_of(
     distribution: u32,
     transmission: u32,
 ) -> u64
-    requires { ⌜ BookWithin book × RequestWithin request × (distribution ≤ 1000000000) × (transmission ≤ 1000000000) ⌝ }
-    ensures { λ r. ⌜ (r ≡ incrementalRevenueOf book request distribution transmission) × (r ≤ 3968000000000) ⌝ }
+    requires { ⌜ BookWithin book × RequestWithin request × (distribution ≤ highestRevenue) × (transmission ≤ highestRevenue) ⌝ }
+    ensures { λ r. ⌜ (r ≡ incrementalRevenueOf book request distribution transmission) × (r ≤ highestIncrementalRevenue) ⌝ }
 {
     let part_year = request.part_year;
     let distribution_factors = book.distribution;
@@ -100,7 +107,7 @@ pub fn incremental_revenue_of(
     };
     let transmitted = Stream {
         revenue: transmission,
-        opex_factor: 10_000,
+        opex_factor: TRANSMISSION_OPEX_FACTOR,
         part_year,
         revenue_factors: transmission_factors,
         tariff_factors: transmission_tariff,
@@ -115,7 +122,7 @@ pub fn incremental_revenue_of(
 
 // The bill of a request whose tiers' rates are known.
 fn bill_of(book: Book, tiers: Tiers, request: Request, ir: u64) -> Bill
-    requires { ⌜ BookWithin book × TiersWithin tiers × RequestWithin request × (ir ≤ 3968000000000) ⌝ }
+    requires { ⌜ BookWithin book × TiersWithin tiers × RequestWithin request × (ir ≤ highestIncrementalRevenue) ⌝ }
     ensures { λ r. ⌜ r ≡ billOf book tiers request ir ⌝ }
 {
     let demands = request.demands;
@@ -151,18 +158,18 @@ fn bill_of(book: Book, tiers: Tiers, request: Request, ir: u64) -> Bill
 // The pricing of values that were read: 4, 5, or the bill.
 pub fn price_values(
     book: Book,
-    rates: [[u32; 5]; 8],
+    rates: Rates,
     request: Request,
     distribution: u32,
     transmission: u32,
 ) -> Pricing
-    requires { ⌜ BookWithin book × RatesWithin rates (book .zones) × RequestWithin request × (distribution ≤ 1000000000) × (transmission ≤ 1000000000) ⌝ }
+    requires { ⌜ BookWithin book × RatesWithin rates (book .zones) × RequestWithin request × (distribution ≤ highestRevenue) × (transmission ≤ highestRevenue) ⌝ }
     ensures { λ r. ⌜ r ≡ valuesPriced book rates request distribution transmission ⌝ }
 {
     let numbers = book.zone_numbers;
     let found = zone_found(numbers, book.zones, request.zone);
     match found {
-        Zone::NotInBook => not_priced(4, 2, 0),
+        Zone::NotInBook => not_priced(ZONE_NOT_IN_BOOK, 2, 0),
         Zone::At(zone) => {
             let modes = request.modes;
             let posted = rates[zone];
@@ -174,7 +181,7 @@ pub fn price_values(
             };
             let allowed = capacity::first_not_allowed(tiers);
             match allowed {
-                BespokeRates::NotAllowed(tier) => not_priced(5, 2, tier),
+                BespokeRates::NotAllowed(tier) => not_priced(BESPOKE_NOT_ALLOWED, 2, tier),
                 BespokeRates::Allowed => {
                     let ir = incremental_revenue_of(book, request, distribution, transmission);
                     Pricing::Priced(bill_of(book, tiers, request, ir))
@@ -185,15 +192,15 @@ pub fn price_values(
 }
 
 // The pricing of a request file by the values of a book.
-fn price_request(book: Book, rates: [[u32; 5]; 8], request: &[u8]) -> Pricing
+fn price_request(book: Book, rates: Rates, request: &[u8]) -> Pricing
     requires { ⌜ BookWithin book × RatesWithin rates (book .zones) ⌝ }
     ensures { λ r. ⌜ r ≡ requestPriced book rates (now (request .entry)) ⌝ }
 {
     let read = request::values::read_request(2, request);
     let answer = read.answer;
     match answer {
-        Standing::Refused(refusal) => Pricing::NotPriced(refusal),
-        Standing::Stands => {
+        FileAnswer::Refused(refusal) => Pricing::NotPriced(refusal),
+        FileAnswer::Stands => {
             let values = read.request;
             price_values(
                 book,
@@ -205,20 +212,21 @@ fn price_request(book: Book, rates: [[u32; 5]; 8], request: &[u8]) -> Pricing
         }
     }
 }
+
 // The reconciliation of a request by a rate book, or the refusal: book, request, 4, 5.
 pub fn price(book: &[u8], request: &[u8]) -> Pricing
     ensures { λ r. ⌜ r ≡ priceOf (now (book .entry)) (now (request .entry)) ⌝ }
 {
     let standing = book_zones::rows::book_stands(1, book);
     match standing {
-        Standing::Refused(refusal) => Pricing::NotPriced(refusal),
-        Standing::Stands => {
+        FileAnswer::Refused(refusal) => Pricing::NotPriced(refusal),
+        FileAnswer::Stands => {
             let rates = book_zones::zones::zone_rates(tagged::file::fields_part(book));
-            let read = rate_book::book::read_standing_book(1, book, rates);
+            let read = rate_book::book::read_walked_book(1, book, rates);
             let answer = read.answer;
             match answer {
-                Standing::Refused(refusal) => Pricing::NotPriced(refusal),
-                Standing::Stands => price_request(read.book, rates, request),
+                FileAnswer::Refused(refusal) => Pricing::NotPriced(refusal),
+                FileAnswer::Stands => price_request(read.book, rates, request),
             }
         }
     }

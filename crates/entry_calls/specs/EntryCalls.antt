@@ -4,6 +4,7 @@ use mathlib.Core.List.{List}
 use mathlib.Core.Bool.{cond}
 use lib.ListN.{length, take, getD, set}
 use Rattle.tagged.specs.File.{refusal}
+use Rattle.tagged.specs.Refusals.{noSuchEntry, ledgerUnsound}
 use Rattle.tagged.specs.declared.file.Refusal.{Refusal}
 use Rattle.ledger.specs.Records.{noParty}
 use Rattle.ledger.specs.Books.{booksOf}
@@ -31,7 +32,7 @@ doneChange place party = record { answer = Done; place = place; party = party }
 -- the entry's record changed, at its place
 abbrev pub changedAt : List Party → (Party → Party) → EntryAt → EntryChange
 changedAt entries change (Place at) = doneChange at (change (getD entries at noParty))
-changedAt entries change NoSuchEntry = refusedChange 11
+changedAt entries change NoSuchEntry = refusedChange noSuchEntry
 
 -- a pay-out comes on top of earlier ones
 abbrev pub paidMore : ℕ → Party → Party
@@ -55,11 +56,11 @@ entryChange ledger parties call = changeOf (take (ledger .entries) parties) (dec
 -- `parties` are the table's records as far as the snapshot goes, `room` is the table's length
 unfoldable pub payOutChange : Ledger → List Party → ℕ → ℕ → ℕ → EntryChange
 payOutChange ledger parties room entry amount =
-    cond (sound ledger parties room) (entryChange ledger parties (payOut entry amount)) (refusedChange 13)
+    cond (sound ledger parties room) (entryChange ledger parties (payOut entry amount)) (refusedChange ledgerUnsound)
 
 unfoldable pub handOverChange : Ledger → List Party → ℕ → ℕ → ℕ → EntryChange
 handOverChange ledger parties room entry person =
-    cond (sound ledger parties room) (entryChange ledger parties (handOver entry person)) (refusedChange 13)
+    cond (sound ledger parties room) (entryChange ledger parties (handOver entry person)) (refusedChange ledgerUnsound)
 
 -- the table after the call: the record stored at its place where the answer is "done", otherwise as it was
 abbrev pub changedTable : List Party → EntryChange → List Party

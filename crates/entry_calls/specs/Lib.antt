@@ -1,6 +1,3 @@
 pub mod EntryCalls
-pub mod EntryCallsLaws
-pub mod Changed
-pub mod IsCall
-pub mod EntryCallsFacts
-pub mod BoundaryRows
+pub mod Cases
+pub mod Theorems

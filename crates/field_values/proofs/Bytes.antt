@@ -8,7 +8,7 @@ use lib.ListN.{length, getD, drop, drop-of-length-le}
 use lib.Seq.{drop-cons}
 use lib.Dec.{eqb}
 use Rattle.field_values.specs.Judged.{sameBytes}
-use Rattle.field_values.specs.JudgedLaws.{same-bytes-equal}
+use Rattle.field_values.specs.Theorems.Judged.{same-bytes-equal}
 
 pub lengths-differ : (a b : List ℕ) → (length a ≡ length b → ⊥) → sameBytes a b ≡ false
 lengths-differ a b h = go (sameBytes a b) refl

@@ -15,7 +15,7 @@ use Rattle.numbers.specs.BigEndian.{numberAt}
 use Rattle.tagged.specs.Find.{partOf, startOf, PlaceWithin}
 use Rattle.tagged.specs.declared.find.Place.{Place}
 use Rattle.tagged.specs.declared.find.Place.the-variants.{At, Nowhere}
-use Rattle.tagged.specs.WalkFacts.{by-test}
+use Rattle.tagged.specs.Theorems.Walk.{by-test}
 use Rattle.field_values.specs.Judged.{widthOf, within, judgeNumbers, narrow}
 use Rattle.field_values.specs.declared.judged.Judged.the-variants.{Passes, Fails}
 

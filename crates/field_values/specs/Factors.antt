@@ -1,23 +1,25 @@
--- Document 01: "distribution and transmission revenue factors, 1 to 8 of 2 bytes"; "part-year, distribution tariff and transmission tariff factors".
-use Prim.Native.Nat.{ℕ, _+_, _/_, _%_, _≤_}
-use mathlib.Core.Path.{_≡_, refl}
-use mathlib.Core.List.{List, [], _∷_, map}
+-- Document 01, 'Rate book', 04 and 05: "distribution and transmission revenue factors, 1 to 8 of 2 bytes, each 0 to 40,000"; 'Request', 09, 0A and 0B:
+-- "part-year, distribution tariff and transmission tariff factors, as in 04".
+use Prim.Native.Nat.{ℕ, _+_, _*_, _/_, _%_, _≤_}
+use mathlib.Core.Path.{_≡_}
+use mathlib.Core.List.{List, [], _∷_}
 use mathlib.Core.Bool.{cond}
 use lib.ListN.{length, replicate}
 use lib.Dec.{leb}
-use Rattle.numbers.specs.BigEndian.{number, numberAt}
+use Rattle.numbers.specs.BigEndian.{numberAt}
 use Rattle.tagged.specs.Find.{fieldValue}
+use Rattle.field_values.specs.Limits.{mostFactors, highestFactor}
 use Rattle.field_values.specs.Judged.{judgeField}
 use Rattle.field_values.specs.declared.factors.Factors.{Factors}
 use Rattle.field_values.specs.declared.judged.Judged.{Judged}
 
 -- "1 to 8 of 2 bytes, each 0 to 40,000"
 abbrev pub factorLimits : List (List ℕ)
-factorLimits = replicate 8 (2 ∷ 0 ∷ 40000 ∷ [])
+factorLimits = replicate mostFactors (2 ∷ 0 ∷ highestFactor ∷ [])
 
 -- the bytes of a list of 1 to 8 factors
 abbrev pub FactorBytes : List ℕ → Type 0
-FactorBytes value = (2 ≤ length value) × (length value ≤ 16) × (length value % 2 ≡ 0)
+FactorBytes value = (2 ≤ length value) × (length value ≤ 2 * mostFactors) × (length value % 2 ≡ 0)
 
 abbrev pub judgeFactors : ℕ → List ℕ → Judged
 judgeFactors tag s = judgeField factorLimits tag s
@@ -40,16 +42,4 @@ abbrev pub factorsOf : ℕ → List ℕ → Factors
 factorsOf tag s = factorsIn (fieldValue tag s)
 
 abbrev pub noFactors : Factors
-noFactors = record { count = 0; values = replicate 8 0 }
-
--- lists of one, two and eight factors
-abbrev smallFactors : List (List ℕ × Factors)
-smallFactors =
-    (39 ∷ 16 ∷ [], record { count = 1; values = 10000 ∷ replicate 7 0 }) ∷
-    (39 ∷ 16 ∷ 1 ∷ 2 ∷ [], record { count = 2; values = 10000 ∷ 258 ∷ replicate 6 0 }) ∷
-    (0 ∷ 1 ∷ 0 ∷ 2 ∷ 0 ∷ 3 ∷ 0 ∷ 4 ∷ 0 ∷ 5 ∷ 0 ∷ 6 ∷ 0 ∷ 7 ∷ 0 ∷ 8 ∷ [], record { count = 8; values = 1 ∷ 2 ∷ 3 ∷ 4 ∷ 5 ∷ 6 ∷ 7 ∷ 8 ∷ [] }) ∷
-    []
-
-pub small-factors-hold : map (λ t. factorsIn (t .0)) smallFactors ≡ map (λ t. t .1) smallFactors
-unfolding number
-small-factors-hold = refl
+noFactors = record { count = 0; values = replicate mostFactors 0 }

@@ -1,4 +1,7 @@
+pub mod Limits
+pub mod FactorLimits
 pub mod Judged
-pub mod JudgedLaws
 pub mod Factors
-pub mod FactorsLaws
+pub mod Reading
+pub mod Cases
+pub mod Theorems

@@ -3,14 +3,15 @@ ghost use mathlib.Core.Path.{_≡_};
 ghost use Rattle.field_values.specs.Factors.{factorAt, factorsOf, noFactors, judgeFactors};
 use crate::judged::Judged;
 use crate::judged::Limit;
+use crate::limits::HIGHEST_FACTOR;
+use crate::limits::MOST_FACTORS;
 
 pub struct Factors {
     pub count: usize,
-    pub values: [u16; 8],
+    pub values: [u16; MOST_FACTORS],
 }
 
-// A factor is at most 40,000.
-const FACTOR_LIMITS: [Limit; 8] = [[2, 0, 40_000]; 8];
+const FACTOR_LIMITS: [Limit; MOST_FACTORS] = [[2, 0, HIGHEST_FACTOR]; MOST_FACTORS];
 
 pub fn judge_factors(fields: &[u8], tag: u8) -> Judged
     ensures { λ r. ⌜ r ≡ judgeFactors tag (now (fields .entry)) ⌝ }
@@ -23,7 +24,7 @@ pub fn no_factors() -> Factors
 {
     Factors {
         count: 0,
-        values: [0; 8],
+        values: [0; MOST_FACTORS],
     }
 }
 

@@ -1,4 +1,4 @@
-// Whether values are as listed: the first that isn't gives the place.
+// Whether values are as document 01, 'Rate book' or 'Request', lists them: the first that isn't gives the place.
 ghost use mathlib.Core.Path.{_≡_};
 ghost use mathlib.Core.Bool.{true};
 ghost use mathlib.Core.Logic.{_⊎_};

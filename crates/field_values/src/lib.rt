@@ -2,3 +2,4 @@
 // letters and factor lists.
 pub mod factors;
 pub mod judged;
+pub mod limits;

@@ -1,6 +1,4 @@
 // Reading a file into a lent buffer, for the programs.
-ghost use Prim.Native.Nat.{_≤_};
-ghost use mathlib.Core.Path.{_≡_};
 ghost use lib.ListN.{length};
 ghost use Rattle.io.specs.Counts.{Counts};
 ghost use Rattle.files.specs.Moved.{AtMost};

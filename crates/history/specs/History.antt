@@ -6,15 +6,14 @@ use mathlib.Core.Bool.{Bool, true, false, cond}
 use lib.ListN.{length}
 use lib.Dec.{eqb}
 use Rattle.charge.specs.declared.Bill.{Bill}
-use Rattle.ledger.specs.Lists.{keep, inOrder, sumBy}
+use Rattle.ledger.specs.Lists.{keep, oldestFirst, sumBy, atStart}
 use Rattle.ledger.specs.Records.{newLedger}
-use Rattle.ledger.specs.Books.{SchemeRow, EntryRow, Books}
+use Rattle.ledger.specs.Books.{SchemeParticulars, EntryParticulars, Books}
 use Rattle.ledger.specs.declared.records.Scheme.{Scheme}
 use Rattle.ledger.specs.declared.records.Party.{Party}
 use Rattle.ledger.specs.declared.records.Ledger.{Ledger}
 use Rattle.calls.specs.Rules.{Credit, creditTo}
 use Rattle.calls.specs.Decision.{Call, Decision, accepted, paidOut, handedOver, refused, decided, CallAnswer, answerTo}
-use Rattle.calls.specs.Carried.{atStart}
 use Rattle.calls.specs.declared.courses.Joining.{Joining}
 use Rattle.calls.specs.declared.courses.Joining.the-variants.{NotAsked, Ended, Small, Pays}
 
@@ -89,8 +88,8 @@ credited entered = sumBy (λ e. amounts (e .credits)) entered
 abbrev pub paidOf : List Payment → ℕ
 paidOf paid = sumBy (λ p. p .amount) paid
 
-abbrev pub standing : Account → ℕ
-standing account = credited (account .entered) - paidOf (account .paid)
+abbrev pub standingCredits : Account → ℕ
+standingCredits account = credited (account .entered) - paidOf (account .paid)
 
 -- "its kVA the capacity in its request"; all parties' kVA, and what they put in
 abbrev pub capacity : List Entering → ℕ
@@ -100,7 +99,6 @@ abbrev pub putIns : List Entering → ℕ
 putIns entered = sumBy (λ e. e .putIn) entered
 
 -- ---- the figures of one party, which is an entry
-
 abbrev pub creditedTo : ℕ → List Entering → ℕ
 creditedTo number entered = sumBy (λ e. creditTo number (e .credits)) entered
 
@@ -113,7 +111,6 @@ personOf number at-first [] = at-first
 personOf number at-first (h ∷ older) = let before = personOf number at-first older in cond (eqb (h .entry) number) (h .person) before
 
 -- ---- over all accepted requests
-
 abbrev pub connections : History → ℕ
 connections history = sumBy (λ bill. 1) (history .bills)
 
@@ -127,7 +124,6 @@ abbrev pub costEntered : History → ℕ
 costEntered history = sumBy (λ bill. bill .reconciliation .entered) (history .bills)
 
 -- ---- what the rules read
-
 abbrev pub openings : List Entering → List Entering
 openings entered = keep (λ e. e .opens) entered
 
@@ -135,8 +131,8 @@ openings entered = keep (λ e. e .opens) entered
 abbrev pub times : {A : Type 0} → (A → ℕ) → ℕ → List A → ℕ
 times number n given = sumBy (λ x. cond (eqb (number x) n) 1 0) given
 
-abbrev pub schemeRowIn : Entering → SchemeRow
-schemeRowIn e =
+abbrev pub schemeParticularsIn : Entering → SchemeParticulars
+schemeParticularsIn e =
     record {
       number = e .scheme;
       cost = e .putIn;
@@ -147,8 +143,8 @@ schemeRowIn e =
     }
 
 -- over its own scheme's account
-abbrev pub entryRowBy : Account → Entering → EntryRow
-entryRowBy account e =
+abbrev pub entryParticularsBy : Account → Entering → EntryParticulars
+entryParticularsBy account e =
     record {
       number = e .entry;
       scheme = e .scheme;
@@ -157,8 +153,8 @@ entryRowBy account e =
       paidOut = paidTo (e .entry) (account .paid);
     }
 
-abbrev pub entryRowIn : History → Entering → EntryRow
-entryRowIn history e = entryRowBy (accountOf (e .scheme) history) e
+abbrev pub entryParticularsIn : History → Entering → EntryParticulars
+entryParticularsIn history e = entryParticularsBy (accountOf (e .scheme) history) e
 
 -- on a table of this length
 abbrev pub booksIn : ℕ → History → Books
@@ -169,12 +165,11 @@ booksIn room history =
       nextScheme = history .nextScheme;
       nextEntry = history .nextEntry;
       room = room;
-      schemes = map schemeRowIn (inOrder (openings (history .entered)));
-      entries = map (entryRowIn history) (inOrder (history .entered));
+      schemes = map schemeParticularsIn (oldestFirst (openings (history .entered)));
+      entries = map (entryParticularsIn history) (oldestFirst (history .entered));
     }
 
 -- ---- the ledger and the entries that the history comes to
-
 abbrev pub schemeIn : History → Entering → Scheme
 schemeIn history e =
     record {
@@ -187,7 +182,7 @@ schemeIn history e =
     }
 
 abbrev pub schemesIn : History → List Scheme
-schemesIn history = map (schemeIn history) (inOrder (openings (history .entered)))
+schemesIn history = map (schemeIn history) (oldestFirst (openings (history .entered)))
 
 -- the places past the last scheme are those of a new ledger: zeros
 abbrev pub ledgerIn : History → Ledger
@@ -217,10 +212,9 @@ abbrev pub partyIn : History → Entering → Party
 partyIn history e = partyBy (accountOf (e .scheme) history) (history .handed) e
 
 abbrev pub partiesIn : History → List Party
-partiesIn history = map (partyIn history) (inOrder (history .entered))
+partiesIn history = map (partyIn history) (oldestFirst (history .entered))
 
 -- ---- one more call: an accept is billed, then joined, then opened; "a call that these refuse adds nothing"
-
 abbrev pub billedIn : Bill → History → History
 billedIn bill history =
     record {
@@ -301,7 +295,6 @@ abbrev pub answerBy : ℕ → History → Call → CallAnswer
 answerBy room history call = answerTo (booksIn room history) (decided (booksIn room history) call)
 
 -- ---- a list of calls, on a table of this length
-
 unfoldable pub historyFrom : ℕ → History → List Call → History
 historyFrom room history [] = history
 historyFrom room history (call ∷ calls) = historyFrom room (withCall room history call) calls

@@ -1,84 +1,33 @@
--- A ledger and its table that show a history: every call is answered as the history answers it, and leaves what shows the history with the call.
-use Prim.Native.Nat.{ℕ, zero-le}
-use mathlib.Core.Path.{_≡_, refl, sym, ap, ap₂, subst, _∙_}
+-- A ledger and its table that show a history.
+use Prim.Native.Nat.{ℕ, _≤_}
+use mathlib.Core.Path.{_≡_}
 use mathlib.Core.List.{List}
-use mathlib.Core.Bool.{true, cond}
-use native.Mathlib.Omega.{arith}
-use lib.ListN.{length, length-replicate}
-use borrow.Author.Tests.{le-leb}
-use Rattle.tagged.specs.File.{refusal}
-use Rattle.ledger.specs.Records.{noScheme, newLedger}
-use Rattle.ledger.specs.Sound.{partiesSound, schemesSound, allZero, sound}
-use Rattle.ledger.specs.Books.{Books}
+use mathlib.Core.Bool.{true}
+use lib.ListN.{length}
+use Rattle.ledger.specs.Limits.{mostSchemes, mostEntries}
+use Rattle.ledger.specs.Sound.{sound}
 use Rattle.ledger.specs.declared.records.Party.{Party}
-use Rattle.calls.specs.Decision.{Call, refused, decided, answerTo}
-use Rattle.calls.specs.Carried.{State, booksOn, carriedOut}
-use Rattle.calls.specs.Calls.{stateOf, decidedOn, answered, leaves, Fits}
-use Rattle.calls.specs.ByPlace.{length-at-start}
-use Rattle.kept_sound.specs.KeptSound.{call-keeps-sound}
-use Rattle.history.specs.History.{History, openings, booksIn, schemesIn, schemeIn, withCall, answerBy, noHistory}
-use Rattle.history.specs.SoundHistory.{SoundHistory, sound-none}
-use Rattle.history.specs.Numbering.{length-shown}
-use Rattle.history.specs.Shows.{stateIn, table-length, books-shown}
-use Rattle.history.specs.Steps.{Within, within-none, step}
+use Rattle.calls.specs.Carried.{State}
+use Rattle.ledger.specs.Lists.{atStart}
+use Rattle.calls.specs.Calls.{stateOf}
+use Rattle.history.specs.History.{History, openings, ledgerIn, partiesIn}
+use Rattle.history.specs.SoundHistory.{SoundHistory}
+
+-- the ledger and the table that show a history, from this table at the start: past the entries that the history comes to, what stood there
+abbrev pub stateIn : List Party → History → State
+stateIn start h = stateOf (ledgerIn h) (atStart (partiesIn h) start)
+
+-- "up to 64 schemes"; entries "at most 512 and at most the table's length"
+pub record CountsWithin (room : ℕ) (h : History) : Type 0 where
+  pub schemes-limit : length (openings (h .entered)) ≤ mostSchemes
+  pub entries-limit : length (h .entered) ≤ mostEntries
+  pub in-table : length (h .entered) ≤ room
+
+pub record HistoryStands (room : ℕ) (h : History) : Type 0 where
+  pub sound : SoundHistory h
+  pub within : CountsWithin room h
 
 pub record ShownState (start : List Party) (h : History) (state : State) : Type 0 where
-  -- the ledger is ledgerIn h; at the start of the table stand the entries that the history comes to, past them what stood there
   pub shows : state ≡ stateIn start h
-  pub sound-history : SoundHistory h
-  -- at most 64 schemes; entries at most 512, and at most the table's length
-  pub within : Within (length start) h
+  pub history : HistoryStands (length start) h
   pub stands : sound (state .ledger) (state .table) (length (state .table)) ≡ true
-
-pub shown-new : (start : List Party) → ShownState start noHistory (stateOf newLedger start)
-unfolding sound partiesSound schemesSound allZero
-shown-new start =
-    record { shows = refl; sound-history = sound-none; within = within-none (length start); stands = rw (le-leb 0 (length start) zero-le) }
-
--- ---- one call
-
-module _ (start : List Party) (h : History) (state : State) (shown : ShownState start h state) where
-  pub shown-length : length (state .table) ≡ length start
-  shown-length = ap (λ (state : State). length (state .table)) (shown .shows) ∙ table-length start h (shown .within .in-table)
-
-  pub shown-places : length (state .ledger .schemes) ≡ 64
-  shown-places =
-      ap (λ (state : State). length (state .ledger .schemes)) (shown .shows)
-      ∙ length-at-start (schemesIn h) (newLedger .schemes)
-      (omega (arith, length-shown (schemeIn h) (openings (h .entered)), shown .within .schemes-limit, length-replicate 64 noScheme))
-      ∙ length-replicate 64 noScheme
-
-  shown-books : booksOn state ≡ booksIn (length start) h
-  shown-books = ap booksOn (shown .shows) ∙ books-shown start h (shown .sound-history) (shown .within .in-table)
-
-  -- 13 doesn't come up, and the rules read the same
-  shown-decision : (call : Call) → decidedOn state call ≡ decided (booksIn (length start) h) call
-  shown-decision call =
-      ap (λ sound. cond sound (decided (booksOn state) call) (refused (refusal 13 0 0))) (shown .stands)
-      ∙ ap (λ (books : Books). decided books call) shown-books
-
-  pub shown-answer : (call : Call) → answered state call ≡ answerBy (length start) h call
-  unfolding answered
-  shown-answer call = ap₂ answerTo shown-books (shown-decision call)
-
-  pub call-shown : (call : Call) → Fits call → leaves state call ≡ stateIn start (withCall (length start) h call)
-  unfolding leaves
-  call-shown call fits =
-      ap₂ carriedOut (shown .shows) (shown-decision call) ∙ step start h (shown .sound-history) (shown .within) call fits .shows
-
-pub shown-step : (start : List Party) (h : History) (state : State) → ShownState start h state → (call : Call) → Fits call →
-    ShownState start (withCall (length start) h call) (leaves state call)
-shown-step start h state shown call fits =
-    let made = step start h (shown .sound-history) (shown .within) call fits in
-    let left = call-shown start h state shown call fits in
-    let same : length (state .table) ≡ length (leaves state call .table) =
-    shown-length start h state shown
-    ∙ sym (ap (λ (state : State). length (state .table)) left ∙ table-length start (withCall (length start) h call) (made .within .in-table)) in
-    record {
-      shows = left;
-      sound-history = made .sound;
-      within = made .within;
-      stands =
-          subst (λ (room : ℕ). sound (leaves state call .ledger) (leaves state call .table) room ≡ true) same
-          (call-keeps-sound state call (shown-places start h state shown) fits (shown .stands));
-    }

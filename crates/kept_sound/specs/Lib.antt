@@ -1,7 +1,4 @@
-pub mod Lengths
-pub mod Entering
-pub mod Steps
-pub mod EntryChanged
-pub mod KeptSound
-pub mod AtStart
-pub mod KeptByCalls
+pub mod SoundState
+pub mod Kept
+pub mod EntryPlaced
+pub mod Theorems

@@ -7,8 +7,9 @@ use native.Mathlib.Numerals.{add-one}
 use native.Mathlib.Omega.{arith}
 use lib.ListN.{length, take, drop, getD, drop-of-length-le}
 use lib.Seq.{drop-cons, getD-take, length-take-le}
-use Rattle.ledger.proofs.Tests.{passes, fails, stops, goes-on}
-use Rattle.ledger.specs.LookupLaws.{placed-scheme}
+use Rattle.tagged.specs.Theorems.TestedAnswers.{passes, fails}
+use Rattle.ledger.proofs.Tests.{stops, goes-on}
+use Rattle.ledger.specs.Theorems.Lookup.{placed-scheme}
 use Rattle.ledger.specs.Sound.{isZero, allZero, accountsSound, schemesSound}
 use Rattle.ledger.specs.Tallied.{noTally, Tallied}
 use Rattle.ledger.specs.declared.records.Scheme.{Scheme}

@@ -10,13 +10,14 @@ use lib.ListN.{length, take, drop, getD, set, length-set, drop-of-length-le, len
 use lib.Seq.{getD-set-same, getD-set-other, drop-cons, getD-take, length-take-le, take-suc}
 use borrow.Author.Tests.{leb-true, eqb-true, eqb-false}
 use Rattle.ledger.specs.Columns.{schemeColumn, putInColumn, sumOver, firstPutIn}
-use Rattle.ledger.specs.ColumnsLaws as columns
-use Rattle.ledger.specs.ColumnsLaws.{ones-again, of-own, of-other}
+use Rattle.ledger.specs.Theorems.Columns as columns
+use Rattle.ledger.specs.Theorems.Columns.{ones-again, of-own, of-other}
+use Rattle.ledger.specs.Limits.{mostSchemes, mostEntries, highestPutIn, highestCredited}
 use Rattle.ledger.specs.Lookup.{schemePlace}
-use Rattle.ledger.specs.LookupLaws.{scheme-placed, one-scheme}
-use Rattle.ledger.specs.Sound.{allHold, countsSound, figuresWithin, partySound, partiesSound, tallyOf}
-use Rattle.ledger.specs.SoundFacts.{held}
-use Rattle.ledger.specs.Tallied.{noTally, noTallies, tallyWith, Tallied, Within, Bounded}
+use Rattle.ledger.specs.Theorems.Lookup.{scheme-placed, one-scheme}
+use Rattle.ledger.specs.Sound.{allHold, countsWithin, countsSound, figuresWithin, partySound, partiesSound, tallyOf}
+use Rattle.ledger.specs.Theorems.Sound.{held}
+use Rattle.ledger.specs.Tallied.{noTally, noTallies, tallyWith, Tallied, TallyWithin, TalliesWithin}
 use Rattle.ledger.specs.declared.lookup.SchemeAt.the-variants as SchemeAt
 use Rattle.ledger.specs.declared.records.Ledger.{Ledger}
 use Rattle.ledger.specs.declared.records.Party.{Party}
@@ -84,7 +85,7 @@ module _ (s : ℕ) (party : Party) (parties : List Party) where
 
 -- ---- the tallies, each at its scheme's place
 
-module _ (count : ℕ) (few : count ≤ 64) (tallies : List Tally) (sized : length tallies ≡ 64) (party : Party) (j : ℕ)
+module _ (count : ℕ) (few : count ≤ mostSchemes) (tallies : List Tally) (sized : length tallies ≡ mostSchemes) (party : Party) (j : ℕ)
     (here : schemePlace count (party .scheme) ≡ SchemeAt.Place j) where
   within : (s k : ℕ) → schemePlace count s ≡ SchemeAt.Place k → k < length tallies
   within s k place = let placed = scheme-placed count s k place in omega (arith, placed .kept, placed .next)
@@ -110,18 +111,18 @@ module _ (count : ℕ) (few : count ≤ 64) (tallies : List Tally) (sized : leng
           ∙ told s k place
           ∙ sym (other-more s party parties other)
 
-pub within-more : (n : ℕ) (tally : Tally) (party : Party) → party .«put_in» ≤ 2000000000 → party .credited ≤ 2000000000000 → Within n tally →
-    Within (n + 1) (tallyWith tally party)
+pub within-more : (n : ℕ) (tally : Tally) (party : Party) → party .«put_in» ≤ highestPutIn → party .credited ≤ highestCredited → TallyWithin n tally →
+    TallyWithin (n + 1) (tallyWith tally party)
 within-more n tally party p q w = record { many = omega (arith, w .many); credits = omega (arith, w .credits); put = omega (arith, w .put) }
 
-within-le : (m n : ℕ) (tally : Tally) → m ≤ n → Within m tally → Within n tally
+within-le : (m n : ℕ) (tally : Tally) → m ≤ n → TallyWithin m tally → TallyWithin n tally
 within-le m n tally l w = record { many = omega (arith, w .many); credits = omega (arith, w .credits); put = omega (arith, w .put) }
 
-bounded-more : (n : ℕ) (tallies : List Tally) (j : ℕ) (party : Party) → length tallies ≡ 64 → party .«put_in» ≤ 2000000000 →
-    party .credited ≤ 2000000000000 → Bounded n tallies → Bounded (n + 1) (set tallies j (tallyWith (getD tallies j noTally) party))
+bounded-more : (n : ℕ) (tallies : List Tally) (j : ℕ) (party : Party) → length tallies ≡ mostSchemes → party .«put_in» ≤ highestPutIn →
+    party .credited ≤ highestCredited → TalliesWithin n tallies → TalliesWithin (n + 1) (set tallies j (tallyWith (getD tallies j noTally) party))
 bounded-more n tallies j party sized p q b k h = by (eqb j k) refl
   where
-    by : (own : Bool) → eqb j k ≡ own → Within (n + 1) (getD (set tallies j (tallyWith (getD tallies j noTally) party)) k noTally)
+    by : (own : Bool) → eqb j k ≡ own → TallyWithin (n + 1) (getD (set tallies j (tallyWith (getD tallies j noTally) party)) k noTally)
     by true own =
         let same : j ≡ k = eqb-true j k own in
         rw (same, getD-set-same tallies k (tallyWith (getD tallies k noTally) party) noTally (omega arith))
@@ -156,20 +157,20 @@ by-figures count k party here = rw here
 
 -- what the loop keeps when the first i entries are passed
 pub record Kept (count : ℕ) (tallies : List Tally) (parties : List Party) (i : ℕ) : Type 0 where
-  pub sized : length tallies ≡ 64
+  pub sized : length tallies ≡ mostSchemes
   pub tallied : Tallied count tallies (take i parties)
-  pub bounded : Bounded i tallies
+  pub bounded : TalliesWithin i tallies
 
-pub kept-start : (count : ℕ) → count ≤ 64 → (parties : List Party) → Kept count noTallies parties 0
+pub kept-start : (count : ℕ) → count ≤ mostSchemes → (parties : List Party) → Kept count noTallies parties 0
 unfolding noTallies sumOver firstPutIn
 kept-start count few parties =
     record {
-      sized = length-replicate 64 noTally;
-      tallied = λ s k place. let placed = scheme-placed count s k place in getD-replicate 64 k noTally noTally (omega (arith, placed .kept, placed .next));
-      bounded = λ k h. rw (getD-replicate 64 k noTally noTally h) (record { many = omega arith; credits = omega arith; put = omega arith });
+      sized = length-replicate mostSchemes noTally;
+      tallied = λ s k place. let placed = scheme-placed count s k place in getD-replicate mostSchemes k noTally noTally (omega (arith, placed .kept, placed .next));
+      bounded = λ k h. rw (getD-replicate mostSchemes k noTally noTally h) (record { many = omega arith; credits = omega arith; put = omega arith });
     }
 
-pub kept-more : (tallies : List Tally) (parties : List Party) (i count j : ℕ) (none : Party) → count ≤ 64 →
+pub kept-more : (tallies : List Tally) (parties : List Party) (i count j : ℕ) (none : Party) → count ≤ mostSchemes →
     schemePlace count (getD parties i none .scheme) ≡ SchemeAt.Place j → allHold (figuresWithin (getD parties i none)) ≡ true → i < length parties →
     Kept count tallies parties i → Kept count (set tallies j (tallyWith (getD tallies j noTally) (getD parties i none))) parties (i + 1)
 kept-more tallies parties i count j none few here sound h kept =
@@ -182,16 +183,16 @@ kept-more tallies parties i count j none few here sound h kept =
       bounded = bounded-more i tallies j party (kept .sized) (leb-true _ _ (each 2)) (leb-true _ _ (each 3)) (kept .bounded);
     }
 
-pub kept-within : (count : ℕ) (tallies : List Tally) (parties : List Party) (i k n : ℕ) → Kept count tallies parties i → k < 64 → i ≤ n →
-    Within n (getD tallies k noTally)
+pub kept-within : (count : ℕ) (tallies : List Tally) (parties : List Party) (i k n : ℕ) → Kept count tallies parties i → k < mostSchemes → i ≤ n →
+    TallyWithin n (getD tallies k noTally)
 kept-within count tallies parties i k n kept h l = within-le i n (getD tallies k noTally) l (kept .bounded k h)
 
-pub kept-end : (count : ℕ) (tallies : List Tally) (parties : List Party) (i entries : ℕ) → Kept count tallies parties i → i ≡ entries → entries ≤ 512 →
-    Tallied count tallies (take entries parties) × Bounded 512 tallies
+pub kept-end : (count : ℕ) (tallies : List Tally) (parties : List Party) (i entries : ℕ) → Kept count tallies parties i → i ≡ entries → entries ≤ mostEntries →
+    Tallied count tallies (take entries parties) × TalliesWithin mostEntries tallies
 kept-end count tallies parties i entries kept e l =
-    (rw e at (kept .tallied), λ k h. kept-within count tallies parties i k 512 kept h (omega arith))
+    (rw e at (kept .tallied), λ k h. kept-within count tallies parties i k mostEntries kept h (omega arith))
 
-pub counts-bounds : (ledger : Ledger) (room : ℕ) → countsSound ledger room ≡ true → (ledger .entries ≤ 512) × (ledger .count ≤ 64)
+pub counts-bounds : (ledger : Ledger) (room : ℕ) → countsSound ledger room ≡ true → (ledger .entries ≤ mostEntries) × (ledger .count ≤ mostSchemes)
 counts-bounds ledger room h =
-    let each = held (leb (ledger .count) 64 ∷ leb (ledger .entries) 512 ∷ leb (ledger .entries) room ∷ []) h in
+    let each = held (countsWithin ledger (leb (ledger .entries) room)) h in
     (leb-true _ _ (each 1), leb-true _ _ (each 0))

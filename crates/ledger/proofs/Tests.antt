@@ -1,16 +1,11 @@
--- What an answer that is tested says of the definition that it equals, and bounds of a scheme's sums.
+-- Conditions that are tested one after the other, and a bound of a scheme's fees.
 use Prim.Native.Nat.{ℕ, _*_, _-_, _≤_}
-use mathlib.Core.Path.{_≡_, refl, sym, ap, _∙_}
-use mathlib.Core.Bool.{Bool, true, false, not, cond}
+use mathlib.Core.Path.{_≡_, refl, ap}
+use mathlib.Core.Bool.{Bool, true, false, cond}
 use native.Mathlib.Nat.{mul-le-mul}
 use native.Mathlib.Omega.{arith}
-use borrow.Author.Tests.{not-true, not-false}
-
-pub passes : {answer defined : Bool} → answer ≡ defined → not answer ≡ false → defined ≡ true
-passes e t = sym e ∙ not-false _ t
-
-pub fails : {answer defined : Bool} → answer ≡ defined → not answer ≡ true → defined ≡ false
-fails e t = sym e ∙ not-true _ t
+use Rattle.field_values.specs.Limits.{highestMinimum}
+use Rattle.ledger.specs.Limits.{mostEntries}
 
 -- one turn of a loop that tests records one after the other
 pub stops : {defined : Bool} → defined ≡ false → (next : Bool) → cond defined next false ≡ false
@@ -24,8 +19,9 @@ pub last-holds : (condition : Bool) → condition ≡ cond condition true false
 last-holds true = refl
 last-holds false = refl
 
-pub fees-bounded : (fee minimum entries : ℕ) → fee ≤ minimum → minimum ≤ 1000000000 → entries ≤ 512 → fee * (entries - 1) ≤ 512000000000
+pub fees-bounded : (fee minimum entries : ℕ) → fee ≤ minimum → minimum ≤ highestMinimum → entries ≤ mostEntries →
+    fee * (entries - 1) ≤ highestMinimum * mostEntries
 fees-bounded fee minimum entries f m e =
-    let f′ : fee ≤ 1000000000 = omega arith in
-    let e′ : entries - 1 ≤ 512 = omega arith in
+    let f′ : fee ≤ highestMinimum = omega arith in
+    let e′ : entries - 1 ≤ mostEntries = omega arith in
     omega (arith, mul-le-mul f′ e′)

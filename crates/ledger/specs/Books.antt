@@ -10,7 +10,7 @@ use Rattle.ledger.specs.declared.records.Party.{Party}
 use Rattle.ledger.specs.declared.records.Ledger.{Ledger}
 
 -- what a scheme was opened with
-pub record SchemeRow : Type 0 where
+pub record SchemeParticulars : Type 0 where
   pub number : ℕ
   pub cost : ℕ
   pub fee : ℕ
@@ -19,7 +19,7 @@ pub record SchemeRow : Type 0 where
   pub opening : ℕ
   pub term : ℕ
 
-pub record EntryRow : Type 0 where
+pub record EntryParticulars : Type 0 where
   pub number : ℕ
   pub scheme : ℕ
   pub capacity : ℕ
@@ -36,25 +36,23 @@ pub record Books : Type 0 where
   -- the length of the party table
   pub room : ℕ
   -- in the order of their numbers
-  pub schemes : List SchemeRow
-  pub entries : List EntryRow
+  pub schemes : List SchemeParticulars
+  pub entries : List EntryParticulars
 
 -- ---- by number
-
-abbrev pub schemeAt : Books → ℕ → Found SchemeRow
+abbrev pub schemeAt : Books → ℕ → Found SchemeParticulars
 schemeAt books s = first (keep (λ row. eqb (row .number) s) (books .schemes))
 
-abbrev pub entryAt : Books → ℕ → Found EntryRow
+abbrev pub entryAt : Books → ℕ → Found EntryParticulars
 entryAt books e = first (keep (λ row. eqb e (row .number)) (books .entries))
 
 -- the entries of scheme s
-abbrev pub ofScheme : ℕ → List EntryRow → List EntryRow
+abbrev pub ofScheme : ℕ → List EntryParticulars → List EntryParticulars
 ofScheme s rows = keep (λ row. eqb (row .scheme) s) rows
 
 -- ---- as a ledger and its table show them: schemes and entries are "numbered from 1"
-
-abbrev pub schemeRow : ℕ → Scheme → SchemeRow
-schemeRow number scheme =
+abbrev pub schemeParticulars : ℕ → Scheme → SchemeParticulars
+schemeParticulars number scheme =
     record {
       number = number;
       cost = scheme .cost;
@@ -64,8 +62,8 @@ schemeRow number scheme =
       term = scheme .term;
     }
 
-abbrev pub entryRow : ℕ → Party → EntryRow
-entryRow number party =
+abbrev pub entryParticulars : ℕ → Party → EntryParticulars
+entryParticulars number party =
     record {
       number = number;
       scheme = party .scheme;
@@ -82,6 +80,6 @@ booksOf ledger table =
       nextScheme = ledger .count + 1;
       nextEntry = ledger .entries + 1;
       room = length table;
-      schemes = numberedFrom 1 schemeRow (take (ledger .count) (ledger .schemes));
-      entries = numberedFrom 1 entryRow (take (ledger .entries) table);
+      schemes = numberedFrom 1 schemeParticulars (take (ledger .count) (ledger .schemes));
+      entries = numberedFrom 1 entryParticulars (take (ledger .entries) table);
     }

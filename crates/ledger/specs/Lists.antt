@@ -23,9 +23,9 @@ abbrev pub atStart : {A : Type 0} → List A → List A → List A
 atStart elements others = elements ++ drop (length elements) others
 
 -- the history has the newest first, ledger and table the oldest
-abbrev pub inOrder : {A : Type 0} → List A → List A
-inOrder [] = []
-inOrder (x ∷ xs) = inOrder xs ++ (x ∷ [])
+abbrev pub oldestFirst : {A : Type 0} → List A → List A
+oldestFirst [] = []
+oldestFirst (x ∷ xs) = oldestFirst xs ++ (x ∷ [])
 
 abbrev pub sumBy : {A : Type 0} → (A → ℕ) → List A → ℕ
 sumBy figure [] = 0

@@ -1,12 +1,12 @@
--- Document 01: schemes are "numbered from 1 in order of opening", entries "are added at the end, numbered from 1". A number's place, where so many stand.
-use Prim.Native.Nat.{ℕ, _-_}
-use mathlib.Core.Path.{_≡_, refl}
-use mathlib.Core.List.{[], _∷_, map}
+-- Document 01, 'Ledger calls': schemes are "numbered from 1 in order of opening", entries "are added at the end, numbered from 1". A number's place, where so
+-- many stand.
+use Prim.Native.Nat.{ℕ, _-_, suc, _≤_}
 use mathlib.Core.Bool.{cond}
+use mathlib.Core.Path.{_≡_}
 use lib.Dec.{ltb}
 use Rattle.ledger.specs.declared.lookup.SchemeAt.{SchemeAt}
-use Rattle.ledger.specs.declared.lookup.SchemeAt.the-variants as SchemeAt
 use Rattle.ledger.specs.declared.lookup.EntryAt.{EntryAt}
+use Rattle.ledger.specs.declared.lookup.SchemeAt.the-variants as SchemeAt
 use Rattle.ledger.specs.declared.lookup.EntryAt.the-variants as EntryAt
 
 unfoldable pub schemePlace : ℕ → ℕ → SchemeAt
@@ -15,9 +15,8 @@ schemePlace count s = cond (ltb s 1) SchemeAt.NeverOpened (cond (ltb count s) Sc
 unfoldable pub entryPlace : ℕ → ℕ → EntryAt
 entryPlace entries e = cond (ltb e 1) EntryAt.NoSuchEntry (cond (ltb entries e) EntryAt.NoSuchEntry (EntryAt.Place (e - 1)))
 
--- where two stand: the numbers 0 to 3
-pub place-rows-hold :
-    (map (schemePlace 2) (0 ∷ 1 ∷ 2 ∷ 3 ∷ []) ≡ SchemeAt.NeverOpened ∷ SchemeAt.Place 0 ∷ SchemeAt.Place 1 ∷ SchemeAt.NeverOpened ∷ []) ×
-    (map (entryPlace 2) (0 ∷ 1 ∷ 2 ∷ 3 ∷ []) ≡ EntryAt.NoSuchEntry ∷ EntryAt.Place 0 ∷ EntryAt.Place 1 ∷ EntryAt.NoSuchEntry ∷ [])
-unfolding schemePlace entryPlace
-place-rows-hold = (refl, refl)
+-- number n has place k where so many stand
+pub record Placed (count n k : ℕ) : Type 0 where
+  pub numbered : 1 ≤ n
+  pub kept : n ≤ count
+  pub next : suc k ≡ n

@@ -2,6 +2,7 @@
 use Prim.Native.Nat.{ℕ}
 use mathlib.Core.List.{List}
 use lib.ListN.{replicate}
+use Rattle.ledger.specs.Limits.{mostSchemes, mostEntries}
 use Rattle.ledger.specs.declared.records.Scheme.{Scheme}
 use Rattle.ledger.specs.declared.records.Party.{Party}
 use Rattle.ledger.specs.declared.records.Ledger.{Ledger}
@@ -25,7 +26,7 @@ noParty = partyOf 0 0 0 0 0 0
 
 -- the records where there is no entry
 unfoldable pub noParties : List Party
-noParties = replicate 512 noParty
+noParties = replicate mostEntries noParty
 
 abbrev pub newLedger : Ledger
-newLedger = ledgerOf 0 0 0 0 0 0 (replicate 64 noScheme)
+newLedger = ledgerOf 0 0 0 0 0 0 (replicate mostSchemes noScheme)

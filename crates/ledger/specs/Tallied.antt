@@ -5,17 +5,18 @@ use mathlib.Core.List.{List}
 use mathlib.Core.Bool.{cond}
 use lib.ListN.{replicate, getD}
 use lib.Dec.{eqb}
+use Rattle.ledger.specs.Limits.{mostSchemes, highestPutIn, highestCredited}
 use Rattle.ledger.specs.Lookup.{schemePlace}
 use Rattle.ledger.specs.Sound.{tallyOf}
-use Rattle.ledger.specs.declared.lookup.SchemeAt.the-variants as SchemeAt
 use Rattle.ledger.specs.declared.records.Party.{Party}
 use Rattle.ledger.specs.declared.sound.Tally.{Tally}
+use Rattle.ledger.specs.declared.lookup.SchemeAt.the-variants as SchemeAt
 
 abbrev pub noTally : Tally
 noTally = record { entries = 0; first = 0; credited = 0; «put_in» = 0 }
 
 unfoldable pub noTallies : List Tally
-noTallies = replicate 64 noTally
+noTallies = replicate mostSchemes noTally
 
 -- with one entry more
 abbrev pub tallyWith : Tally → Party → Tally
@@ -32,10 +33,10 @@ abbrev pub Tallied : ℕ → List Tally → List Party → Type 0
 Tallied count tallies parties = (s k : ℕ) → schemePlace count s ≡ SchemeAt.Place k → getD tallies k noTally ≡ tallyOf s parties
 
 -- what n entries can come to
-pub record Within (n : ℕ) (tally : Tally) : Type 0 where
+pub record TallyWithin (n : ℕ) (tally : Tally) : Type 0 where
   pub many : tally .entries ≤ n
-  pub credits : tally .credited ≤ 2000000000000 * n
-  pub put : tally .«put_in» ≤ 2000000000 * n
+  pub credits : tally .credited ≤ highestCredited * n
+  pub put : tally .«put_in» ≤ highestPutIn * n
 
-abbrev pub Bounded : ℕ → List Tally → Type 0
-Bounded n tallies = (k : ℕ) → k < 64 → Within n (getD tallies k noTally)
+abbrev pub TalliesWithin : ℕ → List Tally → Type 0
+TalliesWithin n tallies = (k : ℕ) → k < mostSchemes → TallyWithin n (getD tallies k noTally)

@@ -1,5 +1,9 @@
 // What a ledger and its table hold, in the stored form's widths: every value of these types can be
 // handed over, sound or not.
+use crate::limits::MOST_ENTRIES;
+use crate::limits::MOST_SCHEMES;
+use crate::limits::Parties;
+use crate::limits::Schemes;
 ghost use mathlib.Core.Path.{_≡_};
 ghost use Rattle.ledger.specs.Records.{noParty, noParties, newLedger};
 
@@ -33,7 +37,7 @@ pub struct Ledger {
     pub borne: u64,
     pub entries: u32,
     pub count: u32,
-    pub schemes: [Scheme; 64],
+    pub schemes: Schemes,
 }
 
 pub fn no_party() -> Party
@@ -49,11 +53,11 @@ pub fn no_party() -> Party
     }
 }
 
-pub fn no_parties() -> [Party; 512]
+pub fn no_parties() -> Parties
     ensures { λ r. ⌜ r ≡ noParties ⌝ }
 {
     let none = no_party();
-    [none; 512]
+    [none; MOST_ENTRIES]
 }
 
 pub fn new_ledger() -> Ledger
@@ -74,6 +78,6 @@ pub fn new_ledger() -> Ledger
         borne: 0,
         entries: 0,
         count: 0,
-        schemes: [none; 64],
+        schemes: [none; MOST_SCHEMES],
     }
 }

@@ -1,18 +1,32 @@
 // Whether a ledger is sound: one pass over the entries, with sums for each scheme.
+use crate::limits::HIGHEST_CREDITED;
+use crate::limits::HIGHEST_PUT_IN;
+use crate::limits::HIGHEST_SUM;
+use crate::limits::MOST_CONNECTIONS;
+use crate::limits::MOST_ENTRIES_COUNTED;
+use crate::limits::MOST_SCHEMES;
+use crate::limits::MOST_SCHEMES_COUNTED;
+use crate::limits::Parties;
+use crate::limits::Schemes;
 use crate::lookup::SchemeAt;
 use crate::lookup::scheme_at;
 use crate::records::Ledger;
 use crate::records::Party;
 use crate::records::Scheme;
+use field_values::limits::HIGHEST_CAPACITY;
+use field_values::limits::HIGHEST_MINIMUM;
+use field_values::limits::LOWEST_CAPACITY;
+use field_values::limits::LOWEST_TERM;
 ghost use mathlib.Core.Path.{_≡_};
 ghost use mathlib.Core.Bool.{true, false, cond};
 ghost use mathlib.Core.List.{List};
-ghost use Prim.Native.Nat.{_≤_};
+ghost use Prim.Native.Nat.{_≤_, _-_};
 ghost use lib.Dec.{eqb};
 ghost use lib.ListN.{take, drop};
 ghost use Rattle.ledger.specs.declared.records.Party.{Party};
+ghost use Rattle.ledger.specs.Limits.{mostSchemes, mostEntries, highestCredited};
 ghost use Rattle.ledger.specs.Sound.{allHold, countsSound, sumsSound, figuresWithin, partiesSound, accountsSound, schemesSound, isZero, allZero, sound};
-ghost use Rattle.ledger.specs.Tallied.{noTallies, tallyWith, Tallied, Within, Bounded};
+ghost use Rattle.ledger.specs.Tallied.{noTallies, tallyWith, Tallied, TallyWithin, TalliesWithin};
 
 // What a scheme's entries come to: how many, what the first put in, what all were credited and put in.
 pub struct Tally {
@@ -22,18 +36,20 @@ pub struct Tally {
     pub put_in: u64,
 }
 
+pub type Tallies = [Tally; MOST_SCHEMES];
+
 pub struct EntriesTally {
     pub sound: bool,
-    pub tallies: [Tally; 64],
+    pub tallies: Tallies,
 }
 
 fn counts_sound(ledger: Ledger, room: usize) -> bool
     ensures { λ r. ⌜ r ≡ countsSound ledger room ⌝ }
 {
-    if 64 < ledger.count {
+    if MOST_SCHEMES_COUNTED < ledger.count {
         return false;
     }
-    if 512 < ledger.entries {
+    if MOST_ENTRIES_COUNTED < ledger.entries {
         return false;
     }
     ledger.entries as usize <= room
@@ -42,10 +58,10 @@ fn counts_sound(ledger: Ledger, room: usize) -> bool
 fn sums_sound(ledger: Ledger) -> bool
     ensures { λ r. ⌜ r ≡ sumsSound ledger ⌝ }
 {
-    if 1_000_000 < ledger.connections {
+    if MOST_CONNECTIONS < ledger.connections {
         return false;
     }
-    let most = 1_100_000_000_000 * ledger.connections as u64;
+    let most = HIGHEST_SUM * ledger.connections as u64;
     if most < ledger.charged {
         return false;
     }
@@ -55,16 +71,16 @@ fn sums_sound(ledger: Ledger) -> bool
 fn figures_sound(party: Party) -> bool
     ensures { λ r. ⌜ r ≡ allHold (figuresWithin party) ⌝ }
 {
-    if party.capacity < 1 {
+    if party.capacity < LOWEST_CAPACITY {
         return false;
     }
-    if 1_000_000 < party.capacity {
+    if HIGHEST_CAPACITY < party.capacity {
         return false;
     }
-    if 2_000_000_000 < party.put_in {
+    if HIGHEST_PUT_IN < party.put_in {
         return false;
     }
-    if 2_000_000_000_000 < party.credited {
+    if HIGHEST_CREDITED < party.credited {
         return false;
     }
     party.paid_out <= party.credited
@@ -91,7 +107,7 @@ fn is_zero(scheme: Scheme) -> bool
     scheme.fees == 0
 }
 
-fn no_tallies() -> [Tally; 64]
+fn no_tallies() -> Tallies
     ensures { λ r. ⌜ r ≡ noTallies ⌝ }
 {
     let none = Tally {
@@ -100,7 +116,7 @@ fn no_tallies() -> [Tally; 64]
         credited: 0,
         put_in: 0,
     };
-    [none; 64]
+    [none; MOST_SCHEMES]
 }
 
 fn first_of(entries: u64, first: u64, put_in: u64) -> u64
@@ -114,7 +130,7 @@ fn first_of(entries: u64, first: u64, put_in: u64) -> u64
 
 // With one entry more.
 fn tally_with(tally: Tally, party: Party) -> Tally
-    requires { ⌜ Within 511 tally × (party .credited ≤ 2000000000000) ⌝ }
+    requires { ⌜ TallyWithin (mostEntries - 1) tally × (party .credited ≤ highestCredited) ⌝ }
     ensures { λ r. ⌜ r ≡ tallyWith tally party ⌝ }
 {
     Tally {
@@ -134,10 +150,10 @@ fn unsound_entries() -> EntriesTally
     }
 }
 
-fn tally_entries(parties: [Party; 512], entries: u32, count: u32) -> EntriesTally
-    requires { ⌜ (entries ≤ 512) × (count ≤ 64) ⌝ }
+fn tally_entries(parties: Parties, entries: u32, count: u32) -> EntriesTally
+    requires { ⌜ (entries ≤ mostEntries) × (count ≤ mostSchemes) ⌝ }
     ensures { λ r. ⌜ r .sound ≡ partiesSound count (take entries parties) ⌝ }
-    ensures { λ r. ⌜ (r .sound ≡ true → Tallied count (r .tallies) (take entries parties) × Bounded 512 (r .tallies)) ⌝ }
+    ensures { λ r. ⌜ (r .sound ≡ true → Tallied count (r .tallies) (take entries parties) × TalliesWithin mostEntries (r .tallies)) ⌝ }
 {
     let mut tallies = no_tallies();
     let mut i = 0;
@@ -160,16 +176,16 @@ fn tally_entries(parties: [Party; 512], entries: u32, count: u32) -> EntriesTall
 
 // A scheme's terms and accounts, by what its entries come to.
 fn scheme_sound(month: u16, scheme: Scheme, tally: Tally) -> bool
-    requires { ⌜ Within 512 tally ⌝ }
+    requires { ⌜ TallyWithin mostEntries tally ⌝ }
     ensures { λ r. ⌜ r ≡ accountsSound month scheme tally ⌝ }
 {
     if scheme.minimum < scheme.fee {
         return false;
     }
-    if 1_000_000_000 < scheme.minimum {
+    if HIGHEST_MINIMUM < scheme.minimum {
         return false;
     }
-    if scheme.term < 84 {
+    if scheme.term < LOWEST_TERM {
         return false;
     }
     if month < scheme.opening {
@@ -189,8 +205,8 @@ fn scheme_sound(month: u16, scheme: Scheme, tally: Tally) -> bool
     told == tally.put_in
 }
 
-fn schemes_sound(month: u16, schemes: [Scheme; 64], count: u32, tallies: [Tally; 64]) -> bool
-    requires { ⌜ (count ≤ 64) × Bounded 512 tallies ⌝ }
+fn schemes_sound(month: u16, schemes: Schemes, count: u32, tallies: Tallies) -> bool
+    requires { ⌜ (count ≤ mostSchemes) × TalliesWithin mostEntries tallies ⌝ }
     ensures { λ r. ⌜ ((parties : List Party) → Tallied count tallies parties → r ≡ schemesSound month parties 1 (take count schemes)) ⌝ }
 {
     let mut i = 0;
@@ -203,12 +219,12 @@ fn schemes_sound(month: u16, schemes: [Scheme; 64], count: u32, tallies: [Tally;
     true
 }
 
-fn rest_zero(schemes: [Scheme; 64], count: u32) -> bool
-    requires { ⌜ count ≤ 64 ⌝ }
+fn rest_zero(schemes: Schemes, count: u32) -> bool
+    requires { ⌜ count ≤ mostSchemes ⌝ }
     ensures { λ r. ⌜ r ≡ allZero (drop count schemes) ⌝ }
 {
     let mut i = count as usize;
-    while i < 64 {
+    while i < MOST_SCHEMES {
         if !is_zero(schemes[i]) {
             return false;
         }
@@ -218,7 +234,7 @@ fn rest_zero(schemes: [Scheme; 64], count: u32) -> bool
 }
 
 // Whether a ledger is sound with these entries, where the table has `room` records.
-pub fn sound(ledger: Ledger, parties: [Party; 512], room: usize) -> bool
+pub fn sound(ledger: Ledger, parties: Parties, room: usize) -> bool
     ensures { λ r. ⌜ r ≡ sound ledger parties room ⌝ }
 {
     if !counts_sound(ledger, room) {

@@ -4,15 +4,20 @@ use calls::answers::Acceptance;
 use calls::answers::Answer;
 use calls::answers::JoiningAnswer;
 use calls::answers::OpeningAnswer;
+use ledger::limits::MOST_ENTRIES;
+use ledger::limits::MOST_SCHEMES;
+use ledger::limits::Parties;
+use ledger::limits::Schemes;
 use ledger::records::Ledger;
 use ledger::records::Party;
 use ledger::records::Scheme;
 use libc::STDOUT_FILENO;
 use reconciliation::Reconciliation;
 use stored::writing::Written;
+use tagged::file::FileAnswer;
 use tagged::file::Refusal;
-use tagged::file::Standing;
 ghost use Prim.Native.Nat.{_≤_};
+ghost use Rattle.ledger.specs.Limits.{mostSchemes, mostEntries};
 
 pub fn write(text: &[u8]) {
     io::write_all(STDOUT_FILENO, text);
@@ -99,10 +104,10 @@ pub fn write_answer(answer: Answer) {
     }
 }
 
-pub fn write_standing(standing: Standing) {
+pub fn write_file_answer(standing: FileAnswer) {
     match standing {
-        Standing::Stands => write(b"READ\n"),
-        Standing::Refused(refusal) => write_refusal(refusal),
+        FileAnswer::Stands => write(b"READ\n"),
+        FileAnswer::Refused(refusal) => write_refusal(refusal),
     }
 }
 
@@ -154,8 +159,8 @@ pub fn write_figures(ledger: Ledger) {
     write(b"\n");
 }
 
-fn write_schemes(schemes: [Scheme; 64], count: usize)
-    requires { ⌜ count ≤ 64 ⌝ }
+fn write_schemes(schemes: Schemes, count: usize)
+    requires { ⌜ count ≤ mostSchemes ⌝ }
 {
     let mut i: usize = 0;
     while i < count {
@@ -164,8 +169,8 @@ fn write_schemes(schemes: [Scheme; 64], count: usize)
     }
 }
 
-fn write_entries(parties: [Party; 512], entries: usize)
-    requires { ⌜ entries ≤ 512 ⌝ }
+fn write_entries(parties: Parties, entries: usize)
+    requires { ⌜ entries ≤ mostEntries ⌝ }
 {
     let mut i: usize = 0;
     while i < entries {
@@ -175,11 +180,11 @@ fn write_entries(parties: [Party; 512], entries: usize)
 }
 
 // The entry with this number; nothing where no record has it.
-pub fn write_entry(parties: [Party; 512], number: usize) {
+pub fn write_entry(parties: Parties, number: usize) {
     if number < 1 {
         return;
     }
-    if 512 < number {
+    if MOST_ENTRIES < number {
         return;
     }
     write_party(number, parties[number - 1]);
@@ -192,9 +197,9 @@ fn least(a: usize, b: usize) -> usize
 }
 
 // The ledger's figures, its schemes and its entries.
-pub fn write_ledger(ledger: Ledger, parties: [Party; 512]) {
+pub fn write_ledger(ledger: Ledger, parties: Parties) {
     let schemes = ledger.schemes;
     write_figures(ledger);
-    write_schemes(schemes, least(ledger.count as usize, 64));
-    write_entries(parties, least(ledger.entries as usize, 512));
+    write_schemes(schemes, least(ledger.count as usize, MOST_SCHEMES));
+    write_entries(parties, least(ledger.entries as usize, MOST_ENTRIES));
 }

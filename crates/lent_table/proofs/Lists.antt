@@ -10,16 +10,17 @@ use lib.Seq.{length-take-le, take-append-seam, drop-append-seam}
 use package.mir.Val.{Val}
 use denote.Laws.{Is}
 use denote.Slice.{Room}
+use Rattle.ledger.specs.Limits.{mostEntries}
 use Rattle.ledger.specs.declared.records.Party.{Party}
 use Rattle.ledger.specs.declared.records.Ledger.{Ledger}
 use Rattle.calls.specs.Decision.{Call, CallAnswer}
 use Rattle.calls.specs.Calls.{stateOf, Promised}
-use Rattle.calls_by_value.specs.ByValue.{PromisedWithin}
+use Rattle.calls_by_value.specs.ByValue.{PromisedOnRecords}
 use Rattle.stored.specs.Reading.{readOf}
 use Rattle.pioneer.specs.declared.ReadResult.{ReadResult}
-use Rattle.party_table.proofs.Rows.{PartyRow, ArrayRow}
+use Rattle.party_table.proofs.MachineValues.{PartyRow, ArrayRow}
 
-pub parties-length : (parties : List Party) (vs : List Val) → Is (ArrayRow PartyRow 512) parties vs → length parties ≡ 512
+pub parties-length : (parties : List Party) (vs : List Val) → Is (ArrayRow PartyRow mostEntries) parties vs → length parties ≡ mostEntries
 parties-length parties vs is = is .1 .0 .1
 
 -- no more of a list is taken or left out than it has
@@ -35,14 +36,14 @@ drop-least (suc n) (x ∷ xs) = rw (suc-min-suc n (length xs)) (drop-least n xs)
 
 module _ (room : ℕ) where
   abbrev records : ℕ
-  records = min room 512
+  records = min room mostEntries
 
   pub lent-room : Room PartyRow records
-  lent-room = let most : records ≤ 512 = min-le-right room 512 in (omega (arith, most), omega (arith, most))
+  lent-room = let most : records ≤ mostEntries = min-le-right room mostEntries in (omega (arith, most), omega (arith, most))
 
-  module _ (parties : List Party) (all : length parties ≡ 512) where
+  module _ (parties : List Party) (all : length parties ≡ mostEntries) where
     pub lent-within : records ≤ length parties
-    lent-within = omega (arith, min-le-right room 512, all)
+    lent-within = omega (arith, min-le-right room mostEntries, all)
 
     pub lent-table : take records parties ≡ take room parties
     lent-table = subst (λ (n : ℕ). take (min room n) parties ≡ take room parties) all (take-least room parties)
@@ -51,7 +52,7 @@ module _ (room : ℕ) where
       abbrev left : List Party
       left = changed ++ drop records parties
 
-      pub left-length : length left ≡ 512
+      pub left-length : length left ≡ mostEntries
       left-length =
           omega (
             arith,
@@ -78,7 +79,7 @@ module _ (room : ℕ) where
 
       pub left-promised : (ledger after : Ledger) (call : Call) (answer : CallAnswer) →
           Promised (stateOf ledger (take records parties)) call answer (stateOf after changed) →
-          PromisedWithin room ledger parties call answer after left
+          PromisedOnRecords room ledger parties call answer after left
       left-promised ledger after call answer promised =
           record {
             promised = rw left-table (subst (λ (table : List Party). Promised (stateOf ledger table) call answer (stateOf after changed)) lent-table promised);

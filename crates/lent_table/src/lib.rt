@@ -1,24 +1,24 @@
-// The public calls of `pioneer` on an array of 512 parties: each lends the array's first `room` records, or all of them, as the party table, and
+// The public calls of `pioneer` on an array of parties: each lends the array's first `room` records, or all of them, as the party table, and
 // hands back the array as the call left it.
 use calls::answers::Answer;
 use calls_by_value::AcceptedTable;
 use calls_by_value::ChangedTable;
+use ledger::limits::Parties;
 use ledger::records::Ledger;
-use ledger::records::Party;
 use pioneer::AcceptResult;
 use pioneer::ReadResult;
 use stored::writing::Written;
-use tagged::file::Standing;
+use tagged::file::FileAnswer;
 ghost use mathlib.Core.Path.{_≡_};
 ghost use lib.ListN.{take, drop};
 ghost use Rattle.calls.specs.Decision.{ofAccept, ofEntryCall};
 ghost use Rattle.calls.specs.Decision as Call;
-ghost use Rattle.calls_by_value.specs.ByValue.{PromisedWithin};
+ghost use Rattle.calls_by_value.specs.ByValue.{PromisedOnRecords};
 ghost use Rattle.stored.specs.Writing.{writeOf};
 ghost use Rattle.stored.specs.Reading.{readOf};
 ghost use Rattle.lent_table.specs.Lent.{acceptedWith, changedWith, readWith};
 
-fn accepted_with(result: AcceptResult, parties: [Party; 512]) -> AcceptedTable
+fn accepted_with(result: AcceptResult, parties: Parties) -> AcceptedTable
     ensures { λ r. ⌜ r ≡ acceptedWith result parties ⌝ }
 {
     let answer = result.answer;
@@ -32,19 +32,19 @@ fn accepted_with(result: AcceptResult, parties: [Party; 512]) -> AcceptedTable
 
 pub fn accept(
     ledger: Ledger,
-    mut parties: [Party; 512],
+    mut parties: Parties,
     room: usize,
     book: &[u8],
     request: &[u8],
 ) -> AcceptedTable
-    ensures { λ r. ⌜ PromisedWithin room ledger parties (Call.accept (now (book .entry)) (now (request .entry))) (ofAccept (r .answer)) (r .ledger) (r .parties) ⌝ }
+    ensures { λ r. ⌜ PromisedOnRecords room ledger parties (Call.accept (now (book .entry)) (now (request .entry))) (ofAccept (r .answer)) (r .ledger) (r .parties) ⌝ }
 {
     let records = calls_by_value::records_of(room);
     let result = pioneer::accept(ledger, &mut parties[..records], book, request);
     accepted_with(result, parties)
 }
 
-fn changed_with(answer: Answer, parties: [Party; 512]) -> ChangedTable
+fn changed_with(answer: Answer, parties: Parties) -> ChangedTable
     ensures { λ r. ⌜ r ≡ changedWith answer parties ⌝ }
 {
     ChangedTable { answer, parties }
@@ -52,12 +52,12 @@ fn changed_with(answer: Answer, parties: [Party; 512]) -> ChangedTable
 
 pub fn pay_out(
     ledger: Ledger,
-    mut parties: [Party; 512],
+    mut parties: Parties,
     room: usize,
     entry: u32,
     amount: u64,
 ) -> ChangedTable
-    ensures { λ r. ⌜ PromisedWithin room ledger parties (Call.payOut entry amount) (ofEntryCall (r .answer)) ledger (r .parties) ⌝ }
+    ensures { λ r. ⌜ PromisedOnRecords room ledger parties (Call.payOut entry amount) (ofEntryCall (r .answer)) ledger (r .parties) ⌝ }
 {
     let records = calls_by_value::records_of(room);
     let answer = pioneer::pay_out(ledger, &mut parties[..records], entry, amount);
@@ -66,19 +66,19 @@ pub fn pay_out(
 
 pub fn hand_over(
     ledger: Ledger,
-    mut parties: [Party; 512],
+    mut parties: Parties,
     room: usize,
     entry: u32,
     person: u32,
 ) -> ChangedTable
-    ensures { λ r. ⌜ PromisedWithin room ledger parties (Call.handOver entry person) (ofEntryCall (r .answer)) ledger (r .parties) ⌝ }
+    ensures { λ r. ⌜ PromisedOnRecords room ledger parties (Call.handOver entry person) (ofEntryCall (r .answer)) ledger (r .parties) ⌝ }
 {
     let records = calls_by_value::records_of(room);
     let answer = pioneer::hand_over(ledger, &mut parties[..records], entry, person);
     changed_with(answer, parties)
 }
 
-pub fn write(ledger: Ledger, parties: [Party; 512], room: usize, out: &mut [u8]) -> Written
+pub fn write(ledger: Ledger, parties: Parties, room: usize, out: &mut [u8]) -> Written
     ensures { λ r. ⌜
         (r ≡ writeOf ledger (take room parties) (now (out .entry)) .answer)
         × (now (out .exit) ≡ writeOf ledger (take room parties) (now (out .entry)) .output)
@@ -89,12 +89,12 @@ pub fn write(ledger: Ledger, parties: [Party; 512], room: usize, out: &mut [u8])
 }
 
 pub struct ReadTable {
-    pub answer: Standing,
+    pub answer: FileAnswer,
     pub ledger: Ledger,
-    pub parties: [Party; 512],
+    pub parties: Parties,
 }
 
-fn read_with(result: ReadResult, parties: [Party; 512]) -> ReadTable
+fn read_with(result: ReadResult, parties: Parties) -> ReadTable
     ensures { λ r. ⌜ r ≡ readWith result parties ⌝ }
 {
     let answer = result.answer;
@@ -106,7 +106,7 @@ fn read_with(result: ReadResult, parties: [Party; 512]) -> ReadTable
     }
 }
 
-pub fn read(ledger: Ledger, mut parties: [Party; 512], room: usize, file: &[u8]) -> ReadTable
+pub fn read(ledger: Ledger, mut parties: Parties, room: usize, file: &[u8]) -> ReadTable
     ensures { λ r. ⌜
         (r .answer ≡ readOf ledger (take room parties) (now (file .entry)) .answer)
         × (r .ledger ≡ readOf ledger (take room parties) (now (file .entry)) .ledger)

@@ -1,7 +1,7 @@
 // Lists the fields of the sample files in data/, and says whether each file stands or how it is
 // refused.
 use libc::STDOUT_FILENO;
-use tagged::file::Standing;
+use tagged::file::FileAnswer;
 
 // The kinds of file.
 enum Kind {
@@ -40,7 +40,7 @@ fn list(fields: &[u8]) {
     }
 }
 
-fn stands(kind: Kind, file: &[u8]) -> Standing {
+fn stands(kind: Kind, file: &[u8]) -> FileAnswer {
     match kind {
         Kind::Book => book_zones::rows::book_stands(1, file),
         Kind::Request => request::rows::request_stands(2, file),
@@ -55,11 +55,11 @@ fn show(kind: Kind, name: &[u8]) {
     let standing = stands(kind, file);
     write(name);
     match standing {
-        Standing::Stands => {
+        FileAnswer::Stands => {
             write(b" stands\n");
             list(tagged::file::fields_part(file));
         }
-        Standing::Refused(refusal) => {
+        FileAnswer::Refused(refusal) => {
             write(b" REFUSED ");
             write_number(refusal.number as u64);
             write(b" ");

@@ -1,4 +1,4 @@
--- Numbers in a file: "Files are big endian."
+-- Document 01, 'How things are counted': "Files are big endian." Numbers in a file.
 use Prim.Native.Nat.{ℕ, zero, suc, _+_, _*_, _/_, _%_, _^_, _<_}
 use mathlib.Core.List.{List, [], _∷_, _++_, foldl}
 use lib.ListN.{length, getD, take, drop}

@@ -1,4 +1,4 @@
 pub mod BigEndian
-pub mod BigEndianLaws
 pub mod Check
-pub mod CheckLaws
+pub mod Cases
+pub mod Theorems

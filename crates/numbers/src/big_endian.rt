@@ -1,7 +1,7 @@
 // Big-endian numbers of 1, 2, 4 and 8 bytes, read at a place of a slice and written into a lent
 // one. A number of a width is two numbers of half the width.
 ghost use mathlib.Core.Path.{_≡_};
-ghost use Prim.Native.Nat.{ℕ, _+_, _*_, _<_, _≤_};
+ghost use Prim.Native.Nat.{_+_, _*_, _≤_};
 ghost use lib.ListN.{length};
 ghost use Rattle.numbers.specs.BigEndian.{numberAt, bytesOf, written};
 

@@ -5,6 +5,7 @@ use mathlib.Core.List.{List, [], _∷_, _++_}
 use native.Mathlib.Nat.{not-suc-le-zero, le-of-suc-le-suc, zero-min, min-zero, suc-min-suc, zero-sub, sub-zero, suc-sub-suc}
 use native.Mathlib.Numerals.{add-one}
 use lib.ListN.{length, getD, set, take, drop, replicate, length-take}
+use Rattle.ledger.specs.Limits.{mostEntries}
 use Rattle.ledger.specs.Records.{noParty, noParties}
 use Rattle.ledger.specs.declared.records.Party.{Party}
 use Rattle.party_table.specs.PartyTable.{snapshotOf}
@@ -48,6 +49,6 @@ copied-kept n room table party = rw (take-min n table, drop-replicate room (min 
 
 -- where as many are copied as there are entries, the zeros have become the snapshot
 pub copied-snapshot : (entries : ℕ) (table : List Party) →
-    copied (min (min entries 512) (length table)) table noParties ≡ snapshotOf entries table
+    copied (min (min entries mostEntries) (length table)) table noParties ≡ snapshotOf entries table
 unfolding snapshotOf noParties
-copied-snapshot entries table = copied-kept (min entries 512) 512 table noParty
+copied-snapshot entries table = copied-kept (min entries mostEntries) mostEntries table noParty

@@ -1,5 +1,5 @@
 pub mod Copying
 pub mod Lending
 pub mod Putting
-pub mod Rows
+pub mod MachineValues
 pub mod Turns

@@ -1,2 +1,2 @@
 pub mod PartyTable
-pub mod PartyTableLaws
+pub mod Theorems

@@ -2,10 +2,10 @@
 use Prim.Native.Nat.{ℕ, _-_, min}
 use mathlib.Core.List.{List, _++_}
 use lib.ListN.{length, take, replicate}
+use Rattle.ledger.specs.Limits.{mostEntries}
 use Rattle.ledger.specs.Records.{noParty}
-pub use Rattle.ledger.specs.Table.{CreditsFit}
 use Rattle.ledger.specs.declared.records.Party.{Party}
 
 -- the entries by value: the first records of the table, as many as there are entries and at most 512, and zeros past them
 unfoldable pub snapshotOf : ℕ → List Party → List Party
-snapshotOf entries table = let kept = take (min entries 512) table in kept ++ replicate (512 - length kept) noParty
+snapshotOf entries table = let kept = take (min entries mostEntries) table in kept ++ replicate (mostEntries - length kept) noParty

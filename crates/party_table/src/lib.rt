@@ -1,30 +1,37 @@
 // The party table, lent: a snapshot of its entries to decide on, and the writes. Every write goes
 // through a function that writes one record.
+use ledger::limits::MOST_ENTRIES;
+use ledger::limits::Parties;
 use ledger::records::Party;
 ghost use mathlib.Core.Path.{_≡_};
 ghost use mathlib.Core.List.{_++_};
 ghost use Prim.Native.Nat.{_+_, _≤_, _<_, _^_, min};
 ghost use lib.ListN.{length, set, getD, take, drop};
 ghost use lib.Seq.{sets};
+ghost use Rattle.ledger.specs.Limits.{mostEntries};
 ghost use Rattle.ledger.specs.Records.{noParty};
 ghost use Rattle.ledger.specs.Updates.{withPaidOut, withPerson};
-ghost use Rattle.ledger.specs.Table.{creditedMore, creditEach};
-ghost use Rattle.party_table.specs.PartyTable.{snapshotOf, CreditsFit};
+ghost use Rattle.ledger.specs.Table.{creditedMore, creditEach, CreditsFit};
+ghost use Rattle.party_table.specs.PartyTable.{snapshotOf};
 
 // How many records a snapshot takes of a table of `room` records.
 fn kept(entries: u32, room: usize) -> usize
-    ensures { λ r. ⌜ r ≡ min (min entries 512) room ⌝ }
+    ensures { λ r. ⌜ r ≡ min (min entries mostEntries) room ⌝ }
 {
     let count = entries as usize;
-    if count < 512 {
+    if count < MOST_ENTRIES {
         if room < count { room } else { count }
     } else {
-        if room < 512 { room } else { 512 }
+        if room < MOST_ENTRIES {
+            room
+        } else {
+            MOST_ENTRIES
+        }
     }
 }
 
-// The entries' records, and zeros up to 512.
-pub fn snapshot(table: &[Party], entries: u32) -> [Party; 512]
+// The entries' records, and zeros past them.
+pub fn snapshot(table: &[Party], entries: u32) -> Parties
     ensures { λ r. ⌜ r ≡ snapshotOf entries (now (table .entry)) ⌝ }
 {
     let count = kept(entries, table.len());
@@ -92,8 +99,8 @@ pub fn hand_one(table: &mut [Party], at: usize, person: u32)
 }
 
 // Each entry gets its credit.
-pub fn credit_each(table: &mut [Party], entries: u32, credits: [u64; 512])
-    requires { ⌜ (entries ≤ 512) × (entries ≤ length (now table)) × CreditsFit entries (now table) credits ⌝ }
+pub fn credit_each(table: &mut [Party], entries: u32, credits: [u64; MOST_ENTRIES])
+    requires { ⌜ (entries ≤ mostEntries) × (entries ≤ length (now table)) × CreditsFit entries (now table) credits ⌝ }
     ensures { λ _. ⌜ now (table .exit) ≡ creditEach (now (table .entry)) (take entries credits) ⌝ }
 {
     let count = entries as usize;
@@ -105,8 +112,8 @@ pub fn credit_each(table: &mut [Party], entries: u32, credits: [u64; 512])
 }
 
 // The first records of the table become those of the array.
-pub fn store_each(table: &mut [Party], entries: u32, parties: [Party; 512])
-    requires { ⌜ (entries ≤ 512) × (entries ≤ length (now table)) ⌝ }
+pub fn store_each(table: &mut [Party], entries: u32, parties: Parties)
+    requires { ⌜ (entries ≤ mostEntries) × (entries ≤ length (now table)) ⌝ }
     ensures { λ _. ⌜ now (table .exit) ≡ take entries parties ++ drop entries (now (table .entry)) ⌝ }
 {
     let count = entries as usize;

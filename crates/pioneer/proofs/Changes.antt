@@ -7,24 +7,25 @@ use native.Mathlib.Omega.{arith}
 use lib.ListN.{length, take, set, getD, length-set, length-take}
 use lib.Seq.{getD-take}
 use lib.Dec.{T}
+use Rattle.tagged.specs.Refusals.{ledgerUnsound}
 use Rattle.ledger.specs.Records.{noParty}
 use Rattle.ledger.specs.Sound.{sound}
 use Rattle.ledger.specs.Updates.{withPaidOut, withPerson}
 use Rattle.ledger.specs.declared.records.Party.{Party}
 use Rattle.ledger.specs.declared.records.Ledger.{Ledger}
-use Rattle.calls.specs.ListsLaws.{by-test}
-use Rattle.calls.specs.Decision.{Call, payOut, handOver, ofEntryCall}
-use Rattle.calls.specs.CallsLaws.{unsound-promised}
-use Rattle.calls.specs.Calls.{stateOf, answered, leaves, Promised, promise-from}
+use Rattle.calls.specs.Theorems.Lists.{by-test}
+use Rattle.calls.specs.Decision.{payOut, handOver, ofEntryCall}
+use Rattle.calls.specs.Calls.{stateOf, Promised}
 use Rattle.calls.specs.declared.answers.Answer.{Answer}
 use Rattle.calls.specs.declared.answers.Answer.the-variants.{Done, Refused}
 use Rattle.entry_calls.specs.EntryCalls.{refusedChange, payOutChange, handOverChange, changedTable}
-use Rattle.entry_calls.specs.Changed.{Changed, IfDone, pay-out-changed, hand-over-changed}
-use Rattle.entry_calls.specs.IsCall.{pay-out-is-call, hand-over-is-call}
+use Rattle.entry_calls.specs.Theorems.ChangedRecord.{Changed, IfDone, pay-out-changed, hand-over-changed}
+use Rattle.entry_calls.specs.Theorems.ChangeIsCall.{pay-out-is-call, hand-over-is-call}
+use Rattle.entry_calls.specs.Theorems.ChangePromised.{change-promised}
 use Rattle.entry_calls.specs.declared.EntryChange.{EntryChange}
 use Rattle.party_table.specs.PartyTable.{snapshotOf}
-use Rattle.pioneer.specs.Calls.{notDone}
-use Rattle.pioneer_accept.specs.Snapshots.{snapshot-sound, snapshot-entries}
+use Rattle.pioneer.specs.ReadResult.{notDone}
+use Rattle.pioneer_accept.specs.Theorems.Snapshots.{same-entries, snapshot-sound, snapshot-entries}
 
 module _ (table : List Party) where
   -- the table that a change leaves, by its answer
@@ -75,8 +76,8 @@ module _ (ledger : Ledger) (table : List Party) where
   snapshot = snapshotOf (ledger .entries) table
 
   -- a change that was decided on the snapshot
-  module _ (change : EntryChange) (refuses : sound ledger snapshot (length table) ≡ false → change ≡ refusedChange 13) where
-    unsound-refused : sound ledger table (length table) ≡ false → change ≡ refusedChange 13
+  module _ (change : EntryChange) (refuses : sound ledger snapshot (length table) ≡ false → change ≡ refusedChange ledgerUnsound) where
+    unsound-refused : sound ledger table (length table) ≡ false → change ≡ refusedChange ledgerUnsound
     unsound-refused unsound = refuses (snapshot-sound ledger table ∙ unsound)
 
     changes : (update : Party → Party) → IfDone (take (ledger .entries) snapshot) update change → T (not (notDone (change .answer))) →
@@ -98,27 +99,11 @@ module _ (ledger : Ledger) (table : List Party) where
         refused : sound ledger table (length table) ≡ false → Changes table change (update (getD table (change .place) noParty))
         refused unsound = absurd (subst (λ (c : EntryChange). T (not (notDone (c .answer)))) (unsound-refused unsound) done)
 
-    promised : (call : Call) →
-        (take (ledger .entries) snapshot ≡ take (ledger .entries) table →
-        (ofEntryCall (change .answer) ≡ answered (stateOf ledger table) call)
-        × (stateOf ledger (changedTable table change) ≡ leaves (stateOf ledger table) call)) →
-        Promised (stateOf ledger table) call (ofEntryCall (change .answer)) (stateOf ledger (changedTable table change))
-    promised call is-call = by-test (sound ledger table (length table)) standing refused
-      where
-        Kept : EntryChange → Type 0
-        Kept c = Promised (stateOf ledger table) call (ofEntryCall (c .answer)) (stateOf ledger (changedTable table c))
-
-        standing : sound ledger table (length table) ≡ true → Kept change
-        standing stands = let told = is-call (snapshot-entries ledger table stands) in promise-from (told .0) (told .1)
-
-        refused : sound ledger table (length table) ≡ false → Kept change
-        refused unsound = subst Kept (sym (unsound-refused unsound)) (unsound-promised (stateOf ledger table) call unsound)
-
   module _ (entry amount : ℕ) where
     abbrev paying : EntryChange
     paying = payOutChange ledger snapshot (length table) entry amount
 
-    pay-out-unsound : sound ledger snapshot (length table) ≡ false → paying ≡ refusedChange 13
+    pay-out-unsound : sound ledger snapshot (length table) ≡ false → paying ≡ refusedChange ledgerUnsound
     unfolding payOutChange
     pay-out-unsound unsound = rw unsound
 
@@ -130,13 +115,14 @@ module _ (ledger : Ledger) (table : List Party) where
         (pay-out-changed ledger snapshot entry amount (length table))
 
     pub pay-out-promised : Promised (stateOf ledger table) (payOut entry amount) (ofEntryCall (paying .answer)) (stateOf ledger (changedTable table paying))
-    pay-out-promised = promised paying pay-out-unsound (payOut entry amount) (pay-out-is-call ledger table snapshot entry amount)
+    pay-out-promised =
+        change-promised (same-entries ledger table) (payOut entry amount) paying pay-out-unsound (pay-out-is-call ledger table snapshot entry amount)
 
   module _ (entry person : ℕ) where
     abbrev handing : EntryChange
     handing = handOverChange ledger snapshot (length table) entry person
 
-    hand-over-unsound : sound ledger snapshot (length table) ≡ false → handing ≡ refusedChange 13
+    hand-over-unsound : sound ledger snapshot (length table) ≡ false → handing ≡ refusedChange ledgerUnsound
     unfolding handOverChange
     hand-over-unsound unsound = rw unsound
 
@@ -145,4 +131,6 @@ module _ (ledger : Ledger) (table : List Party) where
 
     pub hand-over-promised :
         Promised (stateOf ledger table) (handOver entry person) (ofEntryCall (handing .answer)) (stateOf ledger (changedTable table handing))
-    hand-over-promised = promised handing hand-over-unsound (handOver entry person) (hand-over-is-call ledger table snapshot entry person)
+    hand-over-promised =
+        change-promised (same-entries ledger table) (handOver entry person) handing hand-over-unsound
+        (hand-over-is-call ledger table snapshot entry person)

@@ -11,13 +11,13 @@ use borrow.Author.Tests.{leb-true, leb-false}
 use Rattle.ledger.specs.Sound.{sound}
 use Rattle.ledger.specs.declared.records.Party.{Party}
 use Rattle.ledger.specs.declared.records.Ledger.{Ledger}
-use Rattle.stored.specs.LayoutLaws.{length-placed}
+use Rattle.stored.specs.Theorems.Layout.{length-at-start}
 use Rattle.stored.specs.Form.{storedForm}
 use Rattle.stored.specs.Writing.{writtenAnswer, writtenOutput}
-use Rattle.stored.specs.WritingLaws.{write-refused-13, write-refused-14, write-done, output-refused, output-done}
-use Rattle.stored.specs.SameForm.{same-writing}
+use Rattle.stored.specs.Theorems.Writing.{write-refused-13, write-refused-14, write-done, output-refused, output-done}
+use Rattle.stored.specs.Theorems.SameForm.{same-writing}
 use Rattle.party_table.specs.PartyTable.{snapshotOf}
-use Rattle.pioneer_accept.specs.Snapshots.{same-entries}
+use Rattle.pioneer_accept.specs.Theorems.Snapshots.{same-entries}
 
 module _ (ledger : Ledger) (parties : List Party) (room : ℕ) (out : List ℕ) where
   abbrev form : List ℕ
@@ -31,7 +31,7 @@ module _ (ledger : Ledger) (parties : List Party) (room : ℕ) (out : List ℕ) 
       (output-refused ledger parties room out (write-refused-14 ledger parties room out stands (leb-false (length form) (length out) short))))
       (λ fits.
       ap length (output-done ledger parties room out (write-done ledger parties room out stands (leb-true (length form) (length out) fits)))
-      ∙ length-placed form out (leb-true (length form) (length out) fits))
+      ∙ length-at-start form out (leb-true (length form) (length out) fits))
       (dichotomy (leb (length form) (length out)))
 
   pub written-length : length (writtenOutput ledger parties room out) ≡ length out

@@ -3,19 +3,20 @@
 // crate of its own, `pioneer_accept`.
 use calls::answers::Answer;
 use entry_calls::EntryChange;
+use ledger::limits::Parties;
 use ledger::records::Ledger;
 use ledger::records::Party;
 pub use pioneer_accept::AcceptResult;
 pub use pioneer_accept::accept;
 use stored::reading::ReadBack;
 use stored::writing::Written;
-use tagged::file::Standing;
+use tagged::file::FileAnswer;
 ghost use mathlib.Core.Path.{_≡_};
 ghost use Rattle.calls.specs.Decision.{payOut, handOver, ofEntryCall};
 ghost use Rattle.calls.specs.Calls.{stateOf, Promised};
 ghost use Rattle.stored.specs.Writing.{writeOf};
 ghost use Rattle.stored.specs.Reading.{readOf};
-ghost use Rattle.pioneer.specs.Calls.{notDone, readRefused, readResult};
+ghost use Rattle.pioneer.specs.ReadResult.{notDone, readRefused, readResult};
 
 fn not_done(change: EntryChange) -> bool
     ensures { λ r. ⌜ r ≡ notDone (change .answer) ⌝ }
@@ -74,7 +75,7 @@ pub fn write(ledger: Ledger, table: &[Party], out: &mut [u8]) -> Written
 }
 
 pub struct ReadResult {
-    pub answer: Standing,
+    pub answer: FileAnswer,
     pub ledger: Ledger,
 }
 
@@ -83,8 +84,8 @@ fn read_refused(back: ReadBack) -> bool
 {
     let answer = back.answer;
     match answer {
-        Standing::Stands => false,
-        Standing::Refused(_) => true,
+        FileAnswer::Stands => false,
+        FileAnswer::Refused(_) => true,
     }
 }
 
@@ -94,7 +95,7 @@ fn entries_of(back: ReadBack) -> u32
     back.ledger.entries
 }
 
-fn parties_of(back: ReadBack) -> [Party; 512]
+fn parties_of(back: ReadBack) -> Parties
     ensures { λ r. ⌜ r ≡ back .parties ⌝ }
 {
     back.parties

@@ -1,6 +1,6 @@
--- What accept promises and leaves of the table, by its plan: on a sound ledger the snapshot has the table's entries, so that the plan is the call's; any
+-- What accept leaves of the table, by its plan, and that the plan can be carried out there: on a sound ledger the snapshot has the table's entries; any
 -- other ledger is refused with 13.
-use Prim.Native.Nat.{ℕ, _+_, _<_, _^_}
+use Prim.Native.Nat.{_+_, _<_, _^_}
 use mathlib.Core.Path.{_≡_, refl, sym, _∙_, ap, subst}
 use mathlib.Core.List.{List}
 use mathlib.Core.Bool.{true, false, not}
@@ -8,29 +8,28 @@ use lib.ListN.{length, take, getD}
 use lib.Seq.{length-sets}
 use lib.Dec.{T}
 use Rattle.tagged.specs.File.{refusal}
-use Rattle.charge.specs.Price.{priceOf}
+use Rattle.tagged.specs.Refusals.{ledgerUnsound}
 use Rattle.charge.specs.declared.Pricing.{Pricing}
+use Rattle.ledger.specs.Limits.{mostSchemes}
 use Rattle.ledger.specs.Sound.{sound}
 use Rattle.ledger.specs.Table.{creditEach}
-use Rattle.ledger.specs.TableLaws.{length-credit-each}
+use Rattle.ledger.specs.Theorems.Table.{length-credit-each}
 use Rattle.ledger.specs.declared.records.Party.{Party}
 use Rattle.ledger.specs.declared.records.Ledger.{Ledger}
-use Rattle.calls.specs.ListsLaws.{by-test}
-use Rattle.calls.specs.Decision.{accept, ofAccept}
-use Rattle.calls.specs.CallsLaws.{unsound-promised}
-use Rattle.calls.specs.Calls.{stateOf, Promised, promise-from}
+use Rattle.calls.specs.Theorems.Lists.{by-test}
 use Rattle.calls.specs.declared.answers.Acceptance.{Acceptance}
 use Rattle.calls.specs.declared.answers.AcceptAnswer.{AcceptAnswer}
 use Rattle.calls.specs.declared.answers.AcceptAnswer.the-variants.{Accepted, NotAccepted}
+use Rattle.acceptance.specs.PlanCarried.{planCarriedOut}
 use Rattle.acceptance.specs.Plan.{refusedPlan, planOf, planTable}
-use Rattle.acceptance.specs.PlanLaws.{plan-refused-13}
-use Rattle.acceptance.specs.PlanFits.{PlanFits, plan-fits}
-use Rattle.acceptance.specs.PlanIsCall.{plan-is-call}
+use Rattle.acceptance.specs.Theorems.Plan.{plan-refused-13}
+use Rattle.acceptance.specs.PlanFits.{PlanFits}
+use Rattle.acceptance.specs.Theorems.PlanFits.{plan-fits}
 use Rattle.acceptance.specs.declared.accept.Plan.{Plan}
 use Rattle.party_table.specs.PartyTable.{snapshotOf}
-use Rattle.party_table.specs.PartyTableLaws.{snapshot-length}
-use Rattle.pioneer_accept.specs.Calls.{notAccepted, carriedOut}
-use Rattle.pioneer_accept.specs.Snapshots.{snapshot-sound, snapshot-entries, snapshot-entry}
+use Rattle.party_table.specs.Theorems.PartyTable.{snapshot-length}
+use Rattle.pioneer_accept.specs.AcceptResult.{notAccepted}
+use Rattle.pioneer_accept.specs.Theorems.Snapshots.{snapshot-sound, snapshot-entry}
 
 by-acceptance : {P : Type 0} (answer : AcceptAnswer) → T (not (notAccepted answer)) → ((acceptance : Acceptance) → answer ≡ Accepted acceptance → P) → P
 by-acceptance (Accepted acceptance) accepted given = given acceptance refl
@@ -38,7 +37,7 @@ by-acceptance (NotAccepted r) accepted given = absurd accepted
 
 module _ (ledger : Ledger) (table : List Party) where
   abbrev carried : Plan → List Party
-  carried plan = carriedOut (ledger .entries) table plan
+  carried plan = planCarriedOut (ledger .entries) table plan
 
   -- the table that a plan leaves, by its answer
   data PlanLeaves (plan : Plan) : Type 0 where
@@ -92,11 +91,11 @@ module _ (ledger : Ledger) (table : List Party) where
   abbrev Unsound : Type 0
   Unsound = sound ledger table (length table) ≡ false
 
-  refused-13 : Unsound → (pricing : Pricing) → planned pricing ≡ refusedPlan ledger (refusal 13 0 0)
+  refused-13 : Unsound → (pricing : Pricing) → planned pricing ≡ refusedPlan ledger (refusal ledgerUnsound 0 0)
   refused-13 unsound pricing =
       plan-refused-13 ledger (snapshotOf (ledger .entries) table) (length table) pricing (snapshot-sound ledger table ∙ unsound)
 
-  module _ (places : length (ledger .schemes) ≡ 64) where
+  module _ (places : length (ledger .schemes) ≡ mostSchemes) where
     -- what carrying out a plan needs of the table
     abbrev Fits : Plan → Type 0
     Fits plan = PlanFits (ledger .entries) (length table) table plan
@@ -123,19 +122,3 @@ module _ (ledger : Ledger) (table : List Party) where
 
         refused : Unsound → Fits (planned pricing)
         refused unsound = absurd (subst (λ (plan : Plan). T (not (notAccepted (plan .answer)))) (refused-13 unsound pricing) accepted)
-
-    pub plan-promised : (book request : List ℕ) → let plan = planned (priceOf book request) in
-        Promised (stateOf ledger table) (accept book request) (ofAccept (plan .answer)) (stateOf (plan .ledger) (planTable ledger table plan))
-    plan-promised book request = by-test (sound ledger table (length table)) standing refused
-      where
-        Kept : Plan → Type 0
-        Kept plan = Promised (stateOf ledger table) (accept book request) (ofAccept (plan .answer)) (stateOf (plan .ledger) (planTable ledger table plan))
-
-        standing : sound ledger table (length table) ≡ true → Kept (planned (priceOf book request))
-        standing stands =
-            let call =
-            plan-is-call ledger table (snapshotOf (ledger .entries) table) book request (snapshot-entries ledger table stands) places in
-            promise-from (call .0) (call .1)
-
-        refused : Unsound → Kept (planned (priceOf book request))
-        refused unsound = subst Kept (sym (refused-13 unsound (priceOf book request))) (unsound-promised (stateOf ledger table) (accept book request) unsound)

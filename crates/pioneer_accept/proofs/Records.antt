@@ -14,6 +14,7 @@ use types.Kit.{Given}
 use denote.RattleType.{RattleType}
 use denote.Laws.{Is, Tells, Makes}
 use denote.Struct.Laws as struct-laws
+use Rattle.ledger.specs.Limits.{mostSchemes}
 use Rattle.ledger.specs.declared.records.Ledger.{Ledger}
 use Rattle.acceptance.specs.declared.accept.Plan.{Plan}
 use Rattle.ledger.proofs.records.Ledger as ledger
@@ -87,5 +88,5 @@ module _ {M : Type 1} (𝓤 : URA M) (H : Heap 𝓤) (A : Atoms 𝓤) where
 pub entries-fits : (x : Ledger) (vs : List Val) → Is LedgerRow x vs → x .entries < 2 ^ 32
 entries-fits x vs is = is .1 .1 .1 .1 .1 .1 .0 .1
 
-pub schemes-length : (x : Ledger) (vs : List Val) → Is LedgerRow x vs → length (x .schemes) ≡ 64
+pub schemes-length : (x : Ledger) (vs : List Val) → Is LedgerRow x vs → length (x .schemes) ≡ mostSchemes
 schemes-length x vs is = sym (length-map (x .schemes) (scheme.the-field .into)) ∙ is .1 .1 .1 .1 .1 .1 .1 .1 .0 .1 .0 .1

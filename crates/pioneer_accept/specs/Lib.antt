@@ -1,2 +1,2 @@
-pub mod Calls
-pub mod Snapshots
+pub mod AcceptResult
+pub mod Theorems

@@ -2,14 +2,16 @@
 // them, and writes to the table once nothing can be refused any more. `pioneer` passes it on with the other public calls.
 use acceptance::accept::Plan;
 use calls::answers::AcceptAnswer;
+use ledger::limits::MOST_ENTRIES;
 use ledger::records::Ledger;
 use ledger::records::Party;
 ghost use mathlib.Core.Path.{_≡_};
 ghost use lib.ListN.{length};
 ghost use Rattle.calls.specs.Decision.{accept, ofAccept};
 ghost use Rattle.calls.specs.Calls.{stateOf, Promised};
+ghost use Rattle.acceptance.specs.PlanCarried.{planCarriedOut};
 ghost use Rattle.acceptance.specs.PlanFits.{PlanFits};
-ghost use Rattle.pioneer_accept.specs.Calls.{notAccepted, carriedOut, acceptResult};
+ghost use Rattle.pioneer_accept.specs.AcceptResult.{notAccepted, acceptResult};
 
 pub struct AcceptResult {
     pub answer: AcceptAnswer,
@@ -26,7 +28,7 @@ fn not_accepted(plan: Plan) -> bool
     }
 }
 
-fn credits_of(plan: Plan) -> [u64; 512]
+fn credits_of(plan: Plan) -> [u64; MOST_ENTRIES]
     ensures { λ r. ⌜ r ≡ plan .credits ⌝ }
 {
     plan.credits
@@ -55,7 +57,7 @@ fn accept_result(plan: Plan) -> AcceptResult
 // The entries get their credits, and those that are added their records. Where none is credited, the credits are zeros.
 fn carry_out(table: &mut [Party], entries: u32, plan: Plan)
     requires { ⌜ PlanFits entries (length (now table)) (now table) plan ⌝ }
-    ensures { λ _. ⌜ now (table .exit) ≡ carriedOut entries (now (table .entry)) plan ⌝ }
+    ensures { λ _. ⌜ now (table .exit) ≡ planCarriedOut entries (now (table .entry)) plan ⌝ }
 {
     party_table::credit_each(table, entries, credits_of(plan));
     party_table::put_each(table, entries, added_of(plan), added_count_of(plan));

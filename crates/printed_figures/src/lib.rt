@@ -1,3 +1,3 @@
-// Document 000's figures as printed, and how far a figure of the pricing call may lie from them.
+// Document 000's figures as printed (docs/WORKED_EXAMPLES.md), and how far a figure of the pricing call may lie from them.
 pub mod printed;
 pub mod tolerance;

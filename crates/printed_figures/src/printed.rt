@@ -1,5 +1,6 @@
 // What document 000 prints for its worked examples, and the inputs of the pricings that are held to it.
 ghost use Prim.Native.Nat.{_<_};
+ghost use Rattle.printed_figures.specs.Printed.{figureCount};
 
 // A row for each pricing: the example's name, and the files with its rate book and its request.
 pub const FILES: [u8; 1012] = *b"\
@@ -28,6 +29,8 @@ pub const FILES: [u8; 1012] = *b"\
     3d* 3d_recast_rates.bin 3d_recast_job.bin   ";
 
 pub const ROW: usize = 44;
+
+pub const PRICING_COUNT: usize = 23;
 
 pub const BOOK: usize = 4;
 
@@ -124,7 +127,9 @@ const PERCENT: u64 = 1_000_000;
 
 const DOLLARS: u64 = 100_000_000;
 
-const FIGURES: [u64; 131] = [
+pub const FIGURE_COUNT: usize = 131;
+
+const FIGURES: [u64; FIGURE_COUNT] = [
     // 1a, distribution revenue alone
     0 * PRICING + IDR + 10_669 * DOLLARS,
     // 1a, transmission revenue alone
@@ -302,7 +307,7 @@ fn unit(row: u64) -> u64 {
 }
 
 pub fn figure(k: usize) -> Printed
-    requires { ⌜ k < 131 ⌝ }
+    requires { ⌜ k < figureCount ⌝ }
 {
     let row = FIGURES[k];
     Printed {

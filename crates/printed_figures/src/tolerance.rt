@@ -8,16 +8,18 @@
 // these steps through every year, with the book's and the request's own factors, and never looks at
 // a computed figure. Every division here rounds up.
 use crate::printed::Units;
-use field_values::factors::Factors;
+use field_values::limits::TIERS;
 use rate_book::book::Book;
 use request::values::Request;
 use revenue::Stream;
-use tagged::file::Standing;
+use revenue::TRANSMISSION_OPEX_FACTOR;
+use tagged::file::FileAnswer;
 ghost use Prim.Native.Nat.{_<_, _≤_};
-ghost use Rattle.field_values.specs.FactorsLaws.{FactorsWithin};
+ghost use Rattle.field_values.specs.Limits.{tierCount, highestFactor, highestShare, sumsBelow};
+ghost use Rattle.revenue.specs.RevenueLimits.{highestDiscount, longestLife};
 ghost use Rattle.revenue.specs.Revenue.{StreamWithin};
-ghost use Rattle.rate_book.specs.BookWithin.{BookWithin};
-ghost use Rattle.request.specs.RequestWithin.{RequestWithin};
+ghost use Rattle.rate_book.specs.BookLimits.{BookWithin};
+ghost use Rattle.request.specs.RequestLimits.{RequestWithin};
 ghost use Rattle.printed_figures.specs.Tolerance.{limit, NearWithin, OffsWithin, UnitsWithin};
 
 // A figure, and how far it may lie off.
@@ -126,7 +128,7 @@ fn rounded(figure: u64, factor: u64, off: u64) -> u64
 
 // A figure times a factor in ten-thousandths that lies off by at most `off` hundred-millionths.
 fn times(x: Near, factor: u64, off: u64) -> Near
-    requires { ⌜ NearWithin x × (factor ≤ 40000) × (off ≤ 10000) ⌝ }
+    requires { ⌜ NearWithin x × (factor ≤ highestFactor) × (off ≤ 10000) ⌝ }
     ensures { λ r. ⌜ NearWithin r ⌝ }
 {
     let highest = factor + least(off, 1);
@@ -147,22 +149,9 @@ fn plus(x: Near, y: Near) -> Near
     }
 }
 
-// The factor of year n.
-fn factor_of(list: Factors, n: usize) -> u64
-    requires { ⌜ FactorsWithin list ⌝ }
-    ensures { λ r. ⌜ r ≤ 40000 ⌝ }
-{
-    let last = list.count - 1;
-    let values = list.values;
-    if last < n {
-        return values[last] as u64;
-    }
-    values[n] as u64
-}
-
 // A stream's revenue of year n, whose discount factor is f.
 fn near_year(stream: Stream, offs: Offs, n: usize, f: u64) -> Near
-    requires { ⌜ StreamWithin stream × OffsWithin offs × (n ≤ 30) × (f ≤ 100000000) ⌝ }
+    requires { ⌜ StreamWithin stream × OffsWithin offs × (n ≤ longestLife) × (f ≤ highestDiscount) ⌝ }
     ensures { λ r. ⌜ NearWithin r ⌝ }
 {
     let part_year = stream.part_year;
@@ -173,15 +162,15 @@ fn near_year(stream: Stream, offs: Offs, n: usize, f: u64) -> Near
         off: least(offs.revenue, stream.revenue as u64 * 10_000),
     };
     let charged = times(revenue, stream.opex_factor as u64, offs.opex);
-    let of_year = times(charged, factor_of(part_year, n), 0);
-    let grown = times(of_year, factor_of(revenue_factors, n), 0);
-    let with_tariff = times(grown, factor_of(tariff_factors, n), offs.tariff);
+    let of_year = times(charged, revenue::factor_of(part_year, n), 0);
+    let grown = times(of_year, revenue::factor_of(revenue_factors, n), 0);
+    let with_tariff = times(grown, revenue::factor_of(tariff_factors, n), offs.tariff);
     times(with_tariff, (f + 9_999) / 10_000, n as u64)
 }
 
 // A stream's revenue of the years 0 to life.
 fn near_stream(stream: Stream, offs: Offs, b: u16, life: usize) -> Near
-    requires { ⌜ StreamWithin stream × OffsWithin offs × (life ≤ 30) ⌝ }
+    requires { ⌜ StreamWithin stream × OffsWithin offs × (life ≤ longestLife) ⌝ }
     ensures { λ r. ⌜ NearWithin r ⌝ }
 {
     let mut sum = Near { figure: 0, off: 0 };
@@ -197,7 +186,7 @@ fn near_stream(stream: Stream, offs: Offs, b: u16, life: usize) -> Near
 
 // By how many hundred-millionths O lies below its exact value.
 fn opex_off(opex: u64, revenue: u64, factor: u16) -> u64
-    requires { ⌜ (opex ≤ revenue) × (0 < revenue) × (revenue < 21474836480) ⌝ }
+    requires { ⌜ (opex ≤ revenue) × (0 < revenue) × (revenue < sumsBelow) ⌝ }
     ensures { λ r. ⌜ r ≤ 10000 ⌝ }
 {
     let exact = (100_000_000 * (revenue - opex) + revenue - 1) / revenue;
@@ -240,7 +229,7 @@ fn near_transmission(book: Book, request: Request, units: InputUnits) -> Near
     let tariff_factors = request.transmission_tariff;
     let stream = Stream {
         revenue: request.transmission_revenue,
-        opex_factor: 10_000,
+        opex_factor: TRANSMISSION_OPEX_FACTOR,
         part_year,
         revenue_factors,
         tariff_factors,
@@ -254,12 +243,12 @@ fn near_transmission(book: Book, request: Request, units: InputUnits) -> Near
 }
 
 // A tier's cost is rounded down by less than a cent, and not at all where its demand is whole kVA.
-fn tiers_rounded(demands: [u32; 5]) -> u64
-    ensures { λ r. ⌜ r ≤ 5 ⌝ }
+fn tiers_rounded(demands: [u32; TIERS]) -> u64
+    ensures { λ r. ⌜ r ≤ tierCount ⌝ }
 {
     let mut rounded: u64 = 0;
     let mut tier: usize = 0;
-    while tier < 5 {
+    while tier < TIERS {
         if demands[tier] % 100 != 0 {
             rounded += 1;
         }
@@ -297,7 +286,7 @@ fn bounds_with(
     mc: u64,
     cc2: u64,
 ) -> Bounds
-    requires { ⌜ NearWithin near × UnitsWithin units × (share ≤ 10000) × (mc ≤ 5) × (cc2 ≤ 5) ⌝ }
+    requires { ⌜ NearWithin near × UnitsWithin units × (share ≤ highestShare) × (mc ≤ tierCount) × (cc2 ≤ tierCount) ⌝ }
 {
     let charged = units.charged + part(capacity_charged, mc + cc2);
     let not_charged = units.not_charged + part(!capacity_charged, mc + cc2);
@@ -339,8 +328,8 @@ fn request_bounds(book: Book, request: &[u8], units: Units) -> Bounds
     let read = request::values::read_request(2, request);
     let answer = read.answer;
     match answer {
-        Standing::Refused(_) => no_bounds(),
-        Standing::Stands => bounds_of(book, read.request, units),
+        FileAnswer::Refused(_) => no_bounds(),
+        FileAnswer::Stands => bounds_of(book, read.request, units),
     }
 }
 
@@ -350,7 +339,7 @@ pub fn file_bounds(book: &[u8], request: &[u8], units: Units) -> Bounds {
     let read = rate_book::book::read_book(1, book);
     let answer = read.answer;
     match answer {
-        Standing::Refused(_) => no_bounds(),
-        Standing::Stands => request_bounds(read.book, request, units),
+        FileAnswer::Refused(_) => no_bounds(),
+        FileAnswer::Stands => request_bounds(read.book, request, units),
     }
 }

@@ -1,10 +1,8 @@
 pub mod Interface
-pub mod Places
+pub mod RefusalPlaces
 pub mod Unit
-pub mod UnitBuffers
-pub mod UnitFacts
+pub mod ResultParts
 pub mod UnitPlaces
-pub mod UnitRefusals
 pub mod UnitResults
-pub mod UnitRows
-pub mod UnitTold
+pub mod Cases
+pub mod Theorems

@@ -2,11 +2,10 @@
 -- was; otherwise the result is 0 or the refusal, and where it is 0 the answer says more. `tableSize` is the party table's length in records; more than 512
 -- counts as 512.
 use Prim.Native.Nat.{ℕ}
-use mathlib.Core.Path.{_≡_, refl}
 use mathlib.Core.Bool.{Bool, true, cond}
 use mathlib.Core.List.{List, [], _∷_}
 use lib.IntN.{ℤ}
-use Rattle.tagged.specs.File.{refusal}
+use Rattle.tagged.specs.Refusals.{outputTooShort}
 use Rattle.charge.specs.Price.{priceOf}
 use Rattle.charge.specs.declared.Pricing.{Pricing}
 use Rattle.charge.specs.declared.Pricing.the-variants.{Priced, NotPriced}
@@ -42,7 +41,6 @@ tooShort (onLedger stored tableSize (handOver entry person)) lent = answerShort 
 tooShort (checkLedger stored tableSize) lent = answerShort lent
 
 -- ---- what a call comes to where no place is missing: how it ends, and output and figures after it
-
 pub record Made : Type 0 where
   pub ending : UnitEnding
   pub output : List ℕ
@@ -54,33 +52,25 @@ priceMade (Priced bill) lent = record { ending = isDone []; output = lent .outpu
 priceMade (NotPriced r) lent = record { ending = isRefused r 0; output = lent .output; figures = lent .figures }
 
 -- the slip's text, which is its output: its length
-abbrev pub slipEnding : SlipWritten → UnitEnding
-slipEnding (Written size) = isDone (0 ∷ 0 ∷ 0 ∷ size ∷ [])
-slipEnding (Refused r) = isRefused r 0
+abbrev pub unitSlipEnding : SlipWritten → UnitEnding
+unitSlipEnding (Written size) = isDone (0 ∷ 0 ∷ 0 ∷ size ∷ [])
+unitSlipEnding (Refused r) = isRefused r 0
 
 -- 1 plain, 2 opened and the scheme's number, 3 joined and the entry's number and G, 4 small, 5 ended; the new form's length. A request that asks for a
 -- joining opens no scheme.
-abbrev pub acceptanceTold : JoiningAnswer → OpeningAnswer → ℕ → List ℕ
-acceptanceTold NotAsked NotOpened size = 1 ∷ 0 ∷ 0 ∷ size ∷ []
-acceptanceTold NotAsked (Opened number) size = 2 ∷ number ∷ 0 ∷ size ∷ []
-acceptanceTold (Joined collected) opening size = 3 ∷ collected .entry ∷ collected .contribution ∷ size ∷ []
-acceptanceTold Small opening size = 4 ∷ 0 ∷ 0 ∷ size ∷ []
-acceptanceTold Ended opening size = 5 ∷ 0 ∷ 0 ∷ size ∷ []
-
-pub answers-placed :
-    (acceptanceTold NotAsked NotOpened 32 ≡ 1 ∷ 0 ∷ 0 ∷ 32 ∷ [])
-    × (acceptanceTold NotAsked (Opened 7) 32 ≡ 2 ∷ 7 ∷ 0 ∷ 32 ∷ [])
-    × (acceptanceTold (Joined (record { entry = 8; contribution = 9 })) NotOpened 32 ≡ 3 ∷ 8 ∷ 9 ∷ 32 ∷ [])
-    × (acceptanceTold Small NotOpened 32 ≡ 4 ∷ 0 ∷ 0 ∷ 32 ∷ [])
-    × (acceptanceTold Ended NotOpened 32 ≡ 5 ∷ 0 ∷ 0 ∷ 32 ∷ [])
-answers-placed = (refl, refl, refl, refl, refl)
+abbrev pub acceptancePlaces : JoiningAnswer → OpeningAnswer → ℕ → List ℕ
+acceptancePlaces NotAsked NotOpened size = 1 ∷ 0 ∷ 0 ∷ size ∷ []
+acceptancePlaces NotAsked (Opened number) size = 2 ∷ number ∷ 0 ∷ size ∷ []
+acceptancePlaces (Joined collected) opening size = 3 ∷ collected .entry ∷ collected .contribution ∷ size ∷ []
+acceptancePlaces Small opening size = 4 ∷ 0 ∷ 0 ∷ size ∷ []
+acceptancePlaces Ended opening size = 5 ∷ 0 ∷ 0 ∷ size ∷ []
 
 -- the new ledger, pay-out and hand-over tell the new form's length too
-abbrev pub callEnding : StoredCallAnswer → UnitEnding
-callEnding (notRead r) = isRefused r 1
-callEnding (notMade r) = isRefused r 0
-callEnding (madeAccepted acceptance size) = isDone (acceptanceTold (acceptance .joining) (acceptance .opening) size)
-callEnding (madeDone size) = isDone (0 ∷ 0 ∷ 0 ∷ size ∷ [])
+abbrev pub unitCallEnding : StoredCallAnswer → UnitEnding
+unitCallEnding (notRead r) = isRefused r 1
+unitCallEnding (notMade r) = isRefused r 0
+unitCallEnding (madeAccepted acceptance size) = isDone (acceptancePlaces (acceptance .joining) (acceptance .opening) size)
+unitCallEnding (madeDone size) = isDone (0 ∷ 0 ∷ 0 ∷ size ∷ [])
 
 -- accept: figures are written only where it is accepted
 abbrev pub figuresBy : StoredCallAnswer → List ℤ → List ℤ
@@ -91,32 +81,24 @@ figuresBy (madeDone size) figures = figures
 
 abbrev pub ledgerMade : CallEnd → Lent → Made
 ledgerMade called lent =
-    record { ending = callEnding (called .answer); output = called .output; figures = figuresBy (called .answer) (lent .figures) }
+    record { ending = unitCallEnding (called .answer); output = called .output; figures = figuresBy (called .answer) (lent .figures) }
 
 -- schemes, entries, connections, the last accepted month
 abbrev pub checkEnding : StoredCheck → UnitEnding
 checkEnding (StoredCheck.NotRead r) = isRefused r 1
 checkEnding (StoredCheck.Sound counts) = isDone (counts .schemes ∷ counts .entries ∷ counts .connections ∷ counts .month ∷ [])
 
--- no bytes as a stored ledger, and as a book
-pub ledger-told-apart :
-    (outcomeOf (callEnding (notRead (refusal 1 1 0))) .result ≡ 81)
-    × (outcomeOf (callEnding (notMade (refusal 1 1 0))) .result ≡ 17)
-    × (outcomeOf (checkEnding (StoredCheck.NotRead (refusal 1 1 0))) .result ≡ 81)
-ledger-told-apart = (refl, refl, refl)
-
 abbrev pub made : UnitCall → Lent → Made
 made (price book request) lent = priceMade (priceOf book request) lent
 made (slipText book request) lent =
     let pricing = priceOf book request in
-    record { ending = slipEnding (slipWritten pricing (lent .output)); output = slipBuffer pricing (lent .output); figures = lent .figures }
+    record { ending = unitSlipEnding (slipWritten pricing (lent .output)); output = slipBuffer pricing (lent .output); figures = lent .figures }
 made newLedger lent = ledgerMade (newStoredOf (lent .output)) lent
 made (onLedger stored tableSize call) lent = ledgerMade (storedCallOf stored tableSize call (lent .output)) lent
 made (checkLedger stored tableSize) lent =
     record { ending = checkEnding (checkStoredOf stored tableSize); output = lent .output; figures = lent .figures }
 
 -- ---- what a call leaves: its result, and its lent buffers
-
 pub record CallLeaves : Type 0 where
   pub result : ℕ
   pub lent : Lent
@@ -129,4 +111,4 @@ leavesBy call lent =
     }
 
 abbrev pub unitCall : UnitCall → Lent → CallLeaves
-unitCall call lent = cond (tooShort call lent) (record { result = 14; lent = lent }) (leavesBy (made call lent) lent)
+unitCall call lent = cond (tooShort call lent) (record { result = outputTooShort; lent = lent }) (leavesBy (made call lent) lent)

@@ -13,24 +13,35 @@ use stored_calls::StoredAcceptance;
 use stored_calls::StoredAnswer;
 use stored_calls::StoredCheck;
 use tagged::file::Refusal;
+use tagged::refusals::OUTPUT_TOO_SHORT;
 ghost use mathlib.Core.Path.{_≡_};
-ghost use Prim.Native.Nat.{_≤_, _<_};
+ghost use Prim.Native.Nat.{_≤_};
 ghost use mathlib.Core.List.{_++_};
 ghost use lib.ListN.{length, drop};
-ghost use Rattle.reconciliation.specs.Figures.{percentTold, percentFigure, figuresTold};
-ghost use Rattle.reconciliation.specs.ReconciliationFacts.{Bounded};
+ghost use Rattle.reconciliation.specs.Figures.{percentIsThere, percentFigure, figureValues};
+ghost use Rattle.reconciliation.specs.FigureLimits.{FiguresWithin};
 ghost use Rattle.calls.specs.Decision.{accept, payOut, handOver};
 ghost use Rattle.stored_calls.specs.StoredCalls.{ofStoredAccept, ofStoredAnswer};
-ghost use Rattle.quoting_unit.specs.Interface.{placeTold, resultOf, isDone, isRefused, outcomeOf, answerAfter, figuresAfter, lentFigures, lentOutput, lentBoth, lentAnswer};
-ghost use Rattle.quoting_unit.specs.Unit.{price, slipText, newLedger, onLedger, checkLedger, unitCall, slipEnding, acceptanceTold, callEnding, checkEnding};
+ghost use Rattle.quoting_unit.specs.Interface.{answerPlaces, figurePlaces, highestPlace, placeInResult, resultOf, isDone, isRefused, outcomeOf, answerAfter, figuresAfter, lentFigures, lentOutput, lentBoth, lentAnswer};
+ghost use Rattle.quoting_unit.specs.Unit.{price, slipText, newLedger, onLedger, checkLedger, unitCall, unitSlipEnding, acceptancePlaces, unitCallEnding, checkEnding};
 
 // How many places an answer and the figures have.
 const ANSWER: usize = 4;
 
 const FIGURES: usize = 21;
 
+// What one counts in a result: of the file, of the flag for the stored ledger, of the place.
+const FILE_WEIGHT: u64 = 16;
+
+const LEDGER_WEIGHT: u64 = 64;
+
+const PLACE_WEIGHT: u64 = 256;
+
 // The highest place that a result can tell: 2^56 − 1.
 const HIGHEST_PLACE: u64 = 72057594037927935;
+
+// The result where the answer or the figures are too short.
+const TOO_SHORT: u64 = OUTPUT_TOO_SHORT as u64;
 
 // How a call ends.
 struct Outcome {
@@ -40,9 +51,9 @@ struct Outcome {
     told: [u64; ANSWER],
 }
 
-fn place_told(place: usize) -> u64
-    ensures { λ r. ⌜ r ≡ placeTold place ⌝ }
-    ensures { λ r. ⌜ r < 72057594037927936 ⌝ }
+fn place_in_result(place: usize) -> u64
+    ensures { λ r. ⌜ r ≡ placeInResult place ⌝ }
+    ensures { λ r. ⌜ r ≤ highestPlace ⌝ }
 {
     let told = place as u64;
     if told > HIGHEST_PLACE {
@@ -59,9 +70,9 @@ fn result_of(refusal: Refusal, of_ledger: u8) -> u64
     let number = refusal.number as u64;
     let file = refusal.file as u64;
     let ledger = of_ledger as u64;
-    let low = number % 16 + 16 * (file % 4) + 64 * (ledger % 2);
-    let place = place_told(refusal.place);
-    low + 256 * place
+    let low = number % FILE_WEIGHT + FILE_WEIGHT * (file % 4) + LEDGER_WEIGHT * (ledger % 2);
+    let place = place_in_result(refusal.place);
+    low + PLACE_WEIGHT * place
 }
 
 fn done(told: [u64; ANSWER]) -> Outcome
@@ -80,8 +91,8 @@ fn refused(refusal: Refusal, of_ledger: u8) -> Outcome
 
 // What a done call tells, at the start of a lent buffer.
 fn write_places(told: [u64; ANSWER], answer: &mut [u64])
-    requires { ⌜ 4 ≤ length (now answer) ⌝ }
-    ensures { λ _. ⌜ now (answer .exit) ≡ told ++ drop 4 (now (answer .entry)) ⌝ }
+    requires { ⌜ answerPlaces ≤ length (now answer) ⌝ }
+    ensures { λ _. ⌜ now (answer .exit) ≡ told ++ drop answerPlaces (now (answer .entry)) ⌝ }
 {
     let mut i: usize = 0;
     while i < ANSWER {
@@ -92,7 +103,7 @@ fn write_places(told: [u64; ANSWER], answer: &mut [u64])
 
 // The result, and the answer where the call is done.
 fn write_answer(outcome: Outcome, answer: &mut [u64]) -> u64
-    requires { ⌜ 4 ≤ length (now answer) ⌝ }
+    requires { ⌜ answerPlaces ≤ length (now answer) ⌝ }
     ensures { λ r. ⌜ r ≡ outcome .result ⌝ }
     ensures { λ _. ⌜ now (answer .exit) ≡ answerAfter outcome (now (answer .entry)) ⌝ }
 {
@@ -105,8 +116,8 @@ fn write_answer(outcome: Outcome, answer: &mut [u64]) -> u64
     result
 }
 
-fn percent_told(percent: Percent) -> i64
-    ensures { λ r. ⌜ r ≡ percentTold percent ⌝ }
+fn percent_is_there(percent: Percent) -> i64
+    ensures { λ r. ⌜ r ≡ percentIsThere percent ⌝ }
 {
     match percent {
         Percent::Whole(_) => 1,
@@ -124,8 +135,8 @@ fn percent_figure(percent: Percent) -> i64
 }
 
 fn figure_places(r: Reconciliation) -> [i64; FIGURES]
-    requires { ⌜ Bounded r ⌝ }
-    ensures { λ places. ⌜ places ≡ figuresTold r ⌝ }
+    requires { ⌜ FiguresWithin r ⌝ }
+    ensures { λ places. ⌜ places ≡ figureValues r ⌝ }
 {
     let reliance = r.reliance;
     let upfront = r.upfront;
@@ -146,18 +157,18 @@ fn figure_places(r: Reconciliation) -> [i64; FIGURES]
         signed(r.x),
         signed(r.entered),
         signed(r.borne),
-        percent_told(reliance),
+        percent_is_there(reliance),
         percent_figure(reliance),
-        percent_told(upfront),
+        percent_is_there(upfront),
         percent_figure(upfront),
-        percent_told(nc_ratio),
+        percent_is_there(nc_ratio),
         percent_figure(nc_ratio),
     ]
 }
 
 // The figures' places at the start of a lent buffer.
 fn write_figures(r: Reconciliation, figures: &mut [i64])
-    requires { ⌜ Bounded r × (21 ≤ length (now figures)) ⌝ }
+    requires { ⌜ FiguresWithin r × (figurePlaces ≤ length (now figures)) ⌝ }
     ensures { λ _. ⌜ now (figures .exit) ≡ figuresAfter r (now (figures .entry)) ⌝ }
 {
     let places = figure_places(r);
@@ -177,7 +188,7 @@ pub extern "C" fn fikrem_price(book: &[u8], request: &[u8], figures: &mut [i64])
         ) ⌝ }
 {
     if figures.len() < FIGURES {
-        return 14;
+        return TOO_SHORT;
     }
     let pricing = charge::price(book, request);
     match pricing {
@@ -190,7 +201,7 @@ pub extern "C" fn fikrem_price(book: &[u8], request: &[u8], figures: &mut [i64])
 }
 
 fn slip_outcome(written: SlipWritten) -> Outcome
-    ensures { λ r. ⌜ r ≡ outcomeOf (slipEnding written) ⌝ }
+    ensures { λ r. ⌜ r ≡ outcomeOf (unitSlipEnding written) ⌝ }
 {
     match written {
         SlipWritten::Written(length) => done([0, 0, 0, length as u64]),
@@ -212,7 +223,7 @@ pub extern "C" fn fikrem_slip_text(
         ) ⌝ }
 {
     if answer.len() < ANSWER {
-        return 14;
+        return TOO_SHORT;
     }
     let pricing = charge::price(book, request);
     let written = slip_text::slip_text(pricing, text);
@@ -221,7 +232,7 @@ pub extern "C" fn fikrem_slip_text(
 
 // What pay-out, hand-over and the new ledger tell: the new form's length.
 fn call_outcome(answer: StoredAnswer) -> Outcome
-    ensures { λ r. ⌜ r ≡ outcomeOf (callEnding (ofStoredAnswer answer)) ⌝ }
+    ensures { λ r. ⌜ r ≡ outcomeOf (unitCallEnding (ofStoredAnswer answer)) ⌝ }
 {
     match answer {
         StoredAnswer::NotRead(refusal) => refused(refusal, 1),
@@ -239,15 +250,15 @@ pub extern "C" fn fikrem_new_ledger(out: &mut [u8], answer: &mut [u64]) -> u64
         ) ⌝ }
 {
     if answer.len() < ANSWER {
-        return 14;
+        return TOO_SHORT;
     }
     let called = stored_calls::new_stored(out);
     write_answer(call_outcome(called), answer)
 }
 
 // What accept tells: 1 plain, 2 opened, 3 joined, 4 small, 5 ended; the scheme's or the entry's number; G; the new form's length.
-fn acceptance_told(joining: JoiningAnswer, opening: OpeningAnswer, length: usize) -> [u64; ANSWER]
-    ensures { λ r. ⌜ r ≡ acceptanceTold joining opening length ⌝ }
+fn acceptance_places(joining: JoiningAnswer, opening: OpeningAnswer, length: usize) -> [u64; ANSWER]
+    ensures { λ r. ⌜ r ≡ acceptancePlaces joining opening length ⌝ }
 {
     let size = length as u64;
     match joining {
@@ -269,12 +280,12 @@ fn acceptance_told(joining: JoiningAnswer, opening: OpeningAnswer, length: usize
 }
 
 fn acceptance_outcome(accepted: StoredAcceptance) -> Outcome
-    ensures { λ r. ⌜ r ≡ outcomeOf (callEnding (ofStoredAccept (StoredAccept.Accepted accepted))) ⌝ }
+    ensures { λ r. ⌜ r ≡ outcomeOf (unitCallEnding (ofStoredAccept (StoredAccept.Accepted accepted))) ⌝ }
 {
     let acceptance = accepted.acceptance;
     let joining = acceptance.joining;
     let opening = acceptance.opening;
-    done(acceptance_told(joining, opening, accepted.length))
+    done(acceptance_places(joining, opening, accepted.length))
 }
 
 // Accept on a stored ledger: the new stored form into the lent output, and the reconciliation into the figures.
@@ -295,10 +306,10 @@ pub extern "C" fn fikrem_accept(
         ) ⌝ }
 {
     if answer.len() < ANSWER {
-        return 14;
+        return TOO_SHORT;
     }
     if figures.len() < FIGURES {
-        return 14;
+        return TOO_SHORT;
     }
     let called = stored_calls::accept_stored(stored, table_size, book, request, out);
     match called {
@@ -328,7 +339,7 @@ pub extern "C" fn fikrem_pay_out(
         ) ⌝ }
 {
     if answer.len() < ANSWER {
-        return 14;
+        return TOO_SHORT;
     }
     let called = stored_calls::pay_out_stored(stored, table_size, entry, amount, out);
     write_answer(call_outcome(called), answer)
@@ -351,7 +362,7 @@ pub extern "C" fn fikrem_hand_over(
         ) ⌝ }
 {
     if answer.len() < ANSWER {
-        return 14;
+        return TOO_SHORT;
     }
     let called = stored_calls::hand_over_stored(stored, table_size, entry, person, out);
     write_answer(call_outcome(called), answer)
@@ -381,7 +392,7 @@ pub extern "C" fn fikrem_check_ledger(stored: &[u8], table_size: usize, answer: 
         ) ⌝ }
 {
     if answer.len() < ANSWER {
-        return 14;
+        return TOO_SHORT;
     }
     let check = stored_calls::check_stored(stored, table_size);
     write_answer(check_outcome(check), answer)

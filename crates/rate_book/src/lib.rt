@@ -1,2 +1,3 @@
 // The rate book: document 01, 'Rate book'.
 pub mod book;
+pub mod fields;

@@ -5,7 +5,7 @@ use native.Mathlib.Nat.{add-zero}
 use lib.IntN.{ℤ, pos, _-ℤ_}
 use Rattle.reconciliation.specs.Percent.{percentOf}
 use Rattle.reconciliation.specs.Reconciliation.{icOf, mOf, creditOf, notChargedOf, reconciliationOf}
-use Rattle.reconciliation.specs.ReconciliationFacts.{subtract-twice}
+use Rattle.reconciliation.specs.Theorems.Reconciliation.{subtract-twice}
 use Rattle.reconciliation.specs.declared.Costs.{Costs}
 use Rattle.reconciliation.specs.declared.Percent.{Percent}
 use Rattle.reconciliation.specs.declared.Reconciliation.{Reconciliation}

@@ -9,9 +9,10 @@ use lib.Dec.{ltb}
 use mir.Syntax.{w64}
 use mir.Val.{SFits}
 use borrow.Author.Tests.{lt-ltb, le-ltb}
+use Rattle.reconciliation.specs.FigureLimits.{signedBelow}
 use Rattle.reconciliation.specs.Percent.{rounded, nearest}
 
-pub difference-fits : (a b : ℕ) → a < 9223372036854775808 → b < 9223372036854775808 → SFits w64 (pos a -ℤ pos b)
+pub difference-fits : (a b : ℕ) → a < signedBelow → b < signedBelow → SFits w64 (pos a -ℤ pos b)
 difference-fits a zero h k = record { sfits = omega arith }
 difference-fits a (suc b) h k = by (ltb a (suc b))
   where

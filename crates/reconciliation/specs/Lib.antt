@@ -1,5 +1,7 @@
+pub mod FigureLimits
+pub mod Figures
 pub mod Percent
 pub mod Reconciliation
-pub mod Figures
-pub mod ReconciliationFacts
-pub mod ReconciliationRows
+pub mod SlipReconciliation
+pub mod Cases
+pub mod Theorems

@@ -1,4 +1,4 @@
--- Document 01: "Percentages: ..., nearest whole, halves away from zero; none where the divisor is 0."
+-- Document 01, 'Charge and reconciliation': "Percentages: ..., nearest whole, halves away from zero; none where the divisor is 0."
 use Prim.Native.Nat.{ℕ, suc, _+_, _*_, _/_}
 use mathlib.Core.Bool.{cond}
 use lib.IntN.{ℤ, pos, negsuc, negℤ}

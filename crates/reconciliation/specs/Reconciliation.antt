@@ -1,5 +1,5 @@
 -- Document 01, 'Charge and reconciliation', from IC to the cost borne.
-use Prim.Native.Nat.{ℕ, _+_, _*_, _-_, _/_, _≤_, min}
+use Prim.Native.Nat.{ℕ, _+_, _*_, _-_, _/_, min}
 use lib.IntN.{ℤ, pos, _-ℤ_}
 use Rattle.reconciliation.specs.Percent.{percentOf}
 use Rattle.reconciliation.specs.declared.Costs.{Costs}
@@ -71,14 +71,3 @@ reconciliationOf costs ir a share =
       upfront = percentOf (pos (ccOf costs ir a share)) (ccOf costs ir a share + ir);
       «nc_ratio» = percentOf (ncOf costs ir a share) (ccOf costs ir a share + ir);
     }
-
--- what an accepted book and request give of the costs
-pub record CostsWithin (costs : Costs) : Type 0 where
-  pub me : costs .me ≤ 1000000000
-  pub mc : costs .mc ≤ 500000000000
-  pub ce : costs .ce ≤ 1000000000
-  pub cc2 : costs .cc2 ≤ 500000000000
-  pub de : costs .de ≤ 1000000000
-  pub tw : costs .tw ≤ 1000000000
-  pub hr : costs .hr ≤ 1000000000
-  pub ol : costs .ol ≤ 1000000000

@@ -3,7 +3,11 @@ ghost use mathlib.Core.Path.{_≡_};
 ghost use Prim.Native.Nat.{_+_, _*_, _-_, _<_, _≤_, min};
 ghost use lib.IntN.{pos, _-ℤ_};
 ghost use Rattle.reconciliation.specs.Percent.{nearest, percentOf};
-ghost use Rattle.reconciliation.specs.Reconciliation.{icOf, mOf, creditOf, notChargedOf, reconciliationOf, CostsWithin};
+ghost use Rattle.reconciliation.specs.Reconciliation.{icOf, mOf, creditOf, notChargedOf, reconciliationOf};
+ghost use Rattle.field_values.specs.Limits.{highestShare};
+ghost use Rattle.revenue.specs.RevenueLimits.{highestIncrementalRevenue};
+ghost use Rattle.capacity.specs.CapacityLimits.{highestCapacityCost};
+ghost use Rattle.reconciliation.specs.FigureLimits.{signedBelow, percentBelow, highestM, highestIncrementalCost, CostsWithin};
 
 pub enum Percent {
     // a whole number of percent
@@ -51,29 +55,29 @@ pub struct Reconciliation {
 }
 
 pub fn signed(x: u64) -> i64
-    requires { ⌜ x < 9223372036854775808 ⌝ }
+    requires { ⌜ x < signedBelow ⌝ }
     ensures { λ r. ⌜ r ≡ pos x ⌝ }
 {
     x as i64
 }
 
 fn minus(a: u64, b: u64) -> i64
-    requires { ⌜ (a < 9223372036854775808) × (b < 9223372036854775808) ⌝ }
+    requires { ⌜ (a < signedBelow) × (b < signedBelow) ⌝ }
     ensures { λ r. ⌜ r ≡ pos a -ℤ pos b ⌝ }
 {
     signed(a) - signed(b)
 }
 
 fn nearest_percent(n: u64, divisor: u64) -> u64
-    requires { ⌜ (n < 10000000000000000) × ((divisor < 10000000000000000) × (0 < divisor)) ⌝ }
-    ensures { λ r. ⌜ (r ≡ nearest n divisor) × (r < 9223372036854775808) ⌝ }
+    requires { ⌜ (n < percentBelow) × ((divisor < percentBelow) × (0 < divisor)) ⌝ }
+    ensures { λ r. ⌜ (r ≡ nearest n divisor) × (r < signedBelow) ⌝ }
 {
     (200 * n + divisor) / (2 * divisor)
 }
 
 // The percentage that a difference is of a divisor.
 fn percent_of(a: u64, b: u64, divisor: u64) -> Percent
-    requires { ⌜ (a < 10000000000000000) × ((b < 10000000000000000) × (divisor < 10000000000000000)) ⌝ }
+    requires { ⌜ (a < percentBelow) × ((b < percentBelow) × (divisor < percentBelow)) ⌝ }
     ensures { λ r. ⌜ r ≡ percentOf (pos a -ℤ pos b) divisor ⌝ }
 {
     if divisor == 0 {
@@ -103,7 +107,7 @@ fn times(a: u64, amount: u64) -> u64
 
 // The credit for incremental revenue at a share in ten-thousandths.
 fn credit_of(ir: u64, share: u16) -> u64
-    requires { ⌜ (ir ≤ 3968000000000) × (share ≤ 10000) ⌝ }
+    requires { ⌜ (ir ≤ highestIncrementalRevenue) × (share ≤ highestShare) ⌝ }
     ensures { λ r. ⌜ (r ≡ creditOf ir share) × (r ≤ ir) ⌝ }
 {
     ir * share as u64 / 10_000
@@ -112,7 +116,7 @@ fn credit_of(ir: u64, share: u16) -> u64
 // IC
 fn ic_of(costs: Costs) -> u64
     requires { ⌜ CostsWithin costs ⌝ }
-    ensures { λ r. ⌜ (r ≡ icOf costs) × (r ≤ 1005000000000) ⌝ }
+    ensures { λ r. ⌜ (r ≡ icOf costs) × (r ≤ highestIncrementalCost) ⌝ }
 {
     costs.me + costs.mc + costs.ce + costs.cc2 + costs.tw + costs.hr + costs.ol
 }
@@ -120,15 +124,15 @@ fn ic_of(costs: Costs) -> u64
 // M
 fn m_of(costs: Costs, a: u64) -> u64
     requires { ⌜ CostsWithin costs × (a ≤ 1) ⌝ }
-    ensures { λ r. ⌜ (r ≡ mOf costs a) × (r ≤ 501000000000) ⌝ }
+    ensures { λ r. ⌜ (r ≡ mOf costs a) × (r ≤ highestM) ⌝ }
 {
     costs.me + times(a, costs.mc)
 }
 
 // CC, from what the credit leaves of M.
 fn cc_of(costs: Costs, a: u64, left: u64) -> u64
-    requires { ⌜ CostsWithin costs × (a ≤ 1) × (left ≤ 501000000000) ⌝ }
-    ensures { λ r. ⌜ (r ≡ left + costs .ce + a * costs .cc2 + costs .tw + costs .hr + costs .ol) × (r ≤ 1005000000000) ⌝ }
+    requires { ⌜ CostsWithin costs × (a ≤ 1) × (left ≤ highestM) ⌝ }
+    ensures { λ r. ⌜ (r ≡ left + costs .ce + a * costs .cc2 + costs .tw + costs .hr + costs .ol) × (r ≤ highestIncrementalCost) ⌝ }
 {
     left + costs.ce + times(a, costs.cc2) + costs.tw + costs.hr + costs.ol
 }
@@ -136,7 +140,7 @@ fn cc_of(costs: Costs, a: u64, left: u64) -> u64
 // The capacity that isn't charged.
 fn not_charged_of(costs: Costs, a: u64) -> u64
     requires { ⌜ CostsWithin costs × (a ≤ 1) ⌝ }
-    ensures { λ r. ⌜ (r ≡ notChargedOf costs a) × (r ≤ 1000000000000) ⌝ }
+    ensures { λ r. ⌜ (r ≡ notChargedOf costs a) × (r ≤ 2 * highestCapacityCost) ⌝ }
 {
     times(1 - a, costs.mc + costs.cc2)
 }
@@ -151,7 +155,7 @@ fn x_of(costs: Costs, credit: u64) -> u64
 
 // The reconciliation of a connection's costs with its incremental revenue; `charged` is a.
 pub fn reconcile(costs: Costs, ir: u64, charged: u8, share: u16) -> Reconciliation
-    requires { ⌜ CostsWithin costs × (ir ≤ 3968000000000) × (charged ≤ 1) × (share ≤ 10000) ⌝ }
+    requires { ⌜ CostsWithin costs × (ir ≤ highestIncrementalRevenue) × (charged ≤ 1) × (share ≤ highestShare) ⌝ }
     ensures { λ r. ⌜ r ≡ reconciliationOf costs ir charged share ⌝ }
 {
     let a = charged as u64;

@@ -1,23 +1,33 @@
 // The values of a request, or its refusal.
+use crate::fields::ADDED_LIMITS;
+use crate::fields::AMOUNT_LIMITS;
+use crate::fields::CLASS_LIMITS;
+use crate::fields::CONNECTION_LIMITS;
+use crate::fields::REVENUE_LIMITS;
+use crate::fields::TIER_LIMITS;
+use crate::fields::read_added;
+use crate::fields::read_amounts;
+use crate::fields::read_class;
+use crate::fields::read_connection;
+use crate::fields::read_person;
+use crate::fields::read_revenues;
+use crate::fields::read_tiers;
+use crate::fields::read_zone;
 use field_values::factors::Factors;
 use field_values::factors::judge_factors;
 use field_values::factors::no_factors;
 use field_values::factors::read_factors;
 use field_values::judged::Judged;
-use field_values::judged::Limit;
 use field_values::judged::in_order;
 use field_values::judged::judge_field;
-use numbers::big_endian::read_u8;
-use numbers::big_endian::read_u16;
-use numbers::big_endian::read_u32;
+use field_values::limits::TIERS;
+use tagged::file::FileAnswer;
 use tagged::file::Refusal;
-use tagged::file::Standing;
+use tagged::refusals::VALUE_NOT_LISTED;
 ghost use mathlib.Core.Path.{_≡_};
-ghost use Prim.Native.Nat.{_+_, _*_, _<_, _≤_};
-ghost use lib.ListN.{length};
 ghost use Rattle.field_walk.specs.Walk.{FieldsWalk};
-ghost use Rattle.request.specs.Rows.{requestRows};
-ghost use Rattle.request.specs.Request.{judgeCharges, judgeRequest, modesIn, fiveFrom, requestValues, noRequest, refusedRequest, requestOf};
+ghost use Rattle.request.specs.RequestRows.{requestRows};
+ghost use Rattle.request.specs.Request.{judgeCharges, judgeRequest, requestValues, noRequest, refusedRequest, requestOf};
 
 pub struct Request {
     pub person: u32,
@@ -33,10 +43,10 @@ pub struct Request {
     pub hr: u32,
     pub ol: u32,
     // by tier: 0 posted, 1 extension-like, 2 bespoke
-    pub modes: [u8; 5],
-    pub demands: [u32; 5],
-    pub bespoke_rates: [u32; 5],
-    pub added_demands: [u32; 5],
+    pub modes: [u8; TIERS],
+    pub demands: [u32; TIERS],
+    pub bespoke_rates: [u32; TIERS],
+    pub added_demands: [u32; TIERS],
     // year-one revenue
     pub distribution_revenue: u32,
     pub transmission_revenue: u32,
@@ -52,44 +62,9 @@ pub struct Request {
 }
 
 pub struct RequestRead {
-    pub answer: Standing,
+    pub answer: FileAnswer,
     pub request: Request,
 }
-
-const CLASS_LIMITS: [Limit; 1] = [[1, 0, 1]];
-
-const AMOUNT_LIMITS: [Limit; 6] = [[4, 0, 1_000_000_000]; 6];
-
-// mode, demand and bespoke rate of each tier
-const TIER_LIMITS: [Limit; 15] = [
-    [1, 0, 2],
-    [4, 0, 1_000_000],
-    [4, 0, 10_000_000],
-    [1, 0, 2],
-    [4, 0, 1_000_000],
-    [4, 0, 10_000_000],
-    [1, 0, 2],
-    [4, 0, 1_000_000],
-    [4, 0, 10_000_000],
-    [1, 0, 2],
-    [4, 0, 1_000_000],
-    [4, 0, 10_000_000],
-    [1, 0, 2],
-    [4, 0, 1_000_000],
-    [4, 0, 10_000_000],
-];
-
-const ADDED_LIMITS: [Limit; 5] = [[4, 0, 1_000_000]; 5];
-
-const REVENUE_LIMITS: [Limit; 2] = [[4, 0, 1_000_000_000]; 2];
-
-// month, capacity, scheme joined and mark
-const CONNECTION_LIMITS: [Limit; 4] = [
-    [2, 0, 65_535],
-    [4, 1, 1_000_000],
-    [2, 0, 65_535],
-    [1, 0, 2],
-];
 
 // The class and the six amounts.
 fn judge_charges(fields: &[u8]) -> Judged
@@ -100,7 +75,7 @@ fn judge_charges(fields: &[u8]) -> Judged
     in_order(class, amounts)
 }
 
-// The first value, in byte order, that isn't as listed.
+// The first value, in byte order, that isn't as document 01, 'Request', lists it.
 fn judge_request(fields: &[u8]) -> Judged
     ensures { λ r. ⌜ r ≡ judgeRequest (now (fields .entry)) ⌝ }
 {
@@ -118,69 +93,40 @@ fn judge_request(fields: &[u8]) -> Judged
     in_order(letters, in_order(charges, in_order(tiers, later)))
 }
 
-// Five 4-byte numbers, each `apart` bytes after the last.
-fn five_from(value: &[u8], from: usize, apart: usize) -> [u32; 5]
-    requires { ⌜ (from + 4 * apart + 4 ≤ length (now value)) × (apart < 16) ⌝ }
-    ensures { λ r. ⌜ r ≡ fiveFrom (now (value .entry)) from apart ⌝ }
-{
-    [
-        read_u32(value, from),
-        read_u32(value, from + apart),
-        read_u32(value, from + 2 * apart),
-        read_u32(value, from + 3 * apart),
-        read_u32(value, from + 4 * apart),
-    ]
-}
-
-// The modes of the five tiers.
-fn modes(value: &[u8]) -> [u8; 5]
-    requires { ⌜ 45 ≤ length (now value) ⌝ }
-    ensures { λ r. ⌜ r ≡ modesIn (now (value .entry)) ⌝ }
-{
-    [
-        read_u8(value, 0),
-        read_u8(value, 9),
-        read_u8(value, 18),
-        read_u8(value, 27),
-        read_u8(value, 36),
-    ]
-}
-
 fn request_values(fields: &[u8]) -> Request
     requires { ⌜ FieldsWalk requestRows (now fields) ⌝ }
     ensures { λ r. ⌜ r ≡ requestValues (now (fields .entry)) ⌝ }
 {
-    let person = tagged::find::find(fields, 2);
-    let class = tagged::find::find(fields, 3);
-    let zone = tagged::find::find(fields, 4);
-    let amounts = tagged::find::find(fields, 5);
-    let tiers = tagged::find::find(fields, 6);
-    let added = tagged::find::find(fields, 7);
-    let revenues = tagged::find::find(fields, 8);
-    let connection = tagged::find::find(fields, 12);
+    let amounts = read_amounts(fields);
+    let tiers = read_tiers(fields);
+    let revenues = read_revenues(fields);
+    let connection = read_connection(fields);
+    let modes = tiers.modes;
+    let demands = tiers.demands;
+    let bespoke_rates = tiers.bespoke_rates;
     Request {
-        person: read_u32(person, 0),
-        class: read_u8(class, 0),
-        zone: read_u8(zone, 0) as u16,
-        me: read_u32(amounts, 0),
-        ce: read_u32(amounts, 4),
-        de: read_u32(amounts, 8),
-        tw: read_u32(amounts, 12),
-        hr: read_u32(amounts, 16),
-        ol: read_u32(amounts, 20),
-        modes: modes(tiers),
-        demands: five_from(tiers, 1, 9),
-        bespoke_rates: five_from(tiers, 5, 9),
-        added_demands: five_from(added, 0, 4),
-        distribution_revenue: read_u32(revenues, 0),
-        transmission_revenue: read_u32(revenues, 4),
+        person: read_person(fields),
+        class: read_class(fields),
+        zone: read_zone(fields),
+        me: amounts.me,
+        ce: amounts.ce,
+        de: amounts.de,
+        tw: amounts.tw,
+        hr: amounts.hr,
+        ol: amounts.ol,
+        modes,
+        demands,
+        bespoke_rates,
+        added_demands: read_added(fields),
+        distribution_revenue: revenues.distribution,
+        transmission_revenue: revenues.transmission,
         part_year: read_factors(fields, 9),
         distribution_tariff: read_factors(fields, 10),
         transmission_tariff: read_factors(fields, 11),
-        month: read_u16(connection, 0),
-        capacity: read_u32(connection, 2),
-        scheme: read_u16(connection, 6),
-        mark: read_u8(connection, 8),
+        month: connection.month,
+        capacity: connection.capacity,
+        scheme: connection.scheme,
+        mark: connection.mark,
     }
 }
 
@@ -198,10 +144,10 @@ fn no_request() -> Request
         tw: 0,
         hr: 0,
         ol: 0,
-        modes: [0; 5],
-        demands: [0; 5],
-        bespoke_rates: [0; 5],
-        added_demands: [0; 5],
+        modes: [0; TIERS],
+        demands: [0; TIERS],
+        bespoke_rates: [0; TIERS],
+        added_demands: [0; TIERS],
         distribution_revenue: 0,
         transmission_revenue: 0,
         part_year: none,
@@ -218,7 +164,7 @@ fn refused_request(refusal: Refusal) -> RequestRead
     ensures { λ r. ⌜ r ≡ refusedRequest refusal ⌝ }
 {
     RequestRead {
-        answer: Standing::Refused(refusal),
+        answer: FileAnswer::Refused(refusal),
         request: no_request(),
     }
 }
@@ -229,21 +175,21 @@ pub fn read_request(number: u8, file: &[u8]) -> RequestRead
 {
     let standing = crate::rows::request_stands(number, file);
     match standing {
-        Standing::Stands => {
+        FileAnswer::Stands => {
             let fields = tagged::file::fields_part(file);
             let judged = judge_request(fields);
             match judged {
                 Judged::Passes => RequestRead {
-                    answer: Standing::Stands,
+                    answer: FileAnswer::Stands,
                     request: request_values(fields),
                 },
                 Judged::Fails(at) => refused_request(Refusal {
-                    number: 3,
+                    number: VALUE_NOT_LISTED,
                     file: number,
                     place: at,
                 }),
             }
         }
-        Standing::Refused(refusal) => refused_request(refusal),
+        FileAnswer::Refused(refusal) => refused_request(refusal),
     }
 }

@@ -1,4 +1,4 @@
+pub mod RevenueLimits
 pub mod Revenue
-pub mod RevenueFacts
-pub mod RevenueLaws
-pub mod DiscountBounds
+pub mod Cases
+pub mod Theorems

@@ -4,7 +4,9 @@ use mathlib.Core.Bool.{cond}
 use lib.ListN.{getD}
 use lib.Dec.{eqb}
 use Rattle.field_values.specs.declared.factors.Factors.{Factors}
-use Rattle.field_values.specs.FactorsLaws.{FactorsWithin}
+use Rattle.field_values.specs.FactorLimits.{FactorsWithin}
+use Rattle.field_values.specs.Limits.{highestRevenue}
+use Rattle.revenue.specs.RevenueLimits.{highestOpexFactor}
 use Rattle.revenue.specs.declared.Stream.{Stream}
 
 -- "Opex factor O = ⌊10,000 × (revenue sum − opex sum) / revenue sum⌋; 10,000 for transmission."
@@ -31,7 +33,7 @@ lifeOf class = cond (eqb class 0) 30 15
 abbrev pub scaled : ℕ → ℕ → ℕ
 scaled x factor = x * factor / 10000
 
--- "Year n: revenue × O / 10,000, then × the part-year, revenue and tariff factor of year n, each / 10,000, then × F(n) / 100,000,000, rounded down
+-- "Year n, .. revenue × O / 10,000, then × the part-year, revenue and tariff factor of year n, each / 10,000, then × F(n) / 100,000,000, rounded down
 -- after each division."
 abbrev pub yearRevenue : ℕ → ℕ → ℕ → ℕ → ℕ → ℕ → ℕ
 yearRevenue revenue o partYear revenueFactor tariffFactor f =
@@ -51,8 +53,8 @@ incrementalRevenue distribution transmission b (suc n) =
 
 -- what an accepted book and request give of a stream
 pub record StreamWithin (stream : Stream) : Type 0 where
-  pub revenue : stream .revenue ≤ 1000000000
-  pub opex-factor : stream .«opex_factor» ≤ 10000
+  pub revenue : stream .revenue ≤ highestRevenue
+  pub opex-factor : stream .«opex_factor» ≤ highestOpexFactor
   pub part-year : FactorsWithin (stream .«part_year»)
   pub revenue-factors : FactorsWithin (stream .«revenue_factors»)
   pub tariff-factors : FactorsWithin (stream .«tariff_factors»)

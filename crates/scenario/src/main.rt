@@ -1,8 +1,9 @@
-// Walks a pioneer ledger through its life by the lines of data/calls.txt: document 01's M7 with plain, small and ended connections
+// Walks a pioneer ledger through its life by the lines of data/calls.txt: M7 of document 01, 'Marked figures', with plain, small and ended connections
 // in between, pay-outs, a hand-over, every refusal, and the stored form, all by the public calls over a lent table. Each call is
 // written with its answer; `show`, `figures` and `entry` write what ledger and table hold.
+use ledger::limits::MOST_ENTRIES;
+use ledger::limits::Parties;
 use ledger::records::Ledger;
-use ledger::records::Party;
 use ledger_text::lines;
 use ledger_text::lines::write;
 use ledger_text::lines::write_number;
@@ -15,7 +16,7 @@ ghost use Rattle.io.specs.Counts.{Counts};
 // The table is the first `room` records of the parties.
 struct State {
     ledger: Ledger,
-    parties: [Party; 512],
+    parties: Parties,
     room: usize,
 }
 
@@ -23,7 +24,7 @@ fn new_state() -> State {
     State {
         ledger: ledger::records::new_ledger(),
         parties: ledger::records::no_parties(),
-        room: 512,
+        room: MOST_ENTRIES,
     }
 }
 
@@ -81,15 +82,15 @@ fn change_entry(state: State, hands_over: bool, figures: &[u8]) -> State {
 // What is read; a new ledger with no entries where the reading is refused.
 fn read_bytes(file: &[u8]) -> State {
     let none = ledger::records::no_parties();
-    let read = lent_table::read(ledger::records::new_ledger(), none, 512, file);
+    let read = lent_table::read(ledger::records::new_ledger(), none, MOST_ENTRIES, file);
     let answer = read.answer;
-    lines::write_standing(answer);
+    lines::write_file_answer(answer);
     let ledger = read.ledger;
     let parties = read.parties;
     State {
         ledger,
         parties,
-        room: 512,
+        room: MOST_ENTRIES,
     }
 }
 

@@ -1,4 +1,5 @@
 pub mod Slip
-pub mod SlipFacts
-pub mod AlteredFiles
+pub mod SlipReading
 pub mod SlipEnding
+pub mod Cases
+pub mod Theorems

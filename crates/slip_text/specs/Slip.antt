@@ -7,6 +7,7 @@ use lib.ListN.{length, take, drop}
 use lib.Dec.{ltb}
 use lib.IntN.{ℤ, pos, negsuc}
 use Rattle.tagged.specs.File.{refusal}
+use Rattle.tagged.specs.Refusals.{outputTooShort}
 use Rattle.tagged.specs.declared.file.Refusal.{Refusal}
 use Rattle.reconciliation.specs.declared.Percent.{Percent}
 use Rattle.reconciliation.specs.declared.Percent.the-variants.{Whole, None}
@@ -66,9 +67,9 @@ unfoldable pub slipOf : Pricing → List ℕ
 slipOf (Priced bill) = flatten (reconciliationLines (bill .reconciliation))
 slipOf (NotPriced r) = refusalText r
 
--- The slip in a lent buffer: its length, and the buffer with the slip at its start; 14 where the buffer is shorter, and the buffer as it was.
+-- The slip in a lent buffer: its length, and the buffer with the slip at its start; refused where the buffer is shorter, and the buffer as it was.
 abbrev pub slipWritten : Pricing → List ℕ → SlipWritten
-slipWritten pricing out = cond (ltb (length out) (length (slipOf pricing))) (Refused (refusal 14 0 0)) (Written (length (slipOf pricing)))
+slipWritten pricing out = cond (ltb (length out) (length (slipOf pricing))) (Refused (refusal outputTooShort 0 0)) (Written (length (slipOf pricing)))
 
 abbrev pub slipBuffer : Pricing → List ℕ → List ℕ
 slipBuffer pricing out = cond (ltb (length out) (length (slipOf pricing))) out (slipOf pricing ++ drop (length (slipOf pricing)) out)

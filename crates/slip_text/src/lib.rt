@@ -3,6 +3,7 @@ use charge::Pricing;
 use reconciliation::Percent;
 use reconciliation::Reconciliation;
 use tagged::file::Refusal;
+use tagged::refusals::OUTPUT_TOO_SHORT;
 ghost use mathlib.Core.Path.{_≡_};
 ghost use mathlib.Core.List.{[], _∷_, _++_, flatten};
 ghost use Prim.Native.Nat.{_+_, _<_, _≤_};
@@ -11,7 +12,7 @@ ghost use lib.ListN.{length, drop};
 ghost use Rattle.slip_text.specs.Slip.{room, textOf, decimal, signedDecimal, percentText, figureText, line, reconciliationLines, refusalText, slipOf, slipWritten, slipBuffer};
 
 // How many bytes a text has room for.
-const ROOM: usize = 256;
+pub const ROOM: usize = 256;
 
 // What is written so far: the first `len` bytes.
 struct Text {
@@ -180,7 +181,7 @@ fn write_text(text: Text, out: &mut [u8])
     }
 }
 
-// The slip at the start of a lent buffer, and its length; 14 where the buffer is shorter.
+// The slip at the start of a lent buffer, and its length; refused where the buffer is shorter.
 pub fn slip_text(pricing: Pricing, out: &mut [u8]) -> SlipWritten
     ensures { λ r. ⌜ r ≡ slipWritten pricing (now (out .entry)) ⌝ }
     ensures { λ _. ⌜ now (out .exit) ≡ slipBuffer pricing (now (out .entry)) ⌝ }
@@ -189,7 +190,7 @@ pub fn slip_text(pricing: Pricing, out: &mut [u8]) -> SlipWritten
     let len = text.len;
     if out.len() < len {
         return SlipWritten::Refused(Refusal {
-            number: 14,
+            number: OUTPUT_TOO_SHORT,
             file: 0,
             place: 0,
         });

@@ -4,12 +4,14 @@ use mathlib.Core.List.{List, [], _∷_, _++_, map}
 use lib.ListN.{length, take, replicate}
 use Rattle.field_walk.specs.Walk.{FieldAt, valueOf}
 use Rattle.tagged.specs.Find.{fieldsOf, fieldsWith, fieldValue}
-use Rattle.tagged.specs.WalkFinds.{closed}
+use Rattle.tagged.specs.Encoded.{closed}
+use Rattle.ledger.specs.Limits.{mostSchemes, mostEntries}
+use Rattle.ledger.specs.Lists.{atStart}
 use Rattle.ledger.specs.Records.{noScheme}
 use Rattle.ledger.specs.declared.records.Scheme.{Scheme}
 use Rattle.ledger.specs.declared.records.Party.{Party}
 use Rattle.ledger.specs.declared.records.Ledger.{Ledger}
-use Rattle.stored.specs.Layout.{recordBytes, recordValues, placed, headWidths, headValues, ledgerFrom, schemeWidths, schemeValues, schemeFrom, partyWidths, partyValues, partyFrom}
+use Rattle.stored.specs.Layout.{recordBytes, recordValues, headWidths, headValues, ledgerFrom, schemeWidths, schemeValues, schemeFrom, partyWidths, partyValues, partyFrom}
 
 -- "01: PION."
 abbrev pub letters : List ℕ
@@ -42,32 +44,55 @@ storedParts ledger parties = lettersPart ∷ headPart (headValues ledger) ∷ sc
 unfoldable pub storedForm : Ledger → List Party → List ℕ
 storedForm ledger parties = closed (storedParts ledger parties)
 
--- how long it is, where a ledger has so many schemes and entries: fields of 7, 25, 27 and 33 bytes, and FF of 5
+-- ---- how many bytes it takes, each field with its tag and length
+
+-- the letters and the head
+abbrev pub headerLength : ℕ
+headerLength = 32
+
+abbrev pub schemeLength : ℕ
+schemeLength = 27
+
+abbrev pub entryLength : ℕ
+entryLength = 33
+
+-- "The last field is FF, length 2: the check."
+abbrev pub checkLength : ℕ
+checkLength = 5
+
+-- with no scheme and no entry
+abbrev pub shortestForm : ℕ
+shortestForm = headerLength + checkLength
+
+-- with so many schemes and entries
 abbrev pub formLength : ℕ → ℕ → ℕ
-formLength count entries = 37 + 27 * count + 33 * entries
+formLength count entries = shortestForm + schemeLength * count + entryLength * entries
+
+-- with as many of both as a ledger holds
+abbrev pub longestForm : ℕ
+longestForm = formLength mostSchemes mostEntries
 
 -- ---- what the fields of a file hold
+abbrev pub schemeOfBytes : List ℕ → Scheme
+schemeOfBytes value = schemeFrom (recordValues schemeWidths value)
 
-abbrev pub schemeOf : List ℕ → Scheme
-schemeOf value = schemeFrom (recordValues schemeWidths value)
-
-abbrev pub partyOf : List ℕ → Party
-partyOf value = partyFrom (recordValues partyWidths value)
+abbrev pub partyOfBytes : List ℕ → Party
+partyOfBytes value = partyFrom (recordValues partyWidths value)
 
 -- what is read of the values of those fields that have this tag, in file order
 abbrev pub eachWith : {A : Type 0} → (List ℕ → A) → ℕ → List ℕ → List FieldAt → List A
 eachWith read tag s fs = map (λ f. read (valueOf s f)) (fieldsWith tag fs)
 
-unfoldable pub schemesIn : List ℕ → List Scheme
-schemesIn s = eachWith schemeOf 3 s (fieldsOf s)
+unfoldable pub storedSchemes : List ℕ → List Scheme
+storedSchemes s = eachWith schemeOfBytes 3 s (fieldsOf s)
 
-unfoldable pub entriesIn : List ℕ → List Party
-entriesIn s = eachWith partyOf 4 s (fieldsOf s)
+unfoldable pub storedEntries : List ℕ → List Party
+storedEntries s = eachWith partyOfBytes 4 s (fieldsOf s)
 
 -- "places past the last scheme hold zeros"
 unfoldable pub noSchemes : List Scheme
-noSchemes = replicate 64 noScheme
+noSchemes = replicate mostSchemes noScheme
 
 unfoldable pub storedLedger : List ℕ → Ledger
 storedLedger s =
-    ledgerFrom (recordValues headWidths (fieldValue 2 s)) (length (entriesIn s)) (length (schemesIn s)) (placed (schemesIn s) noSchemes)
+    ledgerFrom (recordValues headWidths (fieldValue 2 s)) (length (storedEntries s)) (length (storedSchemes s)) (atStart (storedSchemes s) noSchemes)

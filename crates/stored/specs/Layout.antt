@@ -1,9 +1,8 @@
 -- Records as numbers of given widths, one after the other, each big endian. A layout is its list of widths.
-use Prim.Native.Nat.{ℕ, _+_}
+use Prim.Native.Nat.{ℕ, _+_, _^_, _<_}
 use mathlib.Core.List.{List, [], _∷_, _++_}
 use lib.ListN.{getD}
 use Rattle.numbers.specs.BigEndian.{numberAt, bytesOf}
-use Rattle.ledger.specs.Lists.{atStart}
 use Rattle.ledger.specs.declared.records.Scheme.{Scheme}
 use Rattle.ledger.specs.declared.records.Party.{Party}
 use Rattle.ledger.specs.declared.records.Ledger.{Ledger}
@@ -21,10 +20,6 @@ valuesAt (width ∷ widths) at bytes = numberAt bytes at width ∷ valuesAt widt
 
 abbrev pub recordValues : List ℕ → List ℕ → List ℕ
 recordValues widths bytes = valuesAt widths 0 bytes
-
--- these elements in the first places, and the rest left alone; folded, so that goals stay short
-unfoldable pub placed : {A : Type 0} → List A → List A → List A
-placed elements others = atStart elements others
 
 -- "02 (22): month (2), connections (4), charged (8), borne (8)."
 abbrev pub headWidths : List ℕ
@@ -81,3 +76,10 @@ partyFrom values =
       credited = getD values 4 0;
       «paid_out» = getD values 5 0;
     }
+
+-- as many values as widths, each within its width
+abbrev pub Fit : List ℕ → List ℕ → Type 0
+Fit [] [] = Unit {0}
+Fit [] (value ∷ values) = ⊥
+Fit (width ∷ widths) [] = ⊥
+Fit (width ∷ widths) (value ∷ values) = (value < 256 ^ width) × Fit widths values

@@ -1,14 +1,17 @@
--- Document 01: "Writing answers the form's length and leaves output past that alone." Order: 13, 14.
+-- Document 01, 'How calls end': "Writing answers the form's length and leaves output past that alone." Order: 13, 14.
 use Prim.Native.Nat.{ℕ}
-use mathlib.Core.List.{List}
-use mathlib.Core.Bool.{cond}
+use mathlib.Core.List.{List, [], _∷_}
+use mathlib.Core.Bool.{cond, true}
+use mathlib.Core.Path.{_≡_}
 use lib.ListN.{length}
 use lib.Dec.{leb}
 use Rattle.tagged.specs.File.{refusal}
+use Rattle.tagged.specs.Refusals.{ledgerUnsound, outputTooShort}
+use Rattle.ledger.specs.Lists.{atStart}
 use Rattle.ledger.specs.Sound.{sound}
 use Rattle.ledger.specs.declared.records.Party.{Party}
 use Rattle.ledger.specs.declared.records.Ledger.{Ledger}
-use Rattle.stored.specs.Layout.{placed}
+use Rattle.ledger.specs.RefusalNumbers.{oneOf}
 use Rattle.stored.specs.Form.{storedForm}
 use Rattle.stored.specs.declared.writing.Written.{Written}
 use Rattle.stored.specs.declared.writing.Written.the-variants.{Length, Refused}
@@ -16,15 +19,15 @@ use Rattle.stored.specs.declared.writing.Written.the-variants.{Length, R
 -- without the soundness test
 abbrev pub formAnswer : Ledger → List Party → List ℕ → Written
 formAnswer ledger parties out =
-    cond (leb (length (storedForm ledger parties)) (length out)) (Length (length (storedForm ledger parties))) (Refused (refusal 14 0 0))
+    cond (leb (length (storedForm ledger parties)) (length out)) (Length (length (storedForm ledger parties))) (Refused (refusal outputTooShort 0 0))
 
 -- the answer, and the output afterwards; `room` is the table's length
 unfoldable pub writtenAnswer : Ledger → List Party → ℕ → List ℕ → Written
-writtenAnswer ledger parties room out = cond (sound ledger parties room) (formAnswer ledger parties out) (Refused (refusal 13 0 0))
+writtenAnswer ledger parties room out = cond (sound ledger parties room) (formAnswer ledger parties out) (Refused (refusal ledgerUnsound 0 0))
 
 -- by the answer: the form at the start of the output, or the output as it was
 abbrev pub outputBy : Written → List ℕ → List ℕ → List ℕ
-outputBy (Length size) form out = placed form out
+outputBy (Length size) form out = atStart form out
 outputBy (Refused r) form out = out
 
 abbrev pub formOutput : Ledger → List Party → List ℕ → List ℕ
@@ -45,3 +48,11 @@ formEnd ledger parties out = record { answer = formAnswer ledger parties out; ou
 abbrev pub writeOf : Ledger → List Party → List ℕ → WriteEnd
 writeOf ledger table out =
     record { answer = writtenAnswer ledger table (length table) out; output = writtenOutput ledger table (length table) out }
+
+-- ---- the numbers that writing refuses with
+abbrev pub writingNumbers : List ℕ
+writingNumbers = ledgerUnsound ∷ outputTooShort ∷ []
+
+abbrev pub WriteRefuses : Written → Type 0
+WriteRefuses (Length size) = Unit {0}
+WriteRefuses (Refused r) = oneOf writingNumbers (r .number) ≡ true

@@ -1,11 +1,11 @@
 // What reading a stored ledger answers.
+use ledger::limits::Parties;
 use ledger::records::Ledger;
-use ledger::records::Party;
-use tagged::file::Standing;
+use tagged::file::FileAnswer;
 
 // A refused reading hands back the ledger that it was given, and no entries.
 pub struct ReadBack {
-    pub answer: Standing,
+    pub answer: FileAnswer,
     pub ledger: Ledger,
-    pub parties: [Party; 512],
+    pub parties: Parties,
 }

@@ -9,56 +9,56 @@ use lib.ListN.{length, take, length-take}
 use lib.Seq.{take-take}
 use Rattle.tagged.specs.File.{fieldsPart}
 use Rattle.tagged.specs.declared.file.Refusal.{Refusal}
-use Rattle.tagged.specs.declared.file.Standing.{Standing}
-use Rattle.tagged.specs.declared.file.Standing.the-variants.{Stands, Refused}
+use Rattle.tagged.specs.declared.file.FileAnswer.{FileAnswer}
+use Rattle.tagged.specs.declared.file.FileAnswer.the-variants.{Stands, Refused}
+use Rattle.ledger.specs.Limits.{mostSchemes, mostEntries}
+use Rattle.ledger.specs.Lists.{atStart}
 use Rattle.ledger.specs.Records.{noParties, newLedger}
-use Rattle.ledger.specs.TableLaws.{length-no-parties}
+use Rattle.ledger.specs.Theorems.Table.{length-no-parties}
 use Rattle.ledger.specs.Sound.{sound}
-use Rattle.ledger.specs.SoundFacts.{sound-means, new-ledger-sound}
+use Rattle.ledger.specs.Theorems.Sound.{sound-means, new-ledger-sound}
 use Rattle.ledger.specs.declared.records.Party.{Party}
 use Rattle.ledger.specs.declared.records.Ledger.{Ledger}
 use Rattle.calls.specs.Decision.{Call, CallAnswer}
 use Rattle.calls.specs.Carried.{State}
 use Rattle.calls.specs.Calls.{stateOf, leaves, Fits}
-use Rattle.kept_sound.specs.KeptSound.{call-keeps-sound, leaves-length}
-use Rattle.calls_by_value.specs.ByValue.{SoundWithin, PromisedWithin}
-use Rattle.stored.specs.Layout.{placed}
-use Rattle.stored.specs.Form.{storedForm, entriesIn, storedLedger}
-use Rattle.stored.specs.Accepted.{accepted-means}
+use Rattle.kept_sound.specs.Theorems.KeptSound.{call-keeps-sound, leaves-length}
+use Rattle.calls_by_value.specs.ByValue.{SoundOnRecords, PromisedOnRecords}
+use Rattle.stored.specs.Form.{storedForm, storedEntries, storedLedger}
+use Rattle.stored.specs.Theorems.StoredAccepted.{accepted-means}
 use Rattle.stored.specs.Reading.{ReadEnd, readAnswer, readBy, readBack, tableBy}
 use Rattle.stored.specs.Writing.{outputBy, formEnd, writeOf}
-use Rattle.stored.specs.WritingLaws.{write-sound}
-use Rattle.stored.specs.SameForm.{same-form}
+use Rattle.stored.specs.Theorems.Writing.{write-sound}
+use Rattle.stored.specs.Theorems.SameForm.{same-form}
 use Rattle.stored.specs.declared.reading.ReadBack.{ReadBack}
 use Rattle.stored_calls.specs.StoredCalls.{notRead, storedRead, readEnd, endBy, onceRead, callOnRead, storedCallOf}
-use Rattle.stored_calls.specs.StoredCallsFacts.{length-room}
-use Rattle.stored_calls.specs.StoredCallsRefusals.{places-read, sound-read}
+use Rattle.stored_calls.specs.Theorems.StoredCalls.{length-room}
+use Rattle.stored_calls.specs.Theorems.StoredCallsRefusals.{places-read, sound-read}
 
 -- ---- reading
 
 -- what is placed within the first records of a list
-placed-within : {A : Type 0} (elements others : List A) (room : ℕ) → length elements ≤ room → length elements ≤ length others →
-    take room (placed elements others) ≡ placed elements (take room others)
-unfolding placed
-placed-within [] others room fits few = refl
-placed-within (x ∷ elements) others zero fits few = absurd (omega (arith, fits))
-placed-within (x ∷ elements) [] (suc room) fits few = absurd (omega (arith, few))
-placed-within (x ∷ elements) (y ∷ others) (suc room) fits few =
-    ap (λ l. x ∷ l) (placed-within elements others room (omega (arith, fits)) (omega (arith, few)))
+at-start-within : {A : Type 0} (elements others : List A) (room : ℕ) → length elements ≤ room → length elements ≤ length others →
+    take room (atStart elements others) ≡ atStart elements (take room others)
+at-start-within [] others room fits few = refl
+at-start-within (x ∷ elements) others zero fits few = absurd (omega (arith, fits))
+at-start-within (x ∷ elements) [] (suc room) fits few = absurd (omega (arith, few))
+at-start-within (x ∷ elements) (y ∷ others) (suc room) fits few =
+    ap (λ l. x ∷ l) (at-start-within elements others room (omega (arith, fits)) (omega (arith, few)))
 
-pub read-by-value : (file : List ℕ) (room : ℕ) → readEnd room (readBack newLedger (min room 512) file) ≡ storedRead file room
+pub read-by-value : (file : List ℕ) (room : ℕ) → readEnd room (readBack newLedger (min room mostEntries) file) ≡ storedRead file room
 unfolding storedRead
 read-by-value file room =
-    by-answer (readAnswer (min room 512) file) refl
+    by-answer (readAnswer (min room mostEntries) file) refl
     ∙ ap (λ records. tableBy (readAnswer records file) newLedger (take room noParties) (fieldsPart file)) (sym (length-room room))
   where
-    by-answer : (answer : Standing) → readAnswer (min room 512) file ≡ answer →
+    by-answer : (answer : FileAnswer) → readAnswer (min room mostEntries) file ≡ answer →
         readEnd room (readBy answer newLedger (fieldsPart file)) ≡ tableBy answer newLedger (take room noParties) (fieldsPart file)
     by-answer Stands stands =
         let s = fieldsPart file in
-        let fits = accepted-means (min room 512) file stands .fits in
+        let fits = accepted-means (min room mostEntries) file stands .fits in
         ap (λ table. record { answer = Stands; ledger = storedLedger s; table = table })
-        (placed-within (entriesIn s) noParties room (omega (arith, fits)) (omega (arith, fits, length-no-parties)))
+        (at-start-within (storedEntries s) noParties room (omega (arith, fits)) (omega (arith, fits, length-no-parties)))
     by-answer (Refused r) refused = refl
 
 -- ---- writing
@@ -77,22 +77,22 @@ module _ (file : List ℕ) (room : ℕ) (call : Call) (read : ReadBack) (same : 
   before = stateOf (read .ledger) (take room (read .parties))
 
   -- by reading's answer
-  answered-by : {answer : Standing} (out : List ℕ) → read .answer ≡ answer → onceRead answer before call out ≡ storedCallOf file room call out
+  answered-by : {answer : FileAnswer} (out : List ℕ) → read .answer ≡ answer → onceRead answer before call out ≡ storedCallOf file room call out
   answered-by out told = ap (λ answer. onceRead answer before call out) (sym told) ∙ ap (λ end. callOnRead end call out) same
 
   pub not-read : {r : Refusal} (out : List ℕ) → read .answer ≡ Refused r → record { answer = notRead r; output = out } ≡ storedCallOf file room call out
   not-read out told = answered-by out told
 
   module _ (stands : read .answer ≡ Stands) where
-    pub sound-here : SoundWithin room (read .ledger) (read .parties)
+    pub sound-here : SoundOnRecords room (read .ledger) (read .parties)
     sound-here =
         subst (λ (end : ReadEnd). sound (end .ledger) (end .table) (length (end .table)) ≡ true) (sym same)
         (sound-read file room (sym (ap (λ (end : ReadEnd). end .answer) same) ∙ stands))
 
     module _ (fits : Fits call) {answer : CallAnswer} {after : Ledger} {left : List Party}
-        (promise : PromisedWithin room (read .ledger) (read .parties) call answer after left) where
-      places : length (read .ledger .schemes) ≡ 64
-      places = subst (λ (end : ReadEnd). length (end .ledger .schemes) ≡ 64) (sym same) (places-read file room)
+        (promise : PromisedOnRecords room (read .ledger) (read .parties) call answer after left) where
+      places : length (read .ledger .schemes) ≡ mostSchemes
+      places = subst (λ (end : ReadEnd). length (end .ledger .schemes) ≡ mostSchemes) (sym same) (places-read file room)
 
       kept : sound after (take room left) (length (take room left)) ≡ true
       kept =
@@ -100,7 +100,7 @@ module _ (file : List ℕ) (room : ℕ) (call : Call) (read : ReadBack) (same : 
           (ap (sound (leaves before call .ledger) (leaves before call .table)) (leaves-length before call places)
           ∙ call-keeps-sound before call places fits sound-here)
 
-      pub counts-kept : (after .count ≤ 64) × (after .entries ≤ 512)
+      pub counts-kept : (after .count ≤ mostSchemes) × (after .entries ≤ mostEntries)
       counts-kept = let means = sound-means after (take room left) (length (take room left)) kept in (means .schemes, means .entries)
 
       pub call-ends : (out : List ℕ) → endBy answer (formEnd after left out) out ≡ storedCallOf file room call out

@@ -1,7 +1,6 @@
 pub mod StoredCalls
-pub mod StoredCallsFacts
 pub mod StoredCallEnding
+pub mod StoredRefusals
 pub mod StoredCallsRefusals
-pub mod Handed
-pub mod StoredCallsReadBack
-pub mod StoredCallsRows
+pub mod Cases
+pub mod Theorems

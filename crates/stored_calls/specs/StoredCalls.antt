@@ -1,13 +1,10 @@
 -- The calls on a ledger that is kept as its stored bytes: reading, the call and writing in turn. Document 01, 'How calls end': a refusal leaves the
 -- output as it was; 14 where it is shorter than the new form.
 use Prim.Native.Nat.{ℕ}
-use mathlib.Core.Path.{_≡_, refl}
-use mathlib.Core.List.{List, [], _∷_, map}
+use mathlib.Core.List.{List}
 use lib.ListN.{take}
-use Rattle.tagged.specs.File.{refusal}
 use Rattle.tagged.specs.declared.file.Refusal.{Refusal}
-use Rattle.tagged.specs.declared.file.Standing.{Standing}
-use Rattle.tagged.specs.declared.file.Standing.the-variants as Standing
+use Rattle.tagged.specs.declared.file.FileAnswer.{FileAnswer}
 use Rattle.ledger.specs.Records.{noParties, newLedger}
 use Rattle.ledger.specs.declared.records.Ledger.{Ledger}
 use Rattle.calls.specs.Decision.{Call, CallAnswer, isAccepted, isDone, isRefused}
@@ -18,17 +15,17 @@ use Rattle.stored.specs.Reading.{ReadEnd, readOf}
 use Rattle.stored.specs.Writing.{WriteEnd, writeOf}
 use Rattle.stored.specs.declared.reading.ReadBack.{ReadBack}
 use Rattle.stored.specs.declared.writing.Written.{Written}
+use Rattle.tagged.specs.declared.file.FileAnswer.the-variants as FileAnswer
 use Rattle.stored.specs.declared.writing.Written.the-variants as Written
 use Rattle.stored_calls.specs.declared.StoredAccept.{StoredAccept}
-use Rattle.stored_calls.specs.declared.StoredAccept.the-variants as StoredAccept
 use Rattle.stored_calls.specs.declared.StoredAnswer.{StoredAnswer}
-use Rattle.stored_calls.specs.declared.StoredAnswer.the-variants as StoredAnswer
 use Rattle.stored_calls.specs.declared.StoredCounts.{StoredCounts}
 use Rattle.stored_calls.specs.declared.StoredCheck.{StoredCheck}
+use Rattle.stored_calls.specs.declared.StoredAccept.the-variants as StoredAccept
+use Rattle.stored_calls.specs.declared.StoredAnswer.the-variants as StoredAnswer
 use Rattle.stored_calls.specs.declared.StoredCheck.the-variants as StoredCheck
 
 -- ---- what a call answers
-
 pub data StoredCallAnswer : Type 0 where
   -- reading's refusal: file 1 is the stored ledger
   notRead : Refusal → StoredCallAnswer
@@ -79,32 +76,13 @@ endBy (isAccepted acceptance) written out = writtenEnd (madeAccepted acceptance)
 endBy isDone written out = writtenEnd madeDone written
 endBy (isRefused r) written out = record { answer = notMade r; output = out }
 
--- how writing ends on an output of one byte 7
-abbrev formWritten : WriteEnd
-formWritten = record { answer = Written.Length 1; output = 8 ∷ [] }
-
-abbrev outputTooShort : WriteEnd
-outputTooShort = record { answer = Written.Refused (refusal 14 0 0); output = 7 ∷ [] }
-
--- the call's answer, writing's end, and the call's end: its own refusal before 14, and nothing written then
-abbrev endRows : List (CallAnswer × WriteEnd × CallEnd)
-endRows =
-    (isDone, formWritten, record { answer = madeDone 1; output = 8 ∷ [] }) ∷
-    (isDone, outputTooShort, record { answer = notMade (refusal 14 0 0); output = 7 ∷ [] }) ∷
-    (isRefused (refusal 12 0 0), outputTooShort, record { answer = notMade (refusal 12 0 0); output = 7 ∷ [] }) ∷
-    (isRefused (refusal 12 0 0), formWritten, record { answer = notMade (refusal 12 0 0); output = 7 ∷ [] }) ∷
-    []
-
-pub end-rows-hold : map (λ row. endBy (row .0) (row .1) (7 ∷ [])) endRows ≡ map (λ row. row .2) endRows
-end-rows-hold = refl
-
 abbrev pub callEnd : State → Call → List ℕ → CallEnd
 callEnd state call out = endBy (answered state call) (writeOf (leaves state call .ledger) (leaves state call .table) out) out
 
 -- the call once the ledger was read, or reading's refusal with the output as it was
-abbrev pub onceRead : Standing → State → Call → List ℕ → CallEnd
-onceRead Standing.Stands state call out = callEnd state call out
-onceRead (Standing.Refused r) state call out = record { answer = notRead r; output = out }
+abbrev pub onceRead : FileAnswer → State → Call → List ℕ → CallEnd
+onceRead FileAnswer.Stands state call out = callEnd state call out
+onceRead (FileAnswer.Refused r) state call out = record { answer = notRead r; output = out }
 
 abbrev pub callOnRead : ReadEnd → Call → List ℕ → CallEnd
 callOnRead read call out = onceRead (read .answer) (stateOf (read .ledger) (read .table)) call out
@@ -113,7 +91,6 @@ abbrev pub storedCallOf : List ℕ → ℕ → Call → List ℕ → CallEnd
 storedCallOf file room call out = callOnRead (storedRead file room) call out
 
 -- ---- a new ledger, and the check of a stored one
-
 abbrev pub newStoredOf : List ℕ → CallEnd
 newStoredOf out = writtenEnd madeDone (writeOf newLedger noParties out)
 
@@ -128,9 +105,9 @@ countsOf ledger =
       entries = ledger .entries;
     }
 
-abbrev pub checkBy : Standing → Ledger → StoredCheck
-checkBy Standing.Stands ledger = StoredCheck.Sound (countsOf ledger)
-checkBy (Standing.Refused r) ledger = StoredCheck.NotRead r
+abbrev pub checkBy : FileAnswer → Ledger → StoredCheck
+checkBy FileAnswer.Stands ledger = StoredCheck.Sound (countsOf ledger)
+checkBy (FileAnswer.Refused r) ledger = StoredCheck.NotRead r
 
 abbrev pub checkStoredOf : List ℕ → ℕ → StoredCheck
 checkStoredOf file room = checkBy (storedRead file room .answer) (storedRead file room .ledger)

@@ -1,5 +1,5 @@
 // The calls on a pioneer ledger that is kept as its stored bytes: document 01, 'Ledger calls' and 'Stored form'. The bytes are read
-// into a table of `room` records, 512 where that is more, the call is made on it, and the new form goes to the start of a lent
+// into a table of `room` records, MOST_ENTRIES where that is more, the call is made on it, and the new form goes to the start of a lent
 // buffer. In turn: reading's refusals, the call's, and 14 where the buffer is shorter than the new form. A refusal leaves the
 // buffer as it was. Reading finds the ledger sound, and the call leaves it so: neither tests it again.
 use calls::answers::AcceptAnswer;
@@ -10,10 +10,11 @@ use calls_by_value::ChangedTable;
 use ledger::records::Ledger;
 use stored::reading::ReadBack;
 use stored::writing::Written;
+use tagged::file::FileAnswer;
 use tagged::file::Refusal;
-use tagged::file::Standing;
 ghost use mathlib.Core.Path.{_≡_};
 ghost use Prim.Native.Nat.{_≤_};
+ghost use Rattle.ledger.specs.Limits.{mostSchemes, mostEntries};
 ghost use Rattle.calls.specs.Decision.{accept, payOut, handOver, ofAccept, ofEntryCall};
 ghost use Rattle.stored.specs.Writing.{formEnd};
 ghost use Rattle.stored_calls.specs.StoredCalls.{madeAccepted, madeDone, ofStoredAccept, ofStoredAnswer, storedRead, readEnd, writtenAnswer, endBy, storedCallOf, newStoredOf, countsOf, checkStoredOf};
@@ -86,7 +87,7 @@ fn written_call(written: Written) -> StoredAnswer
 
 // The ledger and the table after an accept.
 fn write_accepted(accepted: AcceptedTable, out: &mut [u8]) -> StoredAccept
-    requires { ⌜ (accepted .ledger .count ≤ 64) × (accepted .ledger .entries ≤ 512) ⌝ }
+    requires { ⌜ (accepted .ledger .count ≤ mostSchemes) × (accepted .ledger .entries ≤ mostEntries) ⌝ }
     ensures { λ r. ⌜ ofStoredAccept r ≡ endBy (ofAccept (accepted .answer)) (formEnd (accepted .ledger) (accepted .parties) (now (out .entry))) (now (out .entry)) .answer ⌝ }
     ensures { λ _. ⌜ now (out .exit) ≡ endBy (ofAccept (accepted .answer)) (formEnd (accepted .ledger) (accepted .parties) (now (out .entry))) (now (out .entry)) .output ⌝ }
 {
@@ -104,7 +105,7 @@ fn write_accepted(accepted: AcceptedTable, out: &mut [u8]) -> StoredAccept
 
 // The ledger, which the other calls leave as it is, with the table after a call.
 fn write_changed(ledger: Ledger, changed: ChangedTable, out: &mut [u8]) -> StoredAnswer
-    requires { ⌜ (ledger .count ≤ 64) × (ledger .entries ≤ 512) ⌝ }
+    requires { ⌜ (ledger .count ≤ mostSchemes) × (ledger .entries ≤ mostEntries) ⌝ }
     ensures { λ r. ⌜ ofStoredAnswer r ≡ endBy (ofEntryCall (changed .answer)) (formEnd ledger (changed .parties) (now (out .entry))) (now (out .entry)) .answer ⌝ }
     ensures { λ _. ⌜ now (out .exit) ≡ endBy (ofEntryCall (changed .answer)) (formEnd ledger (changed .parties) (now (out .entry))) (now (out .entry)) .output ⌝ }
 {
@@ -132,13 +133,13 @@ pub fn accept_stored(
     let read = read_stored(file, room);
     let answer = read.answer;
     match answer {
-        Standing::Stands => {
+        FileAnswer::Stands => {
             let ledger = read.ledger;
             let parties = read.parties;
             let accepted = calls_by_value::accept_sound(ledger, parties, room, book, request);
             write_accepted(accepted, out)
         }
-        Standing::Refused(refusal) => StoredAccept::NotRead(refusal),
+        FileAnswer::Refused(refusal) => StoredAccept::NotRead(refusal),
     }
 }
 
@@ -155,13 +156,13 @@ pub fn pay_out_stored(
     let read = read_stored(file, room);
     let answer = read.answer;
     match answer {
-        Standing::Stands => {
+        FileAnswer::Stands => {
             let ledger = read.ledger;
             let parties = read.parties;
             let changed = calls_by_value::pay_out_sound(ledger, parties, room, entry, amount);
             write_changed(ledger, changed, out)
         }
-        Standing::Refused(refusal) => StoredAnswer::NotRead(refusal),
+        FileAnswer::Refused(refusal) => StoredAnswer::NotRead(refusal),
     }
 }
 
@@ -178,13 +179,13 @@ pub fn hand_over_stored(
     let read = read_stored(file, room);
     let answer = read.answer;
     match answer {
-        Standing::Stands => {
+        FileAnswer::Stands => {
             let ledger = read.ledger;
             let parties = read.parties;
             let changed = calls_by_value::hand_over_sound(ledger, parties, room, entry, person);
             write_changed(ledger, changed, out)
         }
-        Standing::Refused(refusal) => StoredAnswer::NotRead(refusal),
+        FileAnswer::Refused(refusal) => StoredAnswer::NotRead(refusal),
     }
 }
 
@@ -217,10 +218,10 @@ pub fn check_stored(file: &[u8], room: usize) -> StoredCheck
     let read = read_stored(file, room);
     let answer = read.answer;
     match answer {
-        Standing::Stands => {
+        FileAnswer::Stands => {
             let ledger = read.ledger;
             StoredCheck::Sound(counts_of(ledger))
         }
-        Standing::Refused(refusal) => StoredCheck::NotRead(refusal),
+        FileAnswer::Refused(refusal) => StoredCheck::NotRead(refusal),
     }
 }

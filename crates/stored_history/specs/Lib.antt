@@ -1,3 +1,4 @@
-pub mod StoredDemand
-pub mod BytesKeptRows
+pub mod StoredDemandThree
 pub mod EveryListOfStoredCalls
+pub mod Cases
+pub mod Theorems

@@ -3,12 +3,14 @@
 // A line for each: the file and the table's length; what reading came to, with schemes, entries and
 // connections, or the refusal; the output's length; what writing came to, with the form's length and
 // whether it is the file, or the refusal.
+use ledger::limits::MOST_ENTRIES;
+use ledger::limits::Parties;
 use ledger::records::Ledger;
-use ledger::records::Party;
 use libc::STDOUT_FILENO;
+use stored::lengths::LONGEST_FORM;
 use stored::writing::Written;
+use tagged::file::FileAnswer;
 use tagged::file::Refusal;
-use tagged::file::Standing;
 
 fn write(text: &[u8]) {
     io::write_all(STDOUT_FILENO, text);
@@ -32,7 +34,7 @@ fn write_refusal(refusal: Refusal) {
     write_figure(refusal.place as u64);
 }
 
-fn write_standing(ledger: Ledger) {
+fn write_file_answer(ledger: Ledger) {
     write(b" STANDS");
     write_figure(ledger.count as u64);
     write_figure(ledger.entries as u64);
@@ -49,7 +51,7 @@ fn write_form(size: usize, same: bool) {
 }
 
 // Writes a ledger into a lent buffer, and holds its stored form against a file.
-fn write_back(ledger: Ledger, parties: [Party; 512], room: usize, out: &mut [u8], file: &[u8]) {
+fn write_back(ledger: Ledger, parties: Parties, room: usize, out: &mut [u8], file: &[u8]) {
     let written = stored_writing::write(ledger, parties, room, out);
     match written {
         Written::Refused(refusal) => write_refusal(refusal),
@@ -67,13 +69,13 @@ fn show(name: &[u8], room: usize, out: &mut [u8]) {
     let read = stored_reading::read(ledger::records::new_ledger(), room, file);
     let answer = read.answer;
     match answer {
-        Standing::Refused(refusal) => {
+        FileAnswer::Refused(refusal) => {
             write_refusal(refusal);
             write(b"\n");
         }
-        Standing::Stands => {
+        FileAnswer::Stands => {
             let parties = read.parties;
-            write_standing(read.ledger);
+            write_file_answer(read.ledger);
             write_length(b" OUTPUT", out.len());
             write_back(read.ledger, parties, room, out, file);
             write(b"\n");
@@ -83,26 +85,26 @@ fn show(name: &[u8], room: usize, out: &mut [u8]) {
 
 // With an output for the longest form.
 fn show_file(name: &[u8], room: usize) {
-    let mut out = [0u8; 18661];
+    let mut out = [0u8; LONGEST_FORM];
     show(name, room, &mut out);
 }
 
 fn sound_files() {
     show_file(b"new.bin", 0);
     show_file(b"one_scheme.bin", 2);
-    show_file(b"one_scheme.bin", 512);
-    show_file(b"full.bin", 512);
+    show_file(b"one_scheme.bin", MOST_ENTRIES);
+    show_file(b"full.bin", MOST_ENTRIES);
 }
 
 fn refused_files() {
-    show_file(b"missing.bin", 512);
-    show_file(b"truncated.bin", 512);
-    show_file(b"altered_byte.bin", 512);
-    show_file(b"wrong_check.bin", 512);
-    show_file(b"wrong_letter.bin", 512);
+    show_file(b"missing.bin", MOST_ENTRIES);
+    show_file(b"truncated.bin", MOST_ENTRIES);
+    show_file(b"altered_byte.bin", MOST_ENTRIES);
+    show_file(b"wrong_check.bin", MOST_ENTRIES);
+    show_file(b"wrong_letter.bin", MOST_ENTRIES);
     show_file(b"one_scheme.bin", 1);
-    show_file(b"full.bin", 511);
-    show_file(b"fees_off_by_one.bin", 512);
+    show_file(b"full.bin", MOST_ENTRIES - 1);
+    show_file(b"fees_off_by_one.bin", MOST_ENTRIES);
 }
 
 // As long as the form, and one byte shorter.
@@ -117,11 +119,11 @@ fn outputs_at_the_limit() {
 fn unsound_ledger() {
     let mut ledger = ledger::records::new_ledger();
     ledger.charged = 1;
-    let parties = [ledger::records::no_party(); 512];
-    let mut out = [0u8; 18661];
-    write_length(b"unsound TABLE", 512);
-    write_length(b" OUTPUT", 18661);
-    write_back(ledger, parties, 512, &mut out, b"");
+    let parties = ledger::records::no_parties();
+    let mut out = [0u8; LONGEST_FORM];
+    write_length(b"unsound TABLE", MOST_ENTRIES);
+    write_length(b" OUTPUT", LONGEST_FORM);
+    write_back(ledger, parties, MOST_ENTRIES, &mut out, b"");
     write(b"\n");
 }
 

@@ -6,11 +6,13 @@ use native.Mathlib.Omega.{arith}
 use lib.ListN.{length, getD, set, drop, length-append, length-take, length-drop}
 use Rattle.field_walk.specs.Walk.{FieldAt, FieldsWalk, valueOf}
 use Rattle.tagged.specs.Find.{fieldsOf, fieldsWith, valuePlace, restPlace, partOf}
-use Rattle.tagged.specs.FieldsWith.{with-this, with-past}
-use Rattle.tagged.specs.WalkFacts.{Fields, walk-fields}
-use Rattle.tagged.specs.WalkFinds.{Next, walk-next, walk-more, walk-end, walk-fieldsOf}
-use Rattle.stored.specs.Layout.{placed}
-use Rattle.stored.specs.LayoutLaws.{placed-one-more}
+use Rattle.tagged.specs.Theorems.FieldsWith.{with-this, with-past}
+use Rattle.tagged.specs.WalkRelations.{Fields}
+use Rattle.tagged.specs.Theorems.Walk.{walk-fields}
+use Rattle.tagged.specs.FoundFields.{Next}
+use Rattle.tagged.specs.Theorems.FoundFields.{walk-next, walk-more, walk-end, walk-fieldsOf}
+use Rattle.ledger.specs.Lists.{atStart}
+use Rattle.stored.specs.Theorems.Layout.{at-start-one-more}
 use Rattle.stored.specs.Form.{eachWith}
 
 -- of these fields, those with this tag have values of that length
@@ -26,12 +28,11 @@ pub record Collected {A : Type 0} (read : List ℕ → A) (tag size : ℕ) (s : 
   pub fields : Fields s at fs
   pub sized : SizedWith tag size fs
   pub all : eachWith read tag s (fieldsOf s) ≡ done ++ eachWith read tag s fs
-  pub table-is : table ≡ placed done none
+  pub table-is : table ≡ atStart done none
   pub count-is : count ≡ length done
 
 module _ {A : Type 0} {read : List ℕ → A} {tag size : ℕ} {s : List ℕ} {none : List A} where
   pub collect-starts : (rows : List (List ℕ)) → FieldsWalk rows s → SizedWith tag size (fieldsOf s) → Collected read tag size s none none 0 s
-  unfolding placed
   collect-starts rows (fs, walks) sized =
       record {
         at = 0;
@@ -47,13 +48,13 @@ module _ {A : Type 0} {read : List ℕ → A} {tag size : ℕ} {s : List ℕ} {n
 
   module _ {table : List A} {count : ℕ} {rest : List ℕ} (so-far : Collected read tag size s none table count rest) where
     pub collect-ends : length rest ≤ 0 →
-        (table ≡ placed (eachWith read tag s (fieldsOf s)) none) × (count ≡ length (eachWith read tag s (fieldsOf s)))
+        (table ≡ atStart (eachWith read tag s (fieldsOf s)) none) × (count ≡ length (eachWith read tag s (fieldsOf s)))
     unfolding fieldsWith
     collect-ends end =
         let over : length s ≤ so-far .at = omega (arith, ap length (so-far .rest-is), length-drop (so-far .at) s) in
         let all : eachWith read tag s (fieldsOf s) ≡ so-far .done =
         so-far .all ∙ ap (λ fs. so-far .done ++ eachWith read tag s fs) (walk-end (so-far .fields) over) ∙ append-nil (so-far .done) in
-        (so-far .table-is ∙ ap (λ done. placed done none) (sym all), so-far .count-is ∙ ap length (sym all))
+        (so-far .table-is ∙ ap (λ done. atStart done none) (sym all), so-far .count-is ∙ ap length (sym all))
 
     module _ (more : 0 < length rest) where
       -- the field that the rest starts with
@@ -134,6 +135,6 @@ module _ {A : Type 0} {read : List ℕ → A} {tag size : ℕ} {s : List ℕ} {n
               all = all-here ∙ sym (append-assoc (so-far .done) (element ∷ []) (eachWith read tag s others));
               table-is =
                   ap (λ value. set table count (read value)) its-value ∙ ap₂ (λ l k. set l k element) (so-far .table-is) (so-far .count-is)
-                  ∙ placed-one-more (so-far .done) none element room;
+                  ∙ at-start-one-more (so-far .done) none element room;
               count-is = omega (arith, so-far .count-is, length-append (so-far .done) (element ∷ []));
             }

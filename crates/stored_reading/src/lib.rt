@@ -1,5 +1,7 @@
 // Reading a stored ledger: the ledger and its entries, or the refusal.
 use field_values::judged::Judged;
+use ledger::limits::Parties;
+use ledger::limits::Schemes;
 use ledger::records::Ledger;
 use ledger::records::Party;
 use ledger::records::Scheme;
@@ -7,31 +9,35 @@ use numbers::big_endian::read_u16;
 use numbers::big_endian::read_u32;
 use numbers::big_endian::read_u64;
 use stored::reading::ReadBack;
+use tagged::file::FileAnswer;
 use tagged::file::Refusal;
-use tagged::file::Standing;
+use tagged::refusals::LEDGER_UNSOUND;
+use tagged::refusals::NO_ENTRY_LEFT;
+use tagged::refusals::VALUE_NOT_LISTED;
 ghost use mathlib.Core.Path.{_≡_};
 ghost use Prim.Native.Nat.{_≤_};
 ghost use lib.ListN.{length};
 ghost use Rattle.field_walk.specs.Walk.{FieldsWalk};
+ghost use Rattle.ledger.specs.Lists.{atStart};
+ghost use Rattle.ledger.specs.Limits.{mostSchemes, mostEntries};
 ghost use Rattle.ledger.specs.Records.{noParties};
-ghost use Rattle.stored.specs.Rows.{storedRows};
-ghost use Rattle.stored.specs.Layout.{placed};
-ghost use Rattle.stored.specs.Form.{schemeOf, partyOf, schemesIn, entriesIn, noSchemes, storedLedger};
+ghost use Rattle.stored.specs.StoredRows.{storedRows};
+ghost use Rattle.stored.specs.Form.{schemeOfBytes, partyOfBytes, storedSchemes, storedEntries, noSchemes, storedLedger};
 ghost use Rattle.stored.specs.Reading.{tableAnswer, fieldsAnswer, refusedRead, readBy, readBack};
 
 // The schemes of a file, in the first `count` places.
 struct SchemesRead {
-    schemes: [Scheme; 64],
+    schemes: Schemes,
     count: usize,
 }
 
 // The entries of a file, in the first `count` places.
 struct EntriesRead {
-    parties: [Party; 512],
+    parties: Parties,
     count: usize,
 }
 
-fn no_schemes() -> [Scheme; 64]
+fn no_schemes() -> Schemes
     ensures { λ r. ⌜ r ≡ noSchemes ⌝ }
 {
     let new = ledger::records::new_ledger();
@@ -40,7 +46,7 @@ fn no_schemes() -> [Scheme; 64]
 
 fn read_scheme(value: &[u8]) -> Scheme
     requires { ⌜ 24 ≤ length (now value) ⌝ }
-    ensures { λ r. ⌜ r ≡ schemeOf (now (value .entry)) ⌝ }
+    ensures { λ r. ⌜ r ≡ schemeOfBytes (now (value .entry)) ⌝ }
 {
     Scheme {
         cost: read_u32(value, 0),
@@ -54,7 +60,7 @@ fn read_scheme(value: &[u8]) -> Scheme
 
 fn read_party(value: &[u8]) -> Party
     requires { ⌜ 30 ≤ length (now value) ⌝ }
-    ensures { λ r. ⌜ r ≡ partyOf (now (value .entry)) ⌝ }
+    ensures { λ r. ⌜ r ≡ partyOfBytes (now (value .entry)) ⌝ }
 {
     Party {
         scheme: read_u16(value, 0),
@@ -68,7 +74,7 @@ fn read_party(value: &[u8]) -> Party
 
 fn read_schemes(fields: &[u8]) -> SchemesRead
     requires { ⌜ FieldsWalk storedRows (now fields) ⌝ }
-    ensures { λ r. ⌜ (r .schemes ≡ placed (schemesIn (now (fields .entry))) noSchemes) × (r .count ≡ length (schemesIn (now (fields .entry)))) × (r .count ≤ 64) ⌝ }
+    ensures { λ r. ⌜ (r .schemes ≡ atStart (storedSchemes (now (fields .entry))) noSchemes) × (r .count ≡ length (storedSchemes (now (fields .entry)))) × (r .count ≤ mostSchemes) ⌝ }
 {
     let mut schemes = no_schemes();
     let mut count: usize = 0;
@@ -90,7 +96,7 @@ fn read_schemes(fields: &[u8]) -> SchemesRead
 
 fn read_entries(fields: &[u8]) -> EntriesRead
     requires { ⌜ FieldsWalk storedRows (now fields) ⌝ }
-    ensures { λ r. ⌜ (r .parties ≡ placed (entriesIn (now (fields .entry))) noParties) × (r .count ≡ length (entriesIn (now (fields .entry)))) × (r .count ≤ 512) ⌝ }
+    ensures { λ r. ⌜ (r .parties ≡ atStart (storedEntries (now (fields .entry))) noParties) × (r .count ≡ length (storedEntries (now (fields .entry)))) × (r .count ≤ mostEntries) ⌝ }
 {
     let mut parties = ledger::records::no_parties();
     let mut count: usize = 0;
@@ -111,7 +117,7 @@ fn read_entries(fields: &[u8]) -> EntriesRead
 }
 
 fn read_ledger(fields: &[u8], entries: usize) -> Ledger
-    requires { ⌜ FieldsWalk storedRows (now fields) × (entries ≡ length (entriesIn (now fields))) × (entries ≤ 512) ⌝ }
+    requires { ⌜ FieldsWalk storedRows (now fields) × (entries ≡ length (storedEntries (now fields))) × (entries ≤ mostEntries) ⌝ }
     ensures { λ r. ⌜ r ≡ storedLedger (now (fields .entry)) ⌝ }
 {
     let head = tagged::find::find(fields, 2);
@@ -132,7 +138,7 @@ fn refused(ledger: Ledger, refusal: Refusal) -> ReadBack
     ensures { λ r. ⌜ r ≡ refusedRead refusal ledger ⌝ }
 {
     ReadBack {
-        answer: Standing::Refused(refusal),
+        answer: FileAnswer::Refused(refusal),
         ledger: ledger,
         parties: ledger::records::no_parties(),
     }
@@ -149,7 +155,7 @@ fn read_values(ledger: Ledger, room: usize, fields: &[u8]) -> ReadBack
         return refused(
             ledger,
             Refusal {
-                number: 9,
+                number: NO_ENTRY_LEFT,
                 file: 0,
                 place: 0,
             },
@@ -160,14 +166,14 @@ fn read_values(ledger: Ledger, room: usize, fields: &[u8]) -> ReadBack
         return refused(
             ledger,
             Refusal {
-                number: 13,
+                number: LEDGER_UNSOUND,
                 file: 0,
                 place: 0,
             },
         );
     }
     ReadBack {
-        answer: Standing::Stands,
+        answer: FileAnswer::Stands,
         ledger: read,
         parties: parties,
     }
@@ -183,7 +189,7 @@ fn read_fields(ledger: Ledger, room: usize, fields: &[u8]) -> ReadBack
         Judged::Fails(at) => refused(
             ledger,
             Refusal {
-                number: 3,
+                number: VALUE_NOT_LISTED,
                 file: 1,
                 place: at,
             },
@@ -198,7 +204,7 @@ pub fn read(ledger: Ledger, room: usize, file: &[u8]) -> ReadBack
 {
     let standing = stored::rows::stored_stands(1, file);
     match standing {
-        Standing::Stands => read_fields(ledger, room, tagged::file::fields_part(file)),
-        Standing::Refused(refusal) => refused(ledger, refusal),
+        FileAnswer::Stands => read_fields(ledger, room, tagged::file::fields_part(file)),
+        FileAnswer::Refused(refusal) => refused(ledger, refusal),
     }
 }

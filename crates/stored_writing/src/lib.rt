@@ -1,4 +1,6 @@
 // Writing a ledger and its entries as their stored form.
+use ledger::limits::Parties;
+use ledger::limits::Schemes;
 use ledger::records::Ledger;
 use ledger::records::Party;
 use ledger::records::Scheme;
@@ -6,8 +8,15 @@ use numbers::big_endian::write_u8;
 use numbers::big_endian::write_u16;
 use numbers::big_endian::write_u32;
 use numbers::big_endian::write_u64;
+use stored::lengths::CHECK_LENGTH;
+use stored::lengths::ENTRY_LENGTH;
+use stored::lengths::HEADER_LENGTH;
+use stored::lengths::SCHEME_LENGTH;
+use stored::lengths::SHORTEST_FORM;
 use stored::writing::Written;
 use tagged::file::Refusal;
+use tagged::refusals::LEDGER_UNSOUND;
+use tagged::refusals::OUTPUT_TOO_SHORT;
 ghost use mathlib.Core.Path.{_≡_};
 ghost use mathlib.Core.List.{[], _∷_, _++_, map};
 ghost use Prim.Native.Nat.{_+_, _*_, _≤_};
@@ -15,8 +24,9 @@ ghost use lib.ListN.{length, take};
 ghost use Rattle.numbers.specs.BigEndian.{bytesOf, written};
 ghost use Rattle.numbers.specs.Check.{check};
 ghost use Rattle.tagged.specs.File.{refusal};
-ghost use Rattle.tagged.specs.WalkFinds.{joined};
-ghost use Rattle.stored.specs.Form.{lettersPart, headPart, schemePart, partyPart, storedParts, formLength};
+ghost use Rattle.tagged.specs.Encoded.{encodedParts};
+ghost use Rattle.ledger.specs.Limits.{mostSchemes, mostEntries};
+ghost use Rattle.stored.specs.Form.{lettersPart, headPart, schemePart, partyPart, storedParts, headerLength, schemeLength, entryLength, checkLength, formLength};
 ghost use Rattle.stored.specs.Writing.{formAnswer, formOutput, writtenAnswer, writtenOutput};
 
 fn refused(number: u8) -> Written
@@ -32,7 +42,7 @@ fn refused(number: u8) -> Written
 fn form_length(count: u32, entries: u32) -> usize
     ensures { λ r. ⌜ r ≡ formLength count entries ⌝ }
 {
-    37 + 27 * count as usize + 33 * entries as usize
+    SHORTEST_FORM + SCHEME_LENGTH * count as usize + ENTRY_LENGTH * entries as usize
 }
 
 // A field's tag and length.
@@ -47,7 +57,7 @@ fn write_start(out: &mut [u8], at: usize, tag: u8, len: u16)
 // Field 01, which the form starts with.
 fn write_letters(out: &mut [u8])
     requires { ⌜ 7 ≤ length (now out) ⌝ }
-    ensures { λ _. ⌜ now (out .exit) ≡ written (now (out .entry)) 0 (joined (lettersPart ∷ [])) ⌝ }
+    ensures { λ _. ⌜ now (out .exit) ≡ written (now (out .entry)) 0 (encodedParts (lettersPart ∷ [])) ⌝ }
 {
     write_start(out, 0, 1, 4);
     write_u8(out, 3, b'P');
@@ -58,8 +68,8 @@ fn write_letters(out: &mut [u8])
 
 // Field 02, which stands after it.
 fn write_head(out: &mut [u8], month: u16, connections: u32, charged: u64, borne: u64)
-    requires { ⌜ 32 ≤ length (now out) ⌝ }
-    ensures { λ _. ⌜ now (out .exit) ≡ written (now (out .entry)) 7 (joined (headPart (month ∷ connections ∷ charged ∷ borne ∷ []) ∷ [])) ⌝ }
+    requires { ⌜ headerLength ≤ length (now out) ⌝ }
+    ensures { λ _. ⌜ now (out .exit) ≡ written (now (out .entry)) 7 (encodedParts (headPart (month ∷ connections ∷ charged ∷ borne ∷ []) ∷ [])) ⌝ }
 {
     write_start(out, 7, 2, 22);
     write_u16(out, 10, month);
@@ -69,8 +79,8 @@ fn write_head(out: &mut [u8], month: u16, connections: u32, charged: u64, borne:
 }
 
 fn write_scheme(out: &mut [u8], at: usize, scheme: Scheme)
-    requires { ⌜ at + 27 ≤ length (now out) ⌝ }
-    ensures { λ _. ⌜ now (out .exit) ≡ written (now (out .entry)) at (joined (schemePart scheme ∷ [])) ⌝ }
+    requires { ⌜ at + schemeLength ≤ length (now out) ⌝ }
+    ensures { λ _. ⌜ now (out .exit) ≡ written (now (out .entry)) at (encodedParts (schemePart scheme ∷ [])) ⌝ }
 {
     write_start(out, at, 3, 24);
     write_u32(out, at + 3, scheme.cost);
@@ -82,8 +92,8 @@ fn write_scheme(out: &mut [u8], at: usize, scheme: Scheme)
 }
 
 fn write_party(out: &mut [u8], at: usize, party: Party)
-    requires { ⌜ at + 33 ≤ length (now out) ⌝ }
-    ensures { λ _. ⌜ now (out .exit) ≡ written (now (out .entry)) at (joined (partyPart party ∷ [])) ⌝ }
+    requires { ⌜ at + entryLength ≤ length (now out) ⌝ }
+    ensures { λ _. ⌜ now (out .exit) ≡ written (now (out .entry)) at (encodedParts (partyPart party ∷ [])) ⌝ }
 {
     write_start(out, at, 4, 30);
     write_u16(out, at + 3, party.scheme);
@@ -94,32 +104,32 @@ fn write_party(out: &mut [u8], at: usize, party: Party)
     write_u64(out, at + 25, party.paid_out);
 }
 
-fn write_schemes(out: &mut [u8], at: usize, schemes: [Scheme; 64], count: usize)
-    requires { ⌜ (count ≤ 64) × (at + 27 * count ≤ length (now out)) ⌝ }
-    ensures { λ _. ⌜ now (out .exit) ≡ written (now (out .entry)) at (joined (map schemePart (take count schemes))) ⌝ }
+fn write_schemes(out: &mut [u8], at: usize, schemes: Schemes, count: usize)
+    requires { ⌜ (count ≤ mostSchemes) × (at + schemeLength * count ≤ length (now out)) ⌝ }
+    ensures { λ _. ⌜ now (out .exit) ≡ written (now (out .entry)) at (encodedParts (map schemePart (take count schemes))) ⌝ }
 {
     let mut i: usize = 0;
     while i < count {
-        write_scheme(out, at + 27 * i, schemes[i]);
+        write_scheme(out, at + SCHEME_LENGTH * i, schemes[i]);
         i += 1;
     }
 }
 
-fn write_entries(out: &mut [u8], at: usize, parties: [Party; 512], entries: usize)
-    requires { ⌜ (entries ≤ 512) × (at + 33 * entries ≤ length (now out)) ⌝ }
-    ensures { λ _. ⌜ now (out .exit) ≡ written (now (out .entry)) at (joined (map partyPart (take entries parties))) ⌝ }
+fn write_entries(out: &mut [u8], at: usize, parties: Parties, entries: usize)
+    requires { ⌜ (entries ≤ mostEntries) × (at + entryLength * entries ≤ length (now out)) ⌝ }
+    ensures { λ _. ⌜ now (out .exit) ≡ written (now (out .entry)) at (encodedParts (map partyPart (take entries parties))) ⌝ }
 {
     let mut i: usize = 0;
     while i < entries {
-        write_party(out, at + 33 * i, parties[i]);
+        write_party(out, at + ENTRY_LENGTH * i, parties[i]);
         i += 1;
     }
 }
 
 // All fields but the last, from the start of the output on.
-fn write_fields(out: &mut [u8], ledger: Ledger, parties: [Party; 512])
-    requires { ⌜ (ledger .count ≤ 64) × (ledger .entries ≤ 512) × (formLength (ledger .count) (ledger .entries) ≤ length (now out)) ⌝ }
-    ensures { λ _. ⌜ now (out .exit) ≡ written (now (out .entry)) 0 (joined (storedParts ledger parties)) ⌝ }
+fn write_fields(out: &mut [u8], ledger: Ledger, parties: Parties)
+    requires { ⌜ (ledger .count ≤ mostSchemes) × (ledger .entries ≤ mostEntries) × (formLength (ledger .count) (ledger .entries) ≤ length (now out)) ⌝ }
+    ensures { λ _. ⌜ now (out .exit) ≡ written (now (out .entry)) 0 (encodedParts (storedParts ledger parties)) ⌝ }
 {
     let schemes = ledger.schemes;
     let count = ledger.count as usize;
@@ -131,13 +141,18 @@ fn write_fields(out: &mut [u8], ledger: Ledger, parties: [Party; 512])
         ledger.charged,
         ledger.borne,
     );
-    write_schemes(out, 32, schemes, count);
-    write_entries(out, 32 + 27 * count, parties, ledger.entries as usize);
+    write_schemes(out, HEADER_LENGTH, schemes, count);
+    write_entries(
+        out,
+        HEADER_LENGTH + SCHEME_LENGTH * count,
+        parties,
+        ledger.entries as usize,
+    );
 }
 
 // The last field, at the end of the others: the check of all bytes before its value.
 fn write_check(out: &mut [u8], at: usize)
-    requires { ⌜ at + 5 ≤ length (now out) ⌝ }
+    requires { ⌜ at + checkLength ≤ length (now out) ⌝ }
     ensures { λ _. ⌜ now (out .exit) ≡ written (now (out .entry)) at (255 ∷ 0 ∷ 2 ∷ bytesOf 2 (check (take at (now (out .entry)) ++ 255 ∷ 0 ∷ 2 ∷ []))) ⌝ }
 {
     write_start(out, at, 255, 2);
@@ -147,27 +162,27 @@ fn write_check(out: &mut [u8], at: usize)
 }
 
 // The stored form at the start of a lent buffer, of a ledger that was tested already.
-pub fn write_form(ledger: Ledger, parties: [Party; 512], out: &mut [u8]) -> Written
-    requires { ⌜ (ledger .count ≤ 64) × (ledger .entries ≤ 512) ⌝ }
+pub fn write_form(ledger: Ledger, parties: Parties, out: &mut [u8]) -> Written
+    requires { ⌜ (ledger .count ≤ mostSchemes) × (ledger .entries ≤ mostEntries) ⌝ }
     ensures { λ r. ⌜ r ≡ formAnswer ledger parties (now (out .entry)) ⌝ }
     ensures { λ _. ⌜ now (out .exit) ≡ formOutput ledger parties (now (out .entry)) ⌝ }
 {
     let size = form_length(ledger.count, ledger.entries);
     if out.len() < size {
-        return refused(14);
+        return refused(OUTPUT_TOO_SHORT);
     }
     write_fields(out, ledger, parties);
-    write_check(out, size - 5);
+    write_check(out, size - CHECK_LENGTH);
     Written::Length(size)
 }
 
 // The same once the ledger is found to be sound; `room` is the table's length.
-pub fn write(ledger: Ledger, parties: [Party; 512], room: usize, out: &mut [u8]) -> Written
+pub fn write(ledger: Ledger, parties: Parties, room: usize, out: &mut [u8]) -> Written
     ensures { λ r. ⌜ r ≡ writtenAnswer ledger parties room (now (out .entry)) ⌝ }
     ensures { λ _. ⌜ now (out .exit) ≡ writtenOutput ledger parties room (now (out .entry)) ⌝ }
 {
     if !ledger::sound::sound(ledger, parties, room) {
-        return refused(13);
+        return refused(LEDGER_UNSOUND);
     }
     write_form(ledger, parties, out)
 }

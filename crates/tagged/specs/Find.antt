@@ -1,13 +1,12 @@
--- Document 01: "Finding a field hands back that very part of the file and no copy: its value."
+-- Document 01, 'Tagged fields': "Finding a field hands back that very part of the file and no copy: its value."
 -- The search needs no rows: it goes from field to field by their lengths, as far as whole fields stand.
 use Prim.Native.Nat.{ℕ, zero, suc, _+_, _-_, _≤_}
-use mathlib.Core.Path.{_≡_, refl}
-use mathlib.Core.List.{List, [], _∷_, map}
+use mathlib.Core.Path.{_≡_}
+use mathlib.Core.List.{List, [], _∷_}
 use mathlib.Core.Bool.{Bool, false, cond}
 use lib.ListN.{length, getD, take, drop}
 use lib.Dec.{ltb, leb, eqb}
 use denote.Ref.{RefT}
-use Rattle.numbers.specs.BigEndian.{number}
 use Rattle.field_walk.specs.Walk.{FieldAt, lengthAt}
 use Rattle.tagged.specs.declared.find.Place.{Place}
 use Rattle.tagged.specs.declared.find.Place.the-variants.{At, Nowhere}
@@ -71,19 +70,3 @@ fieldStart tag s = startOf (firstPlace tag s)
 unfoldable pub fieldsWith : ℕ → List FieldAt → List FieldAt
 fieldsWith tag [] = []
 fieldsWith tag (f ∷ fs) = cond (eqb (f .tag) tag) (f ∷ fieldsWith tag fs) (fieldsWith tag fs)
-
--- fields 1, 2, 2 and 3
-abbrev smallFields : List ℕ
-smallFields = 1 ∷ 0 ∷ 1 ∷ 7 ∷ 2 ∷ 0 ∷ 2 ∷ 8 ∷ 9 ∷ 2 ∷ 0 ∷ 4 ∷ 10 ∷ 11 ∷ 12 ∷ 13 ∷ 3 ∷ 0 ∷ 1 ∷ 14 ∷ []
-
--- the first field with a tag, where its value starts, and no bytes where there is none; the field at the front, and the rest after it
-pub record SmallFieldsFound : Type 0 where
-  pub values : map (λ tag. fieldValue tag smallFields) (1 ∷ 2 ∷ 3 ∷ 4 ∷ []) ≡ (7 ∷ []) ∷ (8 ∷ 9 ∷ []) ∷ (14 ∷ []) ∷ [] ∷ []
-  pub starts : map (λ tag. fieldStart tag smallFields) (1 ∷ 2 ∷ 3 ∷ 4 ∷ []) ≡ 3 ∷ 7 ∷ 19 ∷ 0 ∷ []
-  pub every-start : map (λ f. f .start) (fieldsOf smallFields) ≡ 3 ∷ 7 ∷ 12 ∷ 19 ∷ []
-  pub next-value : partOf (valuePlace smallFields) smallFields ≡ 7 ∷ []
-  pub next-rest : partOf (restPlace (2 ∷ 0 ∷ 2 ∷ 8 ∷ 9 ∷ 3 ∷ 0 ∷ 1 ∷ 14 ∷ [])) (2 ∷ 0 ∷ 2 ∷ 8 ∷ 9 ∷ 3 ∷ 0 ∷ 1 ∷ 14 ∷ []) ≡ 3 ∷ 0 ∷ 1 ∷ 14 ∷ []
-
-pub small-fields-found : SmallFieldsFound
-unfolding number fieldsFrom firstWith
-small-fields-found = record { values = refl; starts = refl; every-start = refl; next-value = refl; next-rest = refl }

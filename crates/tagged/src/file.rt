@@ -1,10 +1,12 @@
 // A whole file's first steps, in document 01's order: its last five bytes, its check, its fields.
+use crate::refusals::CHECK_DIFFERS;
+use crate::refusals::FILE_DOES_NOT_WALK;
 use field_walk::walk::Row;
 use field_walk::walk::Walked;
 ghost use mathlib.Core.Path.{_≡_};
 ghost use Prim.Native.Nat.{_≤_};
 ghost use lib.ListN.{length};
-ghost use Rattle.tagged.specs.File.{tailStands, checkStands, standing, fieldsPart, refusal};
+ghost use Rattle.tagged.specs.File.{tailStands, checkStands, fileAnswer, fieldsPart, refusal};
 
 // How a call is refused: document 01's number, the file and the place.
 pub struct Refusal {
@@ -13,15 +15,15 @@ pub struct Refusal {
     pub place: usize,
 }
 
-pub enum Standing {
+pub enum FileAnswer {
     Stands,
     Refused(Refusal),
 }
 
-fn refused(number: u8, file: u8, place: usize) -> Standing
-    ensures { λ r. ⌜ r ≡ Standing.Refused (refusal number file place) ⌝ }
+fn refused(number: u8, file: u8, place: usize) -> FileAnswer
+    ensures { λ r. ⌜ r ≡ FileAnswer.Refused (refusal number file place) ⌝ }
 {
-    Standing::Refused(Refusal {
+    FileAnswer::Refused(Refusal {
         number,
         file,
         place,
@@ -67,19 +69,19 @@ pub fn fields_part<'a>(file: &'a [u8]) -> &'a [u8]
 }
 
 // Whether a file of the kind with these rows stands; `number` is the file's in a refusal.
-pub fn file_stands(rows: &[Row], number: u8, file: &[u8]) -> Standing
-    ensures { λ r. ⌜ r ≡ standing (now (rows .entry)) number (now (file .entry)) ⌝ }
+pub fn file_stands(rows: &[Row], number: u8, file: &[u8]) -> FileAnswer
+    ensures { λ r. ⌜ r ≡ fileAnswer (now (rows .entry)) number (now (file .entry)) ⌝ }
 {
     if !tail_stands(file) {
-        return refused(1, number, 0);
+        return refused(FILE_DOES_NOT_WALK, number, 0);
     }
     let checked = file.len() - 2;
     if !check_stands(file) {
-        return refused(2, number, checked);
+        return refused(CHECK_DIFFERS, number, checked);
     }
     let ended = field_walk::walk::walk(rows, fields_part(file));
     match ended {
-        Walked::Walks => Standing::Stands,
-        Walked::Stops(at) => refused(1, number, at),
+        Walked::Walks => FileAnswer::Stands,
+        Walked::Stops(at) => refused(FILE_DOES_NOT_WALK, number, at),
     }
 }

@@ -4,3 +4,4 @@
 // ledger) hands its rows to the one walker; nothing here knows which kinds there are.
 pub mod file;
 pub mod find;
+pub mod refusals;

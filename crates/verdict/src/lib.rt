@@ -5,32 +5,39 @@ use calls::courses::Course;
 use calls::courses::Joining;
 use calls::courses::Verdict;
 use charge::Bill;
+use ledger::limits::MOST_CONNECTIONS;
+use ledger::limits::MOST_ENTRIES_COUNTED;
+use ledger::limits::MOST_SCHEMES_COUNTED;
+use ledger::limits::Parties;
 use ledger::lookup::SchemeAt;
 use ledger::records::Ledger;
-use ledger::records::Party;
 use ledger::records::Scheme;
+use tagged::refusals::MONTH_BEFORE_LAST;
+use tagged::refusals::NO_CONNECTION_LEFT;
+use tagged::refusals::NO_ENTRY_LEFT;
+use tagged::refusals::NO_SCHEME_LEFT;
+use tagged::refusals::SCHEME_NEVER_OPENED;
 ghost use mathlib.Core.Path.{_≡_};
 ghost use mathlib.Core.Bool.{true};
-ghost use mathlib.Core.List.{[], _∷_};
 ghost use Prim.Native.Nat.{ℕ, _*_, _≤_};
-ghost use lib.Dec.{leb};
 ghost use lib.ListN.{take};
-ghost use Rattle.ledger.specs.Books.{Books, schemeRow};
+ghost use Rattle.ledger.specs.Limits.{mostSchemes, mostEntries};
+ghost use Rattle.ledger.specs.Books.{Books, schemeParticulars};
 ghost use Rattle.ledger.specs.Columns.{schemeColumn, capacityColumn, sumOver};
-ghost use Rattle.ledger.specs.Sound.{allHold, sound};
+ghost use Rattle.ledger.specs.Sound.{sound};
 ghost use Rattle.calls.specs.Rules.{partiesOf, capacityOf, contribution};
-ghost use Rattle.calls.specs.Verdict.{joiningOf, joiningPart, opensScheme, entriesOfJoining, entriesNeeded, entriesLacking, courseVerdict, verdict};
+ghost use Rattle.calls.specs.Verdict.{joiningOf, joiningPart, opensScheme, entriesOfJoining, entriesNeeded, schemesLacking, entriesLacking, courseVerdict, verdict};
 ghost use Rattle.verdict.specs.Snapshot.{snapshotBooks, Counted};
 
-// Whether the table or the limit of 512 has no place for so many entries more.
+// Whether the table or the limit of entries has no place for so many entries more.
 fn entries_lacking(entries: u32, room: usize, needed: u32) -> bool
-    requires { ⌜ (entries ≤ 512) × (needed ≤ 2) ⌝ }
+    requires { ⌜ (entries ≤ mostEntries) × (needed ≤ 2) ⌝ }
     ensures { λ r. ⌜ r ≡ entriesLacking entries room needed ⌝ }
 {
     if needed == 0 {
         return false;
     }
-    if 512 < entries + needed {
+    if MOST_ENTRIES_COUNTED < entries + needed {
         return true;
     }
     room < (entries + needed) as usize
@@ -49,8 +56,8 @@ fn opens_scheme(bill: Bill) -> bool
 }
 
 // K: the capacity of all parties of a scheme.
-fn capacity_of(parties: [Party; 512], entries: u32, scheme: u16) -> u64
-    requires { ⌜ entries ≤ 512 ⌝ }
+fn capacity_of(parties: Parties, entries: u32, scheme: u16) -> u64
+    requires { ⌜ entries ≤ mostEntries ⌝ }
     ensures { λ r. ⌜ (r ≡ sumOver scheme (schemeColumn (take entries parties)) (capacityColumn (take entries parties))) × (r ≤ 4294967295 * entries) ⌝ }
 {
     let mut total: u64 = 0;
@@ -67,16 +74,16 @@ fn capacity_of(parties: [Party; 512], entries: u32, scheme: u16) -> u64
 
 // G for a joiner of capacity k.
 fn contribution(cost: u32, k: u32, total: u64) -> u32
-    requires { ⌜ (1 ≤ k) × (total ≤ 2199023255040) ⌝ }
+    requires { ⌜ (1 ≤ k) × (total ≤ 4294967295 * mostEntries) ⌝ }
     ensures { λ r. ⌜ r ≡ contribution cost k total ⌝ }
 {
     (cost as u64 * k as u64 / (total + k as u64)) as u32
 }
 
 // The joining of this scheme, by its own terms.
-fn joining_of(parties: [Party; 512], entries: u32, scheme: Scheme, bill: Bill) -> Joining
-    requires { ⌜ (entries ≤ 512) × (1 ≤ bill .applicant .capacity) ⌝ }
-    ensures { λ r. ⌜ ((books : Books) (number : ℕ) → capacityOf (partiesOf (bill .applicant .scheme) books) ≡ sumOver (bill .applicant .scheme) (schemeColumn (take entries parties)) (capacityColumn (take entries parties)) → r ≡ joiningOf books bill (schemeRow number scheme)) ⌝ }
+fn joining_of(parties: Parties, entries: u32, scheme: Scheme, bill: Bill) -> Joining
+    requires { ⌜ (entries ≤ mostEntries) × (1 ≤ bill .applicant .capacity) ⌝ }
+    ensures { λ r. ⌜ ((books : Books) (number : ℕ) → capacityOf (partiesOf (bill .applicant .scheme) books) ≡ sumOver (bill .applicant .scheme) (schemeColumn (take entries parties)) (capacityColumn (take entries parties)) → r ≡ joiningOf books bill (schemeParticulars number scheme)) ⌝ }
 {
     if scheme.opening as u32 + scheme.term as u32 <= bill.applicant.month as u32 {
         return Joining::Ended;
@@ -93,8 +100,8 @@ fn joining_of(parties: [Party; 512], entries: u32, scheme: Scheme, bill: Bill) -
     })
 }
 
-fn joining_part(ledger: Ledger, parties: [Party; 512], bill: Bill) -> Joining
-    requires { ⌜ (ledger .count ≤ 64) × (ledger .entries ≤ 512) × (1 ≤ bill .applicant .capacity) ⌝ }
+fn joining_part(ledger: Ledger, parties: Parties, bill: Bill) -> Joining
+    requires { ⌜ (ledger .count ≤ mostSchemes) × (ledger .entries ≤ mostEntries) × (1 ≤ bill .applicant .capacity) ⌝ }
     ensures { λ r. ⌜ ((room : ℕ) → r ≡ joiningPart (snapshotBooks ledger parties room) bill) ⌝ }
 {
     if bill.applicant.scheme == 0 {
@@ -132,40 +139,40 @@ fn entries_needed(course: Course) -> u32
 }
 
 fn schemes_lacking(count: u32, opens: bool) -> bool
-    ensures { λ r. ⌜ r ≡ allHold (opens ∷ leb 64 count ∷ []) ⌝ }
+    ensures { λ r. ⌜ r ≡ schemesLacking count opens ⌝ }
 {
     if !opens {
         return false;
     }
-    64 <= count
+    MOST_SCHEMES_COUNTED <= count
 }
 
 // 8 and 9, where there are so many schemes and entries.
 fn course_verdict(count: u32, entries: u32, room: usize, course: Course) -> Verdict
-    requires { ⌜ entries ≤ 512 ⌝ }
+    requires { ⌜ entries ≤ mostEntries ⌝ }
     ensures { λ r. ⌜ ((books : Books) → Counted books count entries room → r ≡ courseVerdict books course) ⌝ }
 {
     if schemes_lacking(count, course.opens) {
-        return Verdict::Refuses(8);
+        return Verdict::Refuses(NO_SCHEME_LEFT);
     }
     if entries_lacking(entries, room, entries_needed(course)) {
-        return Verdict::Refuses(9);
+        return Verdict::Refuses(NO_ENTRY_LEFT);
     }
     Verdict::Accepts(course)
 }
 
-pub fn verdict_of(ledger: Ledger, parties: [Party; 512], room: usize, bill: Bill) -> Verdict
+pub fn verdict_of(ledger: Ledger, parties: Parties, room: usize, bill: Bill) -> Verdict
     requires { ⌜ (sound ledger parties room ≡ true) × (1 ≤ bill .applicant .capacity) ⌝ }
     ensures { λ r. ⌜ r ≡ verdict (snapshotBooks ledger parties room) bill ⌝ }
 {
-    if 1_000_000 <= ledger.connections {
-        return Verdict::Refuses(10);
+    if MOST_CONNECTIONS <= ledger.connections {
+        return Verdict::Refuses(NO_CONNECTION_LEFT);
     }
     if bill.applicant.month < ledger.month {
-        return Verdict::Refuses(7);
+        return Verdict::Refuses(MONTH_BEFORE_LAST);
     }
     if ledger.count < bill.applicant.scheme as u32 {
-        return Verdict::Refuses(6);
+        return Verdict::Refuses(SCHEME_NEVER_OPENED);
     }
     let course = Course {
         joining: joining_part(ledger, parties, bill),

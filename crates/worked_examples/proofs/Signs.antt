@@ -10,11 +10,12 @@ use mir.Syntax.{w64}
 use mir.Val.{SFits, toZ, ofZ}
 use mir.ValLaws.{toZ-ofZ}
 use borrow.Author.Tests.{ltb-true, le-ltb}
+use Rattle.reconciliation.specs.FigureLimits.{signedBelow}
 
 pub record Size (z : ℤ) : Type 0 where
   pub size : ℕ
   pub is : z ≡ pos size
-  pub fits : size < 9223372036854775808
+  pub fits : size < signedBelow
 
 negative : (n : ℤ) → SFits w64 n → ltZ n (pos 0) ≡ true → Size (negsuc 0 -ℤ n)
 negative (pos k) f e = absurd (not-suc-le-zero (ltb-true k 0 e))

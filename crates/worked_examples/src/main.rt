@@ -1,4 +1,4 @@
-// Holds the figures that document 000 prints for its worked examples against the pricing call.
+// Holds the figures that document 000 (docs/WORKED_EXAMPLES.md) prints for its worked examples against the pricing call.
 //
 // A line for each figure: example, figure, printed, computed and tolerance in cents (percentages
 // whole), and whether the computed figure lies within the tolerance of the printed one. "half":
@@ -107,7 +107,7 @@ fn one_more(n: u64, counts: bool) -> u64 {
 }
 
 fn write_example(pricing: usize) {
-    if pricing < 23 {
+    if pricing < printed::PRICING_COUNT {
         write(word(&printed::FILES, pricing * printed::ROW));
     }
 }
@@ -116,7 +116,7 @@ fn write_example(pricing: usize) {
 fn read_column(pricing: usize, column: usize, space: &mut [u8]) -> usize
     ensures { λ r. ⌜ Counts r (now (space .exit)) ⌝ }
 {
-    if pricing < 23 {
+    if pricing < printed::PRICING_COUNT {
         if column < printed::ROW {
             let place = pricing * printed::ROW + column;
             return files::read_file(word(&printed::FILES, place), space);
@@ -169,7 +169,7 @@ fn held_figures(
 ) -> Tally {
     let mut sum = tally;
     let mut k: usize = 0;
-    while k < 131 {
+    while k < printed::FIGURE_COUNT {
         sum = held_figure(pricing, printed::figure(k), r, bounds, fitted, sum);
         k += 1;
     }
@@ -226,7 +226,7 @@ fn held_pricings() -> Tally {
         half: 0,
     };
     let mut pricing: usize = 0;
-    while pricing < 23 {
+    while pricing < printed::PRICING_COUNT {
         tally = held_pricing(pricing, tally);
         pricing += 1;
     }

@@ -2,7 +2,7 @@
 //!
 //! Money is in whole cents, capacity in hundredths of a kVA, a month is year × 12 + (month − 1). Books, requests and
 //! stored ledgers are bytes; a call on a stored ledger leaves it as it is and gives the new one. Each call is given a
-//! result or a refusal of document 01, which changes nothing; none panics, whatever the bytes. Each needs at most
+//! result or a numbered refusal, which changes nothing; none panics, whatever the bytes. Each needs at most
 //! 128 KiB of stack.
 
 #![deny(unsafe_code)]

@@ -1,4 +1,4 @@
-//! Refusals: "A refusal returns number, file and place, and changes nothing."
+//! Refusals. Document 01, 'How calls end': "A refusal returns number, file .. and place, and changes nothing."
 
 use crate::raw;
 use std::fmt;

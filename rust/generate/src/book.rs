@@ -24,7 +24,7 @@ pub struct Book {
 }
 
 impl Book {
-    /// Document 01's example for the slip, with threshold 5,000,000, fee and minimum 20,000 and term 84.
+    /// Document 01, 'The slip': its book, with threshold 5,000,000, fee and minimum 20,000 and term 84.
     pub fn slip() -> Book {
         Book {
             discount_rate: 0,
@@ -41,7 +41,7 @@ impl Book {
         }
     }
 
-    /// A book whose values are as listed, over all limits and edges.
+    /// A book whose values are within their limits, over all limits and edges.
     pub fn random(random: &mut Random) -> Book {
         let minimum = random.edge_u32(0, 1_000_000_000);
         Book {

@@ -156,7 +156,7 @@ impl Limits {
     }
 }
 
-/// Every value of a book that is as listed, past its limit.
+/// Every value of a book within its limits, put past its limit.
 pub fn book_past_limits(book: &Book) -> Vec<PastLimit> {
     let mut limits = Limits::of(book.encode());
     limits.letters();
@@ -190,7 +190,7 @@ pub fn book_past_limits(book: &Book) -> Vec<PastLimit> {
     limits.past
 }
 
-/// Every value of a request that is as listed, past its limit.
+/// Every value of a request within its limits, put past its limit.
 pub fn request_past_limits(request: &Request) -> Vec<PastLimit> {
     let mut limits = Limits::of(request.encode());
     limits.letters();

@@ -39,7 +39,7 @@ pub struct Tier {
 }
 
 impl Request {
-    /// Document 01's example for the slip, by person 4,711 in April 2026 with 150 kVA.
+    /// Document 01, 'The slip': its request, by person 4,711 in April 2026 with 150 kVA.
     pub fn slip() -> Request {
         Request {
             person: 4_711,
@@ -76,15 +76,15 @@ impl Request {
         Request { me, ..Request::of_nothing() }
     }
 
-    /// A request whose values are as listed, over all limits and edges; its zone is the book's and its bespoke rates
-    /// are allowed.
+    /// A request whose values are within their limits, over all limits and edges; its zone is the book's and its bespoke
+    /// rates are allowed.
     pub fn random(random: &mut Random, book: &Book) -> Request {
         let (zone, posted) = random.choose(&book.zones);
         let tiers = posted.map(|rate| tier(random, rate));
         Request { zone, tiers, ..Request::loose(random) }
     }
 
-    /// A request whose values are as listed; the zone may be missing in a book and bespoke rates not allowed.
+    /// A request whose values are within their limits; the zone may be missing in a book and bespoke rates not allowed.
     pub fn loose(random: &mut Random) -> Request {
         let [me, ce, de, tw, hr, ol] = [(); 6].map(|_| random.edge_u32(0, 1_000_000_000));
         Request {

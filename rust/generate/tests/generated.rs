@@ -1,4 +1,4 @@
-//! What is generated: the same by the same seed, as listed, and over all limits.
+//! What is generated: the same by the same seed, within the limits, and over all of them.
 
 use generate::calls::{after, calls, filling, Call};
 use generate::damage::*;

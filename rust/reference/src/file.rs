@@ -1,4 +1,4 @@
-//! Tagged fields: the check, the walk over a file's fields, and the values in them.
+//! Document 01, 'Tagged fields': the check, the walk over a file's fields, and the values in them.
 
 use crate::refusal::{self, Refusal};
 use std::ops::RangeInclusive;

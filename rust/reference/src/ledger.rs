@@ -1,4 +1,4 @@
-//! The pioneer ledger: soundness, accept, pay-out and hand-over.
+//! The pioneer ledger: soundness, accept, pay-out and hand-over. Document 01, 'Ledger calls'.
 
 use crate::pricing::{price, Bill, Reconciliation};
 use crate::rate_book::{HIGHEST_MINIMUM, LOWEST_TERM};
@@ -278,8 +278,8 @@ fn open(ledger: &mut Ledger, parties: &mut [Party], bill: &Bill, number: u16) {
     add_entry(ledger, parties, bill, number, bill.x);
 }
 
-/// "G is collected and the fee taken"; the earlier entries are credited and "the joiner becomes an entry with G put
-/// in".
+/// "G is collected and the fee taken"; the earlier entries are credited. "The joiner becomes an entry with G put
+/// in."
 fn join(ledger: &mut Ledger, parties: &mut [Party], bill: &Bill, collected: u32, capacity: u64) {
     let scheme = ledger.scheme_mut(bill.scheme);
     scheme.fees += u64::from(scheme.fee);

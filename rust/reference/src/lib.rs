@@ -1,4 +1,4 @@
-//! The connection charge and the pioneer ledger, written from document 01 alone.
+//! The connection charge and the pioneer ledger, written from document 01 alone, whose headings docs/RULES.md has.
 //!
 //! Money is in whole cents, capacity in hundredths of a kVA, factors in ten-thousandths, months are
 //! year × 12 + (month − 1). Files are big endian. A refused call changes nothing.

@@ -1,4 +1,4 @@
-//! The charge and its reconciliation.
+//! The charge and its reconciliation. Document 01, 'Charge and reconciliation'.
 
 use crate::rate_book::{RateBook, ONE, TIERS};
 use crate::refusal::{self, Refusal};

@@ -1,4 +1,4 @@
-//! The rate book.
+//! Document 01, 'Rate book'.
 
 use crate::file::{self, Factors, Row, Value};
 use crate::refusal::{Refusal, BOOK};
@@ -30,7 +30,7 @@ pub const ROWS: [Row; 8] = [
     Row::times(0x08, 21, 1, MOST_ZONES),
 ];
 
-/// A rate book whose values are as listed.
+/// A rate book whose values are within their limits.
 #[derive(Debug, Clone, PartialEq, Eq)]
 pub struct RateBook {
     /// "discount rate b, hundredths of a percent"
@@ -89,7 +89,7 @@ impl RateBook {
     }
 }
 
-/// "five pairs of 4-byte figures": "the opex sum is at most the revenue sum, which isn't 0".
+/// "five pairs of 4-byte figures": "The opex sum is at most the revenue sum, which isn't 0".
 fn sums(mut pairs: Value<'_>) -> Result<(u64, u64), Refusal> {
     let refused = pairs.refused();
     let (mut opex_sum, mut revenue_sum) = (0, 0);

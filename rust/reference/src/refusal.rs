@@ -1,4 +1,4 @@
-//! "A refusal returns number, file and place, and changes nothing."
+//! Document 01, 'How calls end': "A refusal returns number, file .. and place, and changes nothing."
 
 use std::fmt;
 
@@ -7,11 +7,12 @@ pub const BOOK: u8 = 1;
 /// The file's number for a request, and for refusals 4 and 5.
 pub const REQUEST: u8 = 2;
 
-/// "file doesn't walk as above"
+/// "file doesn't walk as above": as 'Tagged fields' has it
 pub const WALK: u8 = 1;
 /// "check differs"
 pub const CHECK: u8 = 2;
-/// "value or letters not as listed; in a stored ledger only the letters"
+/// "value or letters not as listed; in a stored ledger only the letters": listed under 'Rate book', 'Request' and
+/// 'Stored form'
 pub const VALUE: u8 = 3;
 /// "zone not in the book"
 pub const ZONE: u8 = 4;
@@ -36,11 +37,11 @@ pub const UNSOUND: u8 = 13;
 /// "output shorter than the stored form"
 pub const OUTPUT: u8 = 14;
 
-/// Document 01's words for the refusals, from number 1 on.
+/// The refusals in words that stand by themselves, from number 1 on.
 const WORDS: [&str; 14] = [
-    "file doesn't walk as above",
+    "file doesn't walk as tagged fields",
     "check differs",
-    "value or letters not as listed; in a stored ledger only the letters",
+    "value past its limits or letters that differ; in a stored ledger only the letters",
     "zone not in the book",
     "bespoke rate not allowed",
     "scheme never opened",
@@ -69,12 +70,9 @@ impl Refusal {
         Refusal { number, file: 0, place: 0 }
     }
 
-    /// Document 01's words for the number.
+    /// The number in words.
     pub fn words(&self) -> &'static str {
-        usize::from(self.number)
-            .checked_sub(1)
-            .and_then(|index| WORDS.get(index).copied())
-            .unwrap_or("no refusal of document 01")
+        usize::from(self.number).checked_sub(1).and_then(|index| WORDS.get(index).copied()).unwrap_or("no refusal")
     }
 }
 

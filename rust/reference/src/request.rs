@@ -1,4 +1,4 @@
-//! The request.
+//! Document 01, 'Request'.
 
 use crate::file::{self, Factors, Row, Value};
 use crate::rate_book::{HIGHEST_RATE, TIERS};
@@ -27,7 +27,7 @@ pub const ROWS: [Row; 12] = [
     Row::once(0x0C, 9),
 ];
 
-/// A request whose values are as listed.
+/// A request whose values are within their limits.
 #[derive(Debug, Clone, PartialEq, Eq)]
 pub struct Request {
     pub person: u32,
@@ -131,7 +131,8 @@ impl Amounts {
     }
 }
 
-/// "for each tier a mode, demand (4), bespoke rate (4, limited as in 08 in every mode)"
+/// "for each tier a mode .., demand (4), bespoke rate (4, limited as in 08 in every mode; unused in modes 0 and 1)",
+/// 08 of the rate book
 fn tiers(mut value: Value<'_>) -> Result<[Tier; TIERS], Refusal> {
     let mut tiers = [Tier { mode: Mode::Posted, demand: 0, bespoke_rate: 0 }; TIERS];
     for tier in &mut tiers {

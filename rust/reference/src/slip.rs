@@ -1,4 +1,4 @@
-//! The slip's text.
+//! The slip's text. Document 01, 'The slip'.
 
 use crate::pricing::{price, Bill};
 use crate::refusal::Refusal;

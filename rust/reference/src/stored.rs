@@ -1,4 +1,4 @@
-//! The stored form of a ledger.
+//! The stored form of a ledger. Document 01, 'Stored form'.
 
 use crate::file::{self, Row, Value, CHECK_HEAD, HEAD_SIZE, TAIL_SIZE};
 use crate::ledger::{Ledger, Party, Scheme, MOST_ENTRIES, MOST_SCHEMES};

@@ -1,4 +1,4 @@
-//! Document 01's marked figures over whole files. M1 stands beside the check, M2, M3, M5 and M9 beside the pricing.
+//! Document 01, 'Marked figures', over whole files. M1 stands beside the check, M2, M3, M5 and M9 beside the pricing.
 
 use generate::{Book, Request};
 use reference::{accept, price, Answer, Ledger, Party, Refusal};

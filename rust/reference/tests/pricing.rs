@@ -1,4 +1,5 @@
-//! Pricing held against document 01's formulas, worked out from the plain values in 128 bits.
+//! Pricing held against the formulas of document 01, 'Charge and reconciliation', worked out from the plain values in
+//! 128 bits.
 
 use generate::request::pair;
 use generate::{Book, Random, Request};

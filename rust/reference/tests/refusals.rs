@@ -35,9 +35,9 @@ fn opening() -> Request {
 #[test]
 fn words_for_every_number() {
     let words: Vec<_> = (1..=14).map(|number| call(number).words()).collect();
-    assert_eq!((words[0], words[13]), ("file doesn't walk as above", "output shorter than the stored form"));
+    assert_eq!((words[0], words[13]), ("file doesn't walk as tagged fields", "output shorter than the stored form"));
     assert!(words.iter().enumerate().all(|(index, word)| !words[..index].contains(word)));
-    assert_eq!([0, 15, 255].map(|number| call(number).words()), ["no refusal of document 01"; 3]);
+    assert_eq!([0, 15, 255].map(|number| call(number).words()), ["no refusal"; 3]);
 }
 
 #[test]

@@ -144,7 +144,7 @@ fn the_last_connection() {
     assert_eq!(refused, Refusal { number: 10, file: 0, place: 0 });
 }
 
-/// Document 01's sentence on soundness, condition by condition, in 128 bits.
+/// Document 01, 'Soundness', condition by condition, in 128 bits.
 fn sound_by_the_document(ledger: &Ledger, parties: &[Party]) -> bool {
     let (opened, entries) = (usize::from(ledger.opened), ledger.entries as usize);
     if opened > 64 || entries > 512 || ledger.connections > 1_000_000 || entries > parties.len() {

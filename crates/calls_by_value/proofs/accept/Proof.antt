@@ -4,7 +4,7 @@ use borrow.Author.Needs.{needs}
 use Rattle.charge.specs.Price.{priceOf}
 use Rattle.ledger.proofs.Places.{schemes-places}
 use Rattle.acceptance.specs.Plan.{planOf}
-use Rattle.calls_by_value.specs.ByValuePromises.{fits-array, accept-promised}
+use Rattle.calls_by_value.specs.Theorems.ByValuePromises.{fits-array, accept-promised}
 use Rattle.calls_by_value.proofs.accept.Statement.{statement}
 use Rattle.calls_by_value.proofs.accept.Tie as tie
 

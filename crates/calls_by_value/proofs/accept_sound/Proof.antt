@@ -5,7 +5,7 @@ use Rattle.charge.specs.Price.{priceOf}
 use Rattle.ledger.specs.Sound.{sound}
 use Rattle.ledger.proofs.Places.{schemes-places}
 use Rattle.acceptance.specs.Plan.{planOf}
-use Rattle.calls_by_value.specs.ByValuePromises.{sound-array, fits-array, accept-promised}
+use Rattle.calls_by_value.specs.Theorems.ByValuePromises.{sound-array, fits-array, accept-promised}
 use Rattle.calls_by_value.proofs.accept_sound.Statement.{statement}
 use Rattle.calls_by_value.proofs.accept_sound.Tie as tie
 

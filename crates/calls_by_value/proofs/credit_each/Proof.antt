@@ -4,10 +4,10 @@ use mathlib.Core.Path.{_≡_, sym, ap, _∙_}
 use native.Mathlib.Omega.{arith}
 use lib.ListN.{getD, set, take}
 use borrow.Author.Needs.{needs}
-use Rattle.ledger.specs.TableLaws.{credit-none}
+use Rattle.ledger.specs.Theorems.Table.{credit-none}
 use Rattle.ledger.specs.Table.{creditedMore, creditEach}
 use Rattle.ledger.specs.Records.{noParty}
-use Rattle.ledger.specs.Crediting.{credited-at, credited-next}
+use Rattle.ledger.specs.Theorems.Crediting.{credited-at, credited-next}
 use Rattle.calls_by_value.proofs.credit_each.Statement.{statement}
 use Rattle.calls_by_value.proofs.credit_each.Tie as tie
 

@@ -5,9 +5,9 @@ use lib.ListN.{take}
 use borrow.Author.Needs.{needs}
 use Rattle.calls.specs.Decision.{payOut}
 use Rattle.entry_calls.specs.declared.EntryChange.{EntryChange}
-use Rattle.entry_calls.specs.IsCall.{pay-out-is-call}
+use Rattle.entry_calls.specs.Theorems.ChangeIsCall.{pay-out-is-call}
 use Rattle.entry_calls.specs.EntryCalls.{payOutChange}
-use Rattle.calls_by_value.specs.ByValuePromises.{place-in-array, change-promised}
+use Rattle.calls_by_value.specs.Theorems.ByValuePromises.{place-in-array, change-promised}
 use Rattle.calls_by_value.proofs.pay_out.Statement.{statement}
 use Rattle.calls_by_value.proofs.pay_out.Tie as tie
 

@@ -1,6 +1,5 @@
 -- Each return is one case of the definition, in its order; in 64 bits no product of a 32-bit rate overflows.
 use borrow.Author.Tests.{eq-eqb, ne-eqb, lt-ltb, le-ltb}
-use borrow.Author.Tests.{eq-eqb, ne-eqb}
 use borrow.Author.Needs.{needs}
 use Rattle.capacity.proofs.bespoke_allowed.Statement.{statement}
 use Rattle.capacity.proofs.bespoke_allowed.Tie as tie

@@ -2,7 +2,7 @@
 use lib.Dec.{eqb}
 use borrow.Author.Needs.{needs}
 use Rattle.capacity.specs.Capacity.{modeAt}
-use Rattle.capacity.specs.CapacityLaws.{cond-within}
+use Rattle.capacity.specs.Theorems.Capacity.{cond-within}
 use Rattle.capacity.proofs.cost_at.Statement.{statement}
 use Rattle.capacity.proofs.cost_at.Tie as tie
 

@@ -3,7 +3,7 @@ use mathlib.Core.Path.{_≡_}
 use mathlib.Core.Bool.{true}
 use borrow.Author.Needs.{needs}
 use Rattle.capacity.specs.Capacity.{tierAllowed}
-use Rattle.capacity.proofs.Tests.{passes, fails}
+use Rattle.tagged.specs.Theorems.TestedAnswers.{passes, fails}
 use Rattle.capacity.proofs.first_not_allowed.Statement.{statement}
 use Rattle.capacity.proofs.first_not_allowed.Tie as tie
 

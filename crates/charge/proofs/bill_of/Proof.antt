@@ -10,7 +10,6 @@ use Rattle.reconciliation.specs.declared.Costs.{Costs}
 use Rattle.reconciliation.specs.declared.Reconciliation.{Reconciliation}
 use Rattle.charge.specs.Price.{billOf}
 use Rattle.charge.specs.declared.Bill.{Bill}
-use native.Mathlib.Omega.{arith}
 use borrow.Author.Needs.{needs}
 use Rattle.charge.proofs.bill_of.Statement.{statement}
 use Rattle.charge.proofs.bill_of.Tie as tie

@@ -1,5 +1,4 @@
 -- Opex factor and life are the definition's by their contracts; with them the contract of `incremental_revenue` is this one.
-use native.Mathlib.Omega.{arith}
 use borrow.Author.Needs.{needs}
 use Rattle.charge.proofs.incremental_revenue_of.Statement.{statement}
 use Rattle.charge.proofs.incremental_revenue_of.Tie as tie

@@ -2,12 +2,12 @@
 use mathlib.Core.Path.{_≡_, sym, ap, subst, _∙_}
 use denote.Ref.{now}
 use Rattle.numbers.specs.BigEndian.{Bytes}
-use Rattle.tagged.specs.declared.file.Standing.the-variants.{Stands}
+use Rattle.tagged.specs.declared.file.FileAnswer.the-variants.{Stands}
 use Rattle.request.specs.Request.{requestOf}
-use Rattle.request.specs.RequestWithin.{RequestWithin, request-within-limits}
+use Rattle.request.specs.RequestLimits.{RequestWithin}
+use Rattle.request.specs.Theorems.RequestLimits.{request-within-limits}
 use Rattle.charge.specs.Price.{valuesPriced}
-use Rattle.charge.specs.PriceLaws.{request-not-accepted, request-priced}
-use native.Mathlib.Omega.{arith}
+use Rattle.charge.specs.Theorems.Price.{request-not-accepted, request-priced}
 use borrow.Author.Needs.{needs}
 use Rattle.charge.proofs.price_request.Statement.{statement}
 use Rattle.charge.proofs.price_request.Tie as tie

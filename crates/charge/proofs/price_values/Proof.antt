@@ -1,10 +1,10 @@
 -- Each return is one case of the definition, in its order: 4, 5, the bill; a zone that is found is one of the book's, so its rates are within limits.
-use Prim.Native.Nat.{ℕ, _<_, _≤_}
-use mathlib.Core.Path.{_≡_, sym, ap, subst, _∙_}
+use Prim.Native.Nat.{_<_}
+use mathlib.Core.Path.{sym, ap, subst, _∙_}
 use mathlib.Core.List.{[]}
 use lib.ListN.{getD}
 use Rattle.charge.specs.Price.{ZoneBelow, tiersOf, billOf}
-use Rattle.charge.specs.PriceLaws.{zone-not-in-book, bespoke-not-allowed, bill-in-zone}
+use Rattle.charge.specs.Theorems.Price.{zone-not-in-book, bespoke-not-allowed, bill-in-zone}
 use Rattle.charge.specs.declared.Pricing.the-variants.{Priced}
 use native.Mathlib.Omega.{arith}
 use borrow.Author.Needs.{needs}

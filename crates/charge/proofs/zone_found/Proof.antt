@@ -1,6 +1,6 @@
 -- The loop keeps that the zones from its place on decide; the place returned is below the number of zones by the loop's test.
 use Prim.Native.Nat.{ℕ, suc, _+_, _-_, _≤_, _<_}
-use mathlib.Core.Path.{_≡_, refl, ap, _∙_}
+use mathlib.Core.Path.{_≡_}
 use mathlib.Core.List.{List}
 use mathlib.Core.Bool.{cond}
 use native.Mathlib.Nat.{sub-zero}

@@ -36,8 +36,9 @@ use denote.Triple.Spec.{Meets, tripleOf}
 use denote.Triple.Table.{entered, cited}
 use denote.Triple.Walked.{says, Stays, stay-none, walkOf, goes-none, Walks, ends-at, walked, walk-meets}
 use denote.Exit.{yes}
+use Rattle.ledger.specs.Limits.{mostEntries}
 use Rattle.ledger.specs.declared.records.Party.{Party}
-use Rattle.party_table.proofs.Rows.{PartyRow, party-values, party-tells, party-lawful, party-makes, ArrayRow, array-type, array-typed, to-row, from-row}
+use Rattle.party_table.proofs.MachineValues.{PartyRow, party-values, party-tells, party-lawful, party-makes, ArrayRow, array-type, array-typed, to-row, from-row}
 use mathlib.Core.List.{_++_}
 use lib.ListN.{drop as drop-list}
 use Rattle.lent_table.proofs.Fronts.{LentFront, lends-front, front-back}
@@ -72,7 +73,7 @@ abbrev stayed : Stays (hand-over′.ended .signature .params) (hand-over′.ende
 stayed = (
   stay-none (λ _. LedgerRow) yes,
   (
-    stay-none (λ _. ArrayRow PartyRow 512) yes,
+    stay-none (λ _. ArrayRow PartyRow mostEntries) yes,
     (
       stay-none (λ _.
           usize) yes,
@@ -83,8 +84,8 @@ stayed = (
 
 module _ {M : Type 1} (𝓤 : URA M) (H : Heap 𝓤) (A : Atoms 𝓤) (W : Given 𝓤 H A) (mem : Memory → SProp 𝓤) (run : Routine → Fun 𝓤)
     (ledger : Ledger) (parties : List Party) (room : ℕ) (entry : ℕ) (person : ℕ)
-    (ledger-fits : Is LedgerRow ledger (ledger-values ledger)) (parties-fits : Is (ArrayRow PartyRow 512) parties (array-vals party-values parties))
-    (room-fits : room < 2 ^ 64) (entry-fits : entry < 2 ^ 32) (person-fits : person < 2 ^ 32) where
+    (ledger-fits : Is LedgerRow ledger (ledger-values ledger)) (parties-fits : Is (ArrayRow PartyRow mostEntries) parties
+    (array-vals party-values parties)) (room-fits : room < 2 ^ 64) (entry-fits : entry < 2 ^ 32) (person-fits : person < 2 ^ 32) where
   abbrev arguments : Ledger × (List Party × (ℕ × (ℕ × (ℕ × Unit {0}))))
   arguments = (ledger, (parties, (room, (entry, (person, tt)))))
 
@@ -98,9 +99,9 @@ module _ {M : Type 1} (𝓤 : URA M) (H : Heap 𝓤) (A : Atoms 𝓤) (W : Given
   )
 
   abbrev records : ℕ
-  records = min room 512
+  records = min room mostEntries
 
-  all : length parties ≡ 512
+  all : length parties ≡ mostEntries
   all = parties-length parties _ parties-fits
 
   records-room : Room PartyRow records
@@ -128,8 +129,8 @@ module _ {M : Type 1} (𝓤 : URA M) (H : Heap 𝓤) (A : Atoms 𝓤) (W : Given
         nothing ! $ owned ! u32 (Is u32) (uint-makes 𝓤 H A W w32) person _ (refl, person-fits) $
         fjoin ! $ owned ! u32 (Is u32) (uint-makes 𝓤 H A W w32) entry _ (refl, entry-fits) $
         fjoin ! $ owned ! usize (Is usize) (uint-makes 𝓤 H A W w64) room _ (refl, room-fits) $
-        fjoin ! $ owned ! (ArrayRow PartyRow 512) (Is (ArrayRow PartyRow 512)) (array-makes 𝓤 H A W PartyRow (party-makes 𝓤 H A W) 512) parties _
-        parties-fits $
+        fjoin ! $ owned ! (ArrayRow PartyRow mostEntries) (Is (ArrayRow PartyRow mostEntries))
+        (array-makes 𝓤 H A W PartyRow (party-makes 𝓤 H A W) mostEntries) parties _ parties-fits $
         fjoin ! $ owned ! LedgerRow (Is LedgerRow) (ledger-makes 𝓤 H A) ledger _ ledger-fits $
         fjoin ! $ nothing ! $ frame ! $ frame ! $ done !
 
@@ -142,13 +143,13 @@ module _ {M : Type 1} (𝓤 : URA M) (H : Heap 𝓤) (A : Atoms 𝓤) (W : Given
         (WpFn 𝓤 H (𝓣 .C) (𝓣 .Λ) code.function (ledger-value ledger ∷ only (array-vals party-values parties) ∷ vint w64 room ∷ vint w32 entry ∷ vint
         w32 person ∷ []) Post)
     walk =
-        qed W ((‵ ftrue) ∷ ‵ (owns (LedgerRow ∷ ArrayRow PartyRow 512 ∷ usize ∷ u32 ∷ u32 ∷ []) arguments values) ∷ []) ∵
+        qed W ((‵ ftrue) ∷ ‵ (owns (LedgerRow ∷ ArrayRow PartyRow mostEntries ∷ usize ∷ u32 ∷ u32 ∷ []) arguments values) ∷ []) ∵
         enter ! (𝓣 .C) (𝓣 .Λ) code.function (ledger-value ledger ∷ only (array-vals party-values parties) ∷ vint w64 room ∷ vint w32 entry ∷ vint w32
         person ∷ []) _ $
         alloc1 ! (λ l₀. alloc1 ! (λ l₁. alloc1 ! (λ l₂. alloc1 ! (λ l₃. alloc1 ! (λ l₄.
         alloc1 ! (λ l₅. alloc1 ! (λ l₆. alloc1 ! (λ l₇. alloc1 ! (λ l₈. alloc1 ! (λ l₉. alloc1 ! (λ l₁₀. alloc1 ! (λ l₁₁. alloc0 ! $ params1 ! $
         pass1 ! (init ! 20 refl (ledger-typed 𝓤 H A W ledger _ ledger-fits)) $
-        pass1 ! (init ! 18 refl (array-typed PartyRow 512 𝓤 H A W (party-lawful 𝓤 H A W) parties _ parties-fits)) $
+        pass1 ! (init ! 18 refl (array-typed PartyRow mostEntries 𝓤 H A W (party-lawful 𝓤 H A W) parties _ parties-fits)) $
         pass1 ! (init ! 16 refl (tt, record { fits = room-fits })) $
         pass1 ! (init ! 14 refl (tt, record { fits = entry-fits })) $
         pass1 ! (init ! 12 refl (tt, record { fits = person-fits })) $
@@ -156,10 +157,11 @@ module _ {M : Type 1} (𝓤 : URA M) (H : Heap 𝓤) (A : Atoms 𝓤) (W : Given
         move ! (25 ∷ []) $ fsplit ! $ move ! (1 ∷ []) $ fsplit ! $ move ! (1 ∷ []) $ fsplit ! $ move ! (1 ∷ []) $ fsplit ! $ move ! (1 ∷ []) $
         fsplit ! $ move ! (5 ∷ []) $ drop ! $ move ! (4 ∷ []) $ drop ! $ move ! (3 ∷ []) $ drop ! $ move ! (2 ∷ []) $ drop ! $ drop ! $
         assigns ! (of-opd ! (load ! (from ! (stop !)) (look ! 19 refl))) (from ! (stop !))
-        (init ! 11 refl (array-typed PartyRow 512 𝓤 H A W (party-lawful 𝓤 H A W) parties _ parties-fits)) $
-        owned ! (ArrayRow PartyRow 512) (Is (ArrayRow PartyRow 512)) (array-makes 𝓤 H A W PartyRow (party-makes 𝓤 H A W) 512) parties _ parties-fits $
-        move ! (12 ∷ 0 ∷ []) $ use2 W (‵ (fsep (feq ℕ (length parties) 512) (row PartyRow fullShare parties l₆ 0)))
-        (to-row PartyRow 512 𝓤 H A W tt parties _ l₆) $
+        (init ! 11 refl (array-typed PartyRow mostEntries 𝓤 H A W (party-lawful 𝓤 H A W) parties _ parties-fits)) $
+        owned ! (ArrayRow PartyRow mostEntries) (Is (ArrayRow PartyRow mostEntries)) (array-makes 𝓤 H A W PartyRow (party-makes 𝓤 H A W) mostEntries)
+        parties _ parties-fits $
+        move ! (12 ∷ 0 ∷ []) $ use2 W (‵ (fsep (feq ℕ (length parties) mostEntries) (row PartyRow fullShare parties l₆ 0)))
+        (to-row PartyRow mostEntries 𝓤 H A W tt parties _ l₆) $
         fsplit ! $ drop ! $
         -- `calls_by_value::records_of`
         nothing ! $ owned ! usize (Is usize) (uint-makes 𝓤 H A W w64) room _ (refl, room-fits) $
@@ -240,18 +242,19 @@ module _ {M : Type 1} (𝓤 : URA M) (H : Heap 𝓤) (A : Atoms 𝓤) (W : Given
         move ! (0 ∷ 5 ∷ 2 ∷ []) $ use3 W (later (‵ (row PartyRow fullShare ((last .1 .0) ++ drop-list records parties) l₆ 0)))
         (front-back PartyRow (ν′ ∷ []) l₆ parties records 𝓤 H A W δ′ (last .1 .0) last-length) $
         await ! tt $
-        feqI ! ℕ (length (last .1 .0 ++ drop-list records parties)) 512 (left-length room parties all (last .1 .0) last-length) $
-        fjoin ! $ use1 W (‵ (fat fullShare (array-type PartyRow 512) l₆ 0 (only (array-vals party-values (last .1 .0 ++ drop-list records parties))))
-        ⊛ ‵ ((ArrayRow PartyRow 512) .own (last .1 .0 ++ drop-list records parties)
-        (array-vals party-values (last .1 .0 ++ drop-list records parties)))) (from-row PartyRow 512 𝓤 H A W party-values party-tells
-        (last .1 .0 ++ drop-list records parties) l₆) $
-        split ! $ move ! (1 ∷ []) $ facts ! (ArrayRow PartyRow 512) (Is (ArrayRow PartyRow 512)) (shows 𝓤 H A (ArrayRow PartyRow 512))
-        (last .1 .0 ++ drop-list records parties) (array-vals party-values (last .1 .0 ++ drop-list records parties)) (λ left-known.
+        feqI ! ℕ (length (last .1 .0 ++ drop-list records parties)) mostEntries (left-length room parties all (last .1 .0) last-length) $
+        fjoin ! $ use1 W (‵ (fat fullShare (array-type PartyRow mostEntries) l₆ 0 (only
+        (array-vals party-values (last .1 .0 ++ drop-list records parties)))) ⊛ ‵ ((ArrayRow PartyRow mostEntries) .own
+        (last .1 .0 ++ drop-list records parties) (array-vals party-values (last .1 .0 ++ drop-list records parties))))
+        (from-row PartyRow mostEntries 𝓤 H A W party-values party-tells (last .1 .0 ++ drop-list records parties) l₆) $
+        split ! $ move ! (1 ∷ []) $ facts ! (ArrayRow PartyRow mostEntries) (Is (ArrayRow PartyRow mostEntries))
+        (shows 𝓤 H A (ArrayRow PartyRow mostEntries)) (last .1 .0 ++ drop-list records parties)
+        (array-vals party-values (last .1 .0 ++ drop-list records parties)) (λ left-known.
         assigns ! (of-opd ! (load ! (from ! (stop !)) (look ! 0 refl))) (from ! (stop !))
-        (init ! 6 refl (array-typed PartyRow 512 𝓤 H A W (party-lawful 𝓤 H A W) (last .1 .0 ++ drop-list records parties) _ left-known)) $
+        (init ! 6 refl (array-typed PartyRow mostEntries 𝓤 H A W (party-lawful 𝓤 H A W) (last .1 .0 ++ drop-list records parties) _ left-known)) $
         -- `changed_with`
-        nothing ! $ owned ! (ArrayRow PartyRow 512) (Is (ArrayRow PartyRow 512)) (array-makes 𝓤 H A W PartyRow (party-makes 𝓤 H A W) 512)
-        (last .1 .0 ++ drop-list records parties) _ left-known $
+        nothing ! $ owned ! (ArrayRow PartyRow mostEntries) (Is (ArrayRow PartyRow mostEntries))
+        (array-makes 𝓤 H A W PartyRow (party-makes 𝓤 H A W) mostEntries) (last .1 .0 ++ drop-list records parties) _ left-known $
         fjoin ! $ owned ! AnswerRow (Is AnswerRow) (answer-makes 𝓤 H A) got _ got-known $
         fjoin ! $ nothing ! $ join ! $ nothing ! $ move ! (1 ∷ 0 ∷ []) $ join ! $ use1 W
         (raw ((tripleOf 𝓤 H A changed-with′.signature (changed-with′.spec 𝓤 H A mem run)) .pre (
@@ -313,7 +316,7 @@ module _ {M : Type 1} (𝓤 : URA M) (H : Heap 𝓤) (A : Atoms 𝓤) (W : Given
   walks =
       walked 𝓤 H A hand-over′.ended stayed (hand-over′.clauses 𝓤 H A mem run) (WpFn 𝓤 H (𝓣 .C) (𝓣 .Λ) code.function)
       (λ κs. (ledger-values, (array-vals party-values, (uint-vals w64, (uint-vals w32, (uint-vals w32, tt))))))
-      (λ κs. (ledger-tells, (array-tells PartyRow party-values party-tells 512, (uint-tells w64, (uint-tells w32, (uint-tells w32, tt))))))
+      (λ κs. (ledger-tells, (array-tells PartyRow party-values party-tells mostEntries, (uint-tells w64, (uint-tells w32, (uint-tells w32, tt))))))
       (λ κs qs bounds a g are. via 𝓤 _ (fst∗ 𝓤 _ (emp 𝓤)) (walk 𝓤 H A W mem run
       (a .0) (a .1 .0) (a .1 .1 .0) (a .1 .1 .1 .0) (a .1 .1 .1 .1 .0) (are .0) (are .1 .0) (are .1 .1 .0 .1) (are .1 .1 .1 .0 .1)
       (are .1 .1 .1 .1 .0 .1) 𝓣 (fmOf 𝓤 H (W .laws) 𝓣) known-calls-by-value-records-of known-pioneer-hand-over known-changed-with))
@@ -323,7 +326,7 @@ module _ {M : Type 1} (𝓤 : URA M) (H : Heap 𝓤) (A : Atoms 𝓤) (W : Given
       walk-meets 𝓤 H A hand-over′.ended stayed W (
         goes-none 𝓤 H A W 0 (λ _. LedgerRow) yes (λ κs x f. refl),
         (
-          goes-none 𝓤 H A W 0 (λ _. ArrayRow PartyRow 512) yes (λ κs x f.
+          goes-none 𝓤 H A W 0 (λ _. ArrayRow PartyRow mostEntries) yes (λ κs x f.
               refl),
           (
             goes-none 𝓤 H A W 0 (λ _. usize) yes (λ κs x f. refl),

@@ -38,8 +38,9 @@ use denote.Triple.Spec.{Meets, tripleOf}
 use denote.Triple.Table.{entered, cited}
 use denote.Triple.Walked.{says, Stays, stay-none-slice, stay-none, walkOf, goes-none-slice, goes-none, Walks, ends-at, walked, walk-meets}
 use denote.Exit.{yes}
+use Rattle.ledger.specs.Limits.{mostEntries}
 use Rattle.ledger.specs.declared.records.Party.{Party}
-use Rattle.party_table.proofs.Rows.{PartyRow, party-values, party-tells, party-lawful, party-makes, ArrayRow, array-type, array-typed, to-row, from-row}
+use Rattle.party_table.proofs.MachineValues.{PartyRow, party-values, party-tells, party-lawful, party-makes, ArrayRow, array-type, array-typed, to-row, from-row}
 use mathlib.Core.List.{_++_}
 use lib.ListN.{drop as drop-list}
 use Rattle.lent_table.proofs.Fronts.{LentFront, lends-front, front-back}
@@ -73,7 +74,7 @@ abbrev stayed : Stays (read′.ended .signature .params) (read′.ended .kept)
 stayed = (
   stay-none (λ _. LedgerRow) yes,
   (
-    stay-none (λ _. ArrayRow PartyRow 512) yes,
+    stay-none (λ _. ArrayRow PartyRow mostEntries) yes,
     (
       stay-none (λ _.
           usize) yes,
@@ -84,8 +85,8 @@ stayed = (
 
 module _ {M : Type 1} (𝓤 : URA M) (H : Heap 𝓤) (A : Atoms 𝓤) (W : Given 𝓤 H A) (mem : Memory → SProp 𝓤) (run : Routine → Fun 𝓤)
     (κ₀ : Lft) (q₀ : Share) (ledger : Ledger) (parties : List Party) (room : ℕ) (file-block file-offset : ℕ) (file-name : GName) (file : List ℕ)
-    (ledger-fits : Is LedgerRow ledger (ledger-values ledger)) (parties-fits : Is (ArrayRow PartyRow 512) parties (array-vals party-values parties))
-    (room-fits : room < 2 ^ 64) (file-fits : Room u8 (length file)) where
+    (ledger-fits : Is LedgerRow ledger (ledger-values ledger)) (parties-fits : Is (ArrayRow PartyRow mostEntries) parties
+    (array-vals party-values parties)) (room-fits : room < 2 ^ 64) (file-fits : Room u8 (length file)) where
   abbrev file-at : GName → List ℕ → RefT (List ℕ)
   file-at name parties = record { ptr = (file-block, file-offset); name = name; now = parties }
 
@@ -99,9 +100,9 @@ module _ {M : Type 1} (𝓤 : URA M) (H : Heap 𝓤) (A : Atoms 𝓤) (W : Given
   values = (ledger-value ledger ∷ [], (only (array-vals party-values parties) ∷ [], (vint w64 room ∷ [], (file-value ∷ [], tt))))
 
   abbrev records : ℕ
-  records = min room 512
+  records = min room mostEntries
 
-  all : length parties ≡ 512
+  all : length parties ≡ mostEntries
   all = parties-length parties _ parties-fits
 
   records-room : Room PartyRow records
@@ -129,8 +130,8 @@ module _ {M : Type 1} (𝓤 : URA M) (H : Heap 𝓤) (A : Atoms 𝓤) (W : Given
         (tt, (tt, (tt, (tt, tt)))) (tt, (tt, (tt, (tt, tt))))) $
         says ! (left-read room parties all changed same ledger file got kept) $
         nothing ! $ move ! (2 ∷ 0 ∷ []) $ fjoin ! $ owned ! usize (Is usize) (uint-makes 𝓤 H A W w64) room _ (refl, room-fits) $
-        fjoin ! $ owned ! (ArrayRow PartyRow 512) (Is (ArrayRow PartyRow 512)) (array-makes 𝓤 H A W PartyRow (party-makes 𝓤 H A W) 512) parties _
-        parties-fits $
+        fjoin ! $ owned ! (ArrayRow PartyRow mostEntries) (Is (ArrayRow PartyRow mostEntries))
+        (array-makes 𝓤 H A W PartyRow (party-makes 𝓤 H A W) mostEntries) parties _ parties-fits $
         fjoin ! $ owned ! LedgerRow (Is LedgerRow) (ledger-makes 𝓤 H A) ledger _ ledger-fits $
         fjoin ! $ nothing ! $ move ! (2 ∷ 0 ∷ []) $ join ! $ frame ! $ frame ! $ done !
 
@@ -141,23 +142,24 @@ module _ {M : Type 1} (𝓤 : URA M) (H : Heap 𝓤) (A : Atoms 𝓤) (W : Given
     walk : ent 𝓤 (onEntry 𝓤 H A read′.signature (κ₀, tt) (q₀, tt) arguments values)
         (WpFn 𝓤 H (𝓣 .C) (𝓣 .Λ) code.function (ledger-value ledger ∷ only (array-vals party-values parties) ∷ vint w64 room ∷ file-value ∷ []) Post)
     walk =
-        qed W ((‵ (flft κ₀ q₀) ⊛ ‵ ftrue) ∷ ‵ (owns (LedgerRow ∷ ArrayRow PartyRow 512 ∷ usize ∷ ShrSlice (named 0) κ₀ u8 ∷ []) arguments values) ∷
-        []) ∵
+        qed W ((‵ (flft κ₀ q₀) ⊛ ‵ ftrue) ∷ ‵ (owns (LedgerRow ∷ ArrayRow PartyRow mostEntries ∷ usize ∷ ShrSlice (named 0) κ₀ u8 ∷ []) arguments
+        values) ∷ []) ∵
         enter ! (𝓣 .C) (𝓣 .Λ) code.function (ledger-value ledger ∷ only (array-vals party-values parties) ∷ vint w64 room ∷ file-value ∷ []) _ $
         alloc1 ! (λ l₀. alloc1 ! (λ l₁. alloc1 ! (λ l₂. alloc1 ! (λ l₃. alloc1 ! (λ l₄.
         alloc1 ! (λ l₅. alloc1 ! (λ l₆. alloc1 ! (λ l₇. alloc1 ! (λ l₈. alloc1 ! (λ l₉. alloc1 ! (λ l₁₀. alloc0 ! $ params1 ! $
         pass1 ! (init ! 18 refl (ledger-typed 𝓤 H A W ledger _ ledger-fits)) $
-        pass1 ! (init ! 16 refl (array-typed PartyRow 512 𝓤 H A W (party-lawful 𝓤 H A W) parties _ parties-fits)) $
+        pass1 ! (init ! 16 refl (array-typed PartyRow mostEntries 𝓤 H A W (party-lawful 𝓤 H A W) parties _ parties-fits)) $
         pass1 ! (init ! 14 refl (tt, record { fits = room-fits })) $
         pass1 ! (init ! 12 refl (tt, (tt, (record { fits = file-fits .0 }, tt)))) $
         pass0 ! $
         move ! (22 ∷ []) $ split ! $ move ! (24 ∷ []) $ fsplit ! $ move ! (1 ∷ []) $ fsplit ! $ move ! (1 ∷ []) $ fsplit ! $ move ! (1 ∷ []) $
         fsplit ! $ move ! (4 ∷ []) $ drop ! $ move ! (3 ∷ []) $ drop ! $ move ! (2 ∷ []) $ drop ! $
         assigns ! (of-opd ! (load ! (from ! (stop !)) (look ! 20 refl))) (from ! (stop !))
-        (init ! 14 refl (array-typed PartyRow 512 𝓤 H A W (party-lawful 𝓤 H A W) parties _ parties-fits)) $
-        owned ! (ArrayRow PartyRow 512) (Is (ArrayRow PartyRow 512)) (array-makes 𝓤 H A W PartyRow (party-makes 𝓤 H A W) 512) parties _ parties-fits $
-        move ! (15 ∷ 0 ∷ []) $ use2 W (‵ (fsep (feq ℕ (length parties) 512) (row PartyRow fullShare parties l₅ 0)))
-        (to-row PartyRow 512 𝓤 H A W tt parties _ l₅) $
+        (init ! 14 refl (array-typed PartyRow mostEntries 𝓤 H A W (party-lawful 𝓤 H A W) parties _ parties-fits)) $
+        owned ! (ArrayRow PartyRow mostEntries) (Is (ArrayRow PartyRow mostEntries)) (array-makes 𝓤 H A W PartyRow (party-makes 𝓤 H A W) mostEntries)
+        parties _ parties-fits $
+        move ! (15 ∷ 0 ∷ []) $ use2 W (‵ (fsep (feq ℕ (length parties) mostEntries) (row PartyRow fullShare parties l₅ 0)))
+        (to-row PartyRow mostEntries 𝓤 H A W tt parties _ l₅) $
         fsplit ! $ drop ! $
         -- `calls_by_value::records_of`
         nothing ! $ owned ! usize (Is usize) (uint-makes 𝓤 H A W w64) room _ (refl, room-fits) $
@@ -255,18 +257,19 @@ module _ {M : Type 1} (𝓤 : URA M) (H : Heap 𝓤) (A : Atoms 𝓤) (W : Given
         move ! (0 ∷ 7 ∷ 3 ∷ []) $ use3 W (later (‵ (row PartyRow fullShare ((last .1 .0) ++ drop-list records parties) l₅ 0)))
         (front-back PartyRow (ν′ ∷ []) l₅ parties records 𝓤 H A W δ′ (last .1 .0) last-length) $
         await ! tt $
-        feqI ! ℕ (length (last .1 .0 ++ drop-list records parties)) 512 (left-length room parties all (last .1 .0) last-length) $
-        fjoin ! $ use1 W (‵ (fat fullShare (array-type PartyRow 512) l₅ 0 (only (array-vals party-values (last .1 .0 ++ drop-list records parties))))
-        ⊛ ‵ ((ArrayRow PartyRow 512) .own (last .1 .0 ++ drop-list records parties)
-        (array-vals party-values (last .1 .0 ++ drop-list records parties)))) (from-row PartyRow 512 𝓤 H A W party-values party-tells
-        (last .1 .0 ++ drop-list records parties) l₅) $
-        split ! $ move ! (1 ∷ []) $ facts ! (ArrayRow PartyRow 512) (Is (ArrayRow PartyRow 512)) (shows 𝓤 H A (ArrayRow PartyRow 512))
-        (last .1 .0 ++ drop-list records parties) (array-vals party-values (last .1 .0 ++ drop-list records parties)) (λ left-known.
+        feqI ! ℕ (length (last .1 .0 ++ drop-list records parties)) mostEntries (left-length room parties all (last .1 .0) last-length) $
+        fjoin ! $ use1 W (‵ (fat fullShare (array-type PartyRow mostEntries) l₅ 0 (only
+        (array-vals party-values (last .1 .0 ++ drop-list records parties)))) ⊛ ‵ ((ArrayRow PartyRow mostEntries) .own
+        (last .1 .0 ++ drop-list records parties) (array-vals party-values (last .1 .0 ++ drop-list records parties))))
+        (from-row PartyRow mostEntries 𝓤 H A W party-values party-tells (last .1 .0 ++ drop-list records parties) l₅) $
+        split ! $ move ! (1 ∷ []) $ facts ! (ArrayRow PartyRow mostEntries) (Is (ArrayRow PartyRow mostEntries))
+        (shows 𝓤 H A (ArrayRow PartyRow mostEntries)) (last .1 .0 ++ drop-list records parties)
+        (array-vals party-values (last .1 .0 ++ drop-list records parties)) (λ left-known.
         assigns ! (of-opd ! (load ! (from ! (stop !)) (look ! 0 refl))) (from ! (stop !))
-        (init ! 9 refl (array-typed PartyRow 512 𝓤 H A W (party-lawful 𝓤 H A W) (last .1 .0 ++ drop-list records parties) _ left-known)) $
+        (init ! 9 refl (array-typed PartyRow mostEntries 𝓤 H A W (party-lawful 𝓤 H A W) (last .1 .0 ++ drop-list records parties) _ left-known)) $
         -- `read_with`
-        nothing ! $ owned ! (ArrayRow PartyRow 512) (Is (ArrayRow PartyRow 512)) (array-makes 𝓤 H A W PartyRow (party-makes 𝓤 H A W) 512)
-        (last .1 .0 ++ drop-list records parties) _ left-known $
+        nothing ! $ owned ! (ArrayRow PartyRow mostEntries) (Is (ArrayRow PartyRow mostEntries))
+        (array-makes 𝓤 H A W PartyRow (party-makes 𝓤 H A W) mostEntries) (last .1 .0 ++ drop-list records parties) _ left-known $
         fjoin ! $ owned ! ReadResultRow (Is ReadResultRow) (read-result-makes 𝓤 H A) got _ got-known $
         fjoin ! $ nothing ! $ join ! $ nothing ! $ move ! (1 ∷ 0 ∷ []) $ join ! $ use1 W
         (raw ((tripleOf 𝓤 H A read-with′.signature (read-with′.spec 𝓤 H A mem run)) .pre (
@@ -325,7 +328,13 @@ module _ {M : Type 1} (𝓤 : URA M) (H : Heap 𝓤) (A : Atoms 𝓤) (W : Given
   walks =
       walked 𝓤 H A read′.ended stayed (read′.clauses 𝓤 H A mem run) (WpFn 𝓤 H (𝓣 .C) (𝓣 .Λ) code.function)
       (λ κs. (ledger-values, (array-vals party-values, (uint-vals w64, (slice-vals, tt)))))
-      (λ κs. (ledger-tells, (array-tells PartyRow party-values party-tells 512, (uint-tells w64, (shr-slice-tells (named 0) (κs .0) u8, tt)))))
+      (λ κs. (
+        ledger-tells,
+        (
+          array-tells PartyRow party-values party-tells mostEntries,
+          (uint-tells w64, (shr-slice-tells (named 0) (κs .0) u8, tt)),
+        ),
+      ))
       (λ κs qs bounds a g are. via 𝓤 _ (fst∗ 𝓤 _ (emp 𝓤)) (walk 𝓤 H A W mem run
       (κs .0) (qs .0) (a .0) (a .1 .0) (a .1 .1 .0) (a .1 .1 .1 .0 .ptr .0) (a .1 .1 .1 .0 .ptr .1) (a .1 .1 .1 .0 .name) (a .1 .1 .1 .0 .now)
       (are .0) (are .1 .0) (are .1 .1 .0 .1) (are .1 .1 .1 .0 .0 .1) 𝓣 (fmOf 𝓤 H (W .laws) 𝓣) known-calls-by-value-records-of known-pioneer-read
@@ -336,7 +345,7 @@ module _ {M : Type 1} (𝓤 : URA M) (H : Heap 𝓤) (A : Atoms 𝓤) (W : Given
       walk-meets 𝓤 H A read′.ended stayed W (
         goes-none 𝓤 H A W 1 (λ _. LedgerRow) yes (λ κs x f. refl),
         (
-          goes-none 𝓤 H A W 1 (λ _. ArrayRow PartyRow 512) yes (λ κs x f.
+          goes-none 𝓤 H A W 1 (λ _. ArrayRow PartyRow mostEntries) yes (λ κs x f.
               refl),
           (goes-none 𝓤 H A W 1 (λ _. usize) yes (λ κs x f. refl), (goes-none-slice 𝓤 H A W 1 (0 ∷ []) tt (plain (λ _. u8)) yes, tt)),
         ),

@@ -38,9 +38,10 @@ use denote.Triple.Spec.{Meets, tripleOf}
 use denote.Triple.Table.{entered, cited}
 use denote.Triple.Walked.{says, Stays, stay-slice, stay-none, walkOf, goes-slice, goes-none, Walks, ends-at, walked, walk-meets}
 use denote.Exit.{yes}
+use Rattle.ledger.specs.Limits.{mostEntries}
 use Rattle.ledger.specs.declared.records.Party.{Party}
 use Rattle.party_table.proofs.Lending.{LentAgain, lends-again, comes-back}
-use Rattle.party_table.proofs.Rows.{PartyRow, party-values, party-tells, party-lawful, party-makes, ArrayRow, array-type, array-typed, to-row, from-row}
+use Rattle.party_table.proofs.MachineValues.{PartyRow, party-values, party-tells, party-lawful, party-makes, ArrayRow, array-type, array-typed, to-row, from-row}
 use Rattle.lent_table.proofs.Fronts.{SharedFront, shares-front, shared-back}
 use Rattle.lent_table.proofs.Lists.{parties-length, lent-room, lent-within, lent-table}
 use Rattle.stored.specs.Writing.{WriteEnd, writeOf}
@@ -66,7 +67,7 @@ abbrev stayed : Stays (write′.ended .signature .params) (write′.ended .kept)
 stayed = (
   stay-none (λ _. LedgerRow) yes,
   (
-    stay-none (λ _. ArrayRow PartyRow 512) yes,
+    stay-none (λ _. ArrayRow PartyRow mostEntries) yes,
     (
       stay-none (λ _.
           usize) yes,
@@ -77,8 +78,8 @@ stayed = (
 
 module _ {M : Type 1} (𝓤 : URA M) (H : Heap 𝓤) (A : Atoms 𝓤) (W : Given 𝓤 H A) (mem : Memory → SProp 𝓤) (run : Routine → Fun 𝓤)
     (κ₀ : Lft) (q₀ : Share) (ledger : Ledger) (parties : List Party) (room : ℕ) (out-block out-offset : ℕ) (out-name : GName) (out : List ℕ)
-    (ledger-fits : Is LedgerRow ledger (ledger-values ledger)) (parties-fits : Is (ArrayRow PartyRow 512) parties (array-vals party-values parties))
-    (room-fits : room < 2 ^ 64) (out-fits : Room u8 (length out)) where
+    (ledger-fits : Is LedgerRow ledger (ledger-values ledger)) (parties-fits : Is (ArrayRow PartyRow mostEntries) parties
+    (array-vals party-values parties)) (room-fits : room < 2 ^ 64) (out-fits : Room u8 (length out)) where
   abbrev out-at : GName → List ℕ → RefT (List ℕ)
   out-at name parties = record { ptr = (out-block, out-offset); name = name; now = parties }
 
@@ -92,9 +93,9 @@ module _ {M : Type 1} (𝓤 : URA M) (H : Heap 𝓤) (A : Atoms 𝓤) (W : Given
   values = (ledger-value ledger ∷ [], (only (array-vals party-values parties) ∷ [], (vint w64 room ∷ [], (out-value ∷ [], tt))))
 
   abbrev records : ℕ
-  records = min room 512
+  records = min room mostEntries
 
-  all : length parties ≡ 512
+  all : length parties ≡ mostEntries
   all = parties-length parties _ parties-fits
 
   records-room : Room PartyRow records
@@ -131,8 +132,8 @@ module _ {M : Type 1} (𝓤 : URA M) (H : Heap 𝓤) (A : Atoms 𝓤) (W : Given
       (tt, (tt, (tt, (after, tt)))) (tt, (tt, (tt, (after-length, tt))))) $
       says ! (refl, refl) $
       nothing ! $ move ! (2 ∷ 0 ∷ []) $ fjoin ! $ owned ! usize (Is usize) (uint-makes 𝓤 H A W w64) room _ (refl, room-fits) $
-      fjoin ! $ owned ! (ArrayRow PartyRow 512) (Is (ArrayRow PartyRow 512)) (array-makes 𝓤 H A W PartyRow (party-makes 𝓤 H A W) 512) parties _
-      parties-fits $
+      fjoin ! $ owned ! (ArrayRow PartyRow mostEntries) (Is (ArrayRow PartyRow mostEntries))
+      (array-makes 𝓤 H A W PartyRow (party-makes 𝓤 H A W) mostEntries) parties _ parties-fits $
       fjoin ! $ owned ! LedgerRow (Is LedgerRow) (ledger-makes 𝓤 H A) ledger _ ledger-fits $
       fjoin ! $ nothing ! $ move ! (2 ∷ 0 ∷ []) $ join ! $ frame ! $ frame ! $ done !
 
@@ -142,23 +143,24 @@ module _ {M : Type 1} (𝓤 : URA M) (H : Heap 𝓤) (A : Atoms 𝓤) (W : Given
     walk : ent 𝓤 (onEntry 𝓤 H A write′.signature (κ₀, tt) (q₀, tt) arguments values)
         (WpFn 𝓤 H (𝓣 .C) (𝓣 .Λ) code.function (ledger-value ledger ∷ only (array-vals party-values parties) ∷ vint w64 room ∷ out-value ∷ []) Post)
     walk =
-        qed W ((‵ (flft κ₀ q₀) ⊛ ‵ ftrue) ∷ ‵ (owns (LedgerRow ∷ ArrayRow PartyRow 512 ∷ usize ∷ MutSlice (named 0) κ₀ u8 ∷ []) arguments values) ∷
-        []) ∵
+        qed W ((‵ (flft κ₀ q₀) ⊛ ‵ ftrue) ∷ ‵ (owns (LedgerRow ∷ ArrayRow PartyRow mostEntries ∷ usize ∷ MutSlice (named 0) κ₀ u8 ∷ []) arguments
+        values) ∷ []) ∵
         enter ! (𝓣 .C) (𝓣 .Λ) code.function (ledger-value ledger ∷ only (array-vals party-values parties) ∷ vint w64 room ∷ out-value ∷ []) _ $
         alloc1 ! (λ l₀. alloc1 ! (λ l₁. alloc1 ! (λ l₂. alloc1 ! (λ l₃. alloc1 ! (λ l₄.
         alloc1 ! (λ l₅. alloc1 ! (λ l₆. alloc1 ! (λ l₇. alloc1 ! (λ l₈. alloc1 ! (λ l₉. alloc1 ! (λ l₁₀. alloc0 ! $ params1 ! $
         pass1 ! (init ! 18 refl (ledger-typed 𝓤 H A W ledger _ ledger-fits)) $
-        pass1 ! (init ! 16 refl (array-typed PartyRow 512 𝓤 H A W (party-lawful 𝓤 H A W) parties _ parties-fits)) $
+        pass1 ! (init ! 16 refl (array-typed PartyRow mostEntries 𝓤 H A W (party-lawful 𝓤 H A W) parties _ parties-fits)) $
         pass1 ! (init ! 14 refl (tt, record { fits = room-fits })) $
         pass1 ! (init ! 12 refl (tt, (tt, (record { fits = out-fits .0 }, tt)))) $
         pass0 ! $
         move ! (22 ∷ []) $ split ! $ move ! (24 ∷ []) $ fsplit ! $ move ! (1 ∷ []) $ fsplit ! $ move ! (1 ∷ []) $ fsplit ! $ move ! (1 ∷ []) $
         fsplit ! $ move ! (4 ∷ []) $ drop ! $ move ! (3 ∷ []) $ drop ! $ move ! (2 ∷ []) $ drop ! $
         assigns ! (of-opd ! (load ! (from ! (stop !)) (look ! 20 refl))) (from ! (stop !))
-        (init ! 14 refl (array-typed PartyRow 512 𝓤 H A W (party-lawful 𝓤 H A W) parties _ parties-fits)) $
-        owned ! (ArrayRow PartyRow 512) (Is (ArrayRow PartyRow 512)) (array-makes 𝓤 H A W PartyRow (party-makes 𝓤 H A W) 512) parties _ parties-fits $
-        move ! (15 ∷ 0 ∷ []) $ use2 W (‵ (fsep (feq ℕ (length parties) 512) (row PartyRow fullShare parties l₅ 0)))
-        (to-row PartyRow 512 𝓤 H A W tt parties _ l₅) $
+        (init ! 14 refl (array-typed PartyRow mostEntries 𝓤 H A W (party-lawful 𝓤 H A W) parties _ parties-fits)) $
+        owned ! (ArrayRow PartyRow mostEntries) (Is (ArrayRow PartyRow mostEntries)) (array-makes 𝓤 H A W PartyRow (party-makes 𝓤 H A W) mostEntries)
+        parties _ parties-fits $
+        move ! (15 ∷ 0 ∷ []) $ use2 W (‵ (fsep (feq ℕ (length parties) mostEntries) (row PartyRow fullShare parties l₅ 0)))
+        (to-row PartyRow mostEntries 𝓤 H A W tt parties _ l₅) $
         fsplit ! $ drop ! $
         -- `calls_by_value::records_of`
         nothing ! $ owned ! usize (Is usize) (uint-makes 𝓤 H A W w64) room _ (refl, room-fits) $
@@ -268,10 +270,10 @@ module _ {M : Type 1} (𝓤 : URA M) (H : Heap 𝓤) (A : Atoms 𝓤) (W : Given
         move ! (4 ∷ []) $ lft-end ! tt $
         move ! (0 ∷ 8 ∷ []) $ use2 W (later (‵ (row PartyRow fullShare parties l₅ 0))) (shared-back PartyRow (ν′ ∷ []) l₅ parties records 𝓤 H A W) $
         await ! tt $
-        feqI ! ℕ (length parties) 512 all $
-        fjoin ! $ use1 W (‵ (fat fullShare (array-type PartyRow 512) l₅ 0 (only (array-vals party-values parties))) ⊛
-        ‵ ((ArrayRow PartyRow 512) .own parties (array-vals party-values parties)))
-        (from-row PartyRow 512 𝓤 H A W party-values party-tells parties l₅) $
+        feqI ! ℕ (length parties) mostEntries all $
+        fjoin ! $ use1 W (‵ (fat fullShare (array-type PartyRow mostEntries) l₅ 0 (only (array-vals party-values parties))) ⊛
+        ‵ ((ArrayRow PartyRow mostEntries) .own parties (array-vals party-values parties)))
+        (from-row PartyRow mostEntries 𝓤 H A W party-values party-tells parties l₅) $
         split ! $ returns ! (look ! 31 refl) $
         forget ! 31 refl $ forget ! 29 refl $ forget ! 27 refl $ forget ! 25 refl $ forget ! 23 refl $ forget ! 0 refl $ forget ! 20 refl $
         forget ! 18 refl $ forget ! 16 refl $ forget ! 14 refl $ forget ! 12 refl $
@@ -288,7 +290,13 @@ module _ {M : Type 1} (𝓤 : URA M) (H : Heap 𝓤) (A : Atoms 𝓤) (W : Given
   walks =
       walked 𝓤 H A write′.ended stayed (write′.clauses 𝓤 H A mem run) (WpFn 𝓤 H (𝓣 .C) (𝓣 .Λ) code.function)
       (λ κs. (ledger-values, (array-vals party-values, (uint-vals w64, (slice-vals, tt)))))
-      (λ κs. (ledger-tells, (array-tells PartyRow party-values party-tells 512, (uint-tells w64, (mut-slice-tells (named 0) (κs .0) u8, tt)))))
+      (λ κs. (
+        ledger-tells,
+        (
+          array-tells PartyRow party-values party-tells mostEntries,
+          (uint-tells w64, (mut-slice-tells (named 0) (κs .0) u8, tt)),
+        ),
+      ))
       (λ κs qs bounds a g are. via 𝓤 _ (fst∗ 𝓤 _ (emp 𝓤)) (walk 𝓤 H A W mem run
       (κs .0) (qs .0) (a .0) (a .1 .0) (a .1 .1 .0) (a .1 .1 .1 .0 .ptr .0) (a .1 .1 .1 .0 .ptr .1) (a .1 .1 .1 .0 .name) (a .1 .1 .1 .0 .now)
       (are .0) (are .1 .0) (are .1 .1 .0 .1) (are .1 .1 .1 .0 .0 .1) 𝓣 (fmOf 𝓤 H (W .laws) 𝓣) known-calls-by-value-records-of known-pioneer-write))
@@ -298,7 +306,7 @@ module _ {M : Type 1} (𝓤 : URA M) (H : Heap 𝓤) (A : Atoms 𝓤) (W : Given
       walk-meets 𝓤 H A write′.ended stayed W (
         goes-none 𝓤 H A W 1 (λ _. LedgerRow) yes (λ κs x f. refl),
         (
-          goes-none 𝓤 H A W 1 (λ _. ArrayRow PartyRow 512) yes (λ κs x f.
+          goes-none 𝓤 H A W 1 (λ _. ArrayRow PartyRow mostEntries) yes (λ κs x f.
               refl),
           (goes-none 𝓤 H A W 1 (λ _. usize) yes (λ κs x f. refl), (goes-slice 𝓤 H A W 1 0 tt (plain (λ _. u8)), tt)),
         ),

@@ -46,15 +46,15 @@ use denote.Triple.Spec.{Meets, tripleOf}
 use denote.Triple.Table.{entered, cited}
 use denote.Triple.Walked.{says, needs, Stays, stay-slice, stay-none, walkOf, goes-slice, goes-none, Walks, ends-at, walked, walk-meets}
 use denote.Exit.{yes}
+use Rattle.ledger.specs.Limits.{mostEntries}
 use Rattle.ledger.specs.Records.{noParty}
 use Rattle.ledger.specs.declared.records.Party.{Party}
 use Rattle.party_table.proofs.Lending.{LentAgain, lends-again, comes-back}
-use Rattle.party_table.proofs.Rows.{PartyRow, ArrayRow, array-type, array-typed, to-row, from-row}
+use Rattle.party_table.proofs.MachineValues.{PartyRow, ArrayRow, array-type, array-typed, to-row, from-row}
 use Rattle.party_table.proofs.Turns.{Less, less-wf, last-or-more}
-use Rattle.ledger.specs.Table.{creditedMore, creditEach}
-use Rattle.party_table.specs.PartyTable.{CreditsFit}
-use Rattle.ledger.specs.TableLaws.{length-credit-each, credit-none}
-use Rattle.ledger.specs.Crediting.{credited-at, credited-next}
+use Rattle.ledger.specs.Table.{creditedMore, creditEach, CreditsFit}
+use Rattle.ledger.specs.Theorems.Table.{length-credit-each, credit-none}
+use Rattle.ledger.specs.Theorems.Crediting.{credited-at, credited-next}
 use Rattle.party_table.proofs.credit_one as credit-one′
 use Rattle.party_table.proofs.credit_one.Symbol as credit-one-def
 use Rattle.party_table.proofs.credit_one.Symbol.{name as #party_table·credit-one}
@@ -66,13 +66,13 @@ use Rattle.party_table.proofs.credit_each.Code as code
 use Rattle.party_table.proofs.credit_each.Code.Mir as mir
 
 abbrev stayed : Stays (credit-each′.ended .signature .params) (credit-each′.ended .kept)
-stayed = (stay-slice (0 ∷ []) tt (plain (λ _. PartyRow)), (stay-none (λ _. u32) yes, (stay-none (λ _. ArrayRow u64 512) yes, tt)))
+stayed = (stay-slice (0 ∷ []) tt (plain (λ _. PartyRow)), (stay-none (λ _. u32) yes, (stay-none (λ _. ArrayRow u64 mostEntries) yes, tt)))
 
 module _ {M : Type 1} (𝓤 : URA M) (H : Heap 𝓤) (A : Atoms 𝓤) (W : Given 𝓤 H A) (mem : Memory → SProp 𝓤) (run : Routine → Fun 𝓤)
     (κ₀ : Lft) (q₀ : Share) (table-block table-offset : ℕ) (table-name : GName) (table : List Party) (entries : ℕ) (credits : List ℕ)
     (table-fits : Room PartyRow (length table)) (entries-fits : entries < 2 ^ 32)
-    (credits-fits : Is (ArrayRow u64 512) credits (array-vals (uint-vals w64) credits))
-    (required : (entries ≤ 512) × (entries ≤ length table) × CreditsFit entries table credits) where
+    (credits-fits : Is (ArrayRow u64 mostEntries) credits (array-vals (uint-vals w64) credits))
+    (required : (entries ≤ mostEntries) × (entries ≤ length table) × CreditsFit entries table credits) where
   abbrev table-at : GName → List Party → RefT (List Party)
   table-at name parties = record { ptr = (table-block, table-offset); name = name; now = parties }
 
@@ -85,7 +85,7 @@ module _ {M : Type 1} (𝓤 : URA M) (H : Heap 𝓤) (A : Atoms 𝓤) (W : Given
   abbrev values : List Val × (List Val × (List Val × Unit {0}))
   values = (table-value ∷ [], (vint w32 entries ∷ [], (only (array-vals (uint-vals w64) credits) ∷ [], tt)))
 
-  array-length : length credits ≡ 512
+  array-length : length credits ≡ mostEntries
   array-length = credits-fits .1 .0 .1
 
   inside : {i : ℕ} → i < entries → i < length credits
@@ -129,7 +129,8 @@ module _ {M : Type 1} (𝓤 : URA M) (H : Heap 𝓤) (A : Atoms 𝓤) (W : Given
       (ends-at 𝓤 H A credit-each′.ended stayed (credit-each′.clauses 𝓤 H A mem run) W (((κ₀, tt), (q₀, tt), tt, arguments, values), tt) vunit tt
       (after, (tt, (tt, tt))) (after-length, (tt, (tt, tt)))) $
       says ! refl $
-      nothing ! $ owned ! (ArrayRow u64 512) (Is (ArrayRow u64 512)) (array-makes 𝓤 H A W u64 (uint-makes 𝓤 H A W w64) 512) credits _ credits-fits $
+      nothing ! $ owned ! (ArrayRow u64 mostEntries) (Is (ArrayRow u64 mostEntries)) (array-makes 𝓤 H A W u64 (uint-makes 𝓤 H A W w64) mostEntries)
+      credits _ credits-fits $
       fjoin ! $ owned ! u32 (Is u32) (uint-makes 𝓤 H A W w32) entries _ (refl, entries-fits) $
       fjoin ! $ move ! (2 ∷ 0 ∷ []) $ fjoin ! $ nothing ! $ move ! (2 ∷ 0 ∷ []) $ join ! $ frame ! $ frame ! $
       feqI ! (List Val) (vunit ∷ []) (vunit ∷ []) refl $ done !
@@ -138,15 +139,15 @@ module _ {M : Type 1} (𝓤 : URA M) (H : Heap 𝓤) (A : Atoms 𝓤) (W : Given
       (tripleOf 𝓤 H A credit-one′.signature (credit-one′.spec 𝓤 H A mem run))) where
     module _ (l₀ l₁ l₂ l₃ l₄ l₅ l₆ l₇ l₈ l₉ l₁₀ l₁₁ l₁₂ l₁₃ l₁₄ : ℕ) where
       abbrev En : Env 𝓤 H
-      En = (tyUnit, l₀) ∷ (sliceTy (tyRef (named 0) mut (pointee (PartyRow .written))), l₁) ∷ (tyInt w32, l₂) ∷ (array-type u64 512, l₃) ∷
-          (array-type u64 512, l₄) ∷ (tyInt w64, l₅) ∷ (tyInt w64, l₆) ∷ (tyBool, l₇) ∷ (tyUnit, l₈) ∷
+      En = (tyUnit, l₀) ∷ (sliceTy (tyRef (named 0) mut (pointee (PartyRow .written))), l₁) ∷ (tyInt w32, l₂) ∷ (array-type u64 mostEntries, l₃) ∷
+          (array-type u64 mostEntries, l₄) ∷ (tyInt w64, l₅) ∷ (tyInt w64, l₆) ∷ (tyBool, l₇) ∷ (tyUnit, l₈) ∷
           (tyRef erased mut (pointee (PartyRow .written)), l₉) ∷ (sliceTy (tyRef erased mut (pointee (PartyRow .written))), l₁₀) ∷ (tyInt w64, l₁₁) ∷
           (tyPtr, l₁₂) ∷ (tyPtr, l₁₃) ∷ (tyInt w64, l₁₄) ∷ []
 
       abbrev Dies : List (Item 𝓤)
       Dies = ‵ (fdies tyUnit l₀) ∷ ‵ (fdies (sliceTy (tyRef (named 0) mut (pointee (PartyRow .written)))) l₁) ∷ ‵ (fdies (tyInt w32) l₂) ∷
-          ‵ (fdies (array-type u64 512) l₃) ∷ ‵ (fdies (array-type u64 512) l₄) ∷ ‵ (fdies (tyInt w64) l₅) ∷ ‵ (fdies (tyInt w64) l₆) ∷
-          ‵ (fdies tyBool l₇) ∷ ‵ (fdies tyUnit l₈) ∷ ‵ (fdies (tyRef erased mut (pointee (PartyRow .written))) l₉) ∷
+          ‵ (fdies (array-type u64 mostEntries) l₃) ∷ ‵ (fdies (array-type u64 mostEntries) l₄) ∷ ‵ (fdies (tyInt w64) l₅) ∷ ‵ (fdies (tyInt w64) l₆)
+          ∷ ‵ (fdies tyBool l₇) ∷ ‵ (fdies tyUnit l₈) ∷ ‵ (fdies (tyRef erased mut (pointee (PartyRow .written))) l₉) ∷
           ‵ (fdies (sliceTy (tyRef erased mut (pointee (PartyRow .written)))) l₁₀) ∷ ‵ (fdies (tyInt w64) l₁₁) ∷ ‵ (fdies tyPtr l₁₂) ∷
           ‵ (fdies tyPtr l₁₃) ∷ ‵ (fdies (tyInt w64) l₁₄) ∷ []
 
@@ -158,7 +159,7 @@ module _ {M : Type 1} (𝓤 : URA M) (H : Heap 𝓤) (A : Atoms 𝓤) (W : Given
           ∷ ‵ (row u64 fullShare credits l₄ 0)
           ∷ ‵ (fat fullShare (sliceTy (tyRef (named 0) mut (pointee (PartyRow .written)))) l₁ 0 table-value)
           ∷ ‵ (fat fullShare (tyInt w32) l₂ 0 (vint w32 entries))
-          ∷ ‵ (fat fullShare (array-type u64 512) l₃ 0 (only (array-vals (uint-vals w64) credits)))
+          ∷ ‵ (fat fullShare (array-type u64 mostEntries) l₃ 0 (only (array-vals (uint-vals w64) credits)))
           ∷ ‵ (fat fullShare (tyInt w64) l₅ 0 (vint w64 entries))
           ∷ ‵ (fat fullShare (tyInt w64) l₆ 0 (vint w64 i))
           ∷ ‵ (froom tyUnit l₀ 0)
@@ -277,10 +278,10 @@ module _ {M : Type 1} (𝓤 : URA M) (H : Heap 𝓤) (A : Atoms 𝓤) (W : Given
           rewrite ! 9 (λ (t : Bool). ‵ (fat fullShare tyBool l₇ 0 (vbool t))) (le-ltb entries entries (le-refl entries)) refl $
           leaves-loop ! (load ! (from ! (stop !)) (look ! 9 refl)) $ exec ! (𝓣 .C) (𝓣 .Λ) En mir.t-5 (atRet En Post) $
           assigns ! (of-opd ! (unit-lit !)) (from ! (stop !)) (init ! 8 refl (tt, tt)) $
-          feqI ! ℕ (length credits) 512 array-length $
-          move ! (0 ∷ 3 ∷ []) $ fjoin ! $ use1 W (‵ (fat fullShare (array-type u64 512) l₄ 0 (only (array-vals (uint-vals w64) credits))) ⊛
-          ‵ ((ArrayRow u64 512) .own credits (array-vals (uint-vals w64) credits))) (from-row u64 512 𝓤 H A W (uint-vals w64) (uint-tells w64)
-          credits l₄) $
+          feqI ! ℕ (length credits) mostEntries array-length $
+          move ! (0 ∷ 3 ∷ []) $ fjoin ! $ use1 W (‵ (fat fullShare (array-type u64 mostEntries) l₄ 0 (only (array-vals (uint-vals w64) credits))) ⊛
+          ‵ ((ArrayRow u64 mostEntries) .own credits (array-vals (uint-vals w64) credits)))
+          (from-row u64 mostEntries 𝓤 H A W (uint-vals w64) (uint-tells w64) credits l₄) $
           split ! $ returns ! (look ! 9 refl) $
           forget ! 9 refl $ forget ! 4 refl $ forget ! 5 refl $ forget ! 6 refl $ forget ! 0 refl $ forget ! 7 refl $ forget ! 8 refl $
           forget ! 10 refl $
@@ -298,24 +299,25 @@ module _ {M : Type 1} (𝓤 : URA M) (H : Heap 𝓤) (A : Atoms 𝓤) (W : Given
     walk : ent 𝓤 (onEntry 𝓤 H A credit-each′.signature (κ₀, tt) (q₀, tt) arguments values)
         (WpFn 𝓤 H (𝓣 .C) (𝓣 .Λ) code.function (table-value ∷ vint w32 entries ∷ only (array-vals (uint-vals w64) credits) ∷ []) Post)
     walk =
-        qed W ((‵ (flft κ₀ q₀) ⊛ ‵ ftrue) ∷ ‵ (owns (MutSlice (named 0) κ₀ PartyRow ∷ u32 ∷ ArrayRow u64 512 ∷ []) arguments values) ∷ []) ∵
+        qed W ((‵ (flft κ₀ q₀) ⊛ ‵ ftrue) ∷ ‵ (owns (MutSlice (named 0) κ₀ PartyRow ∷ u32 ∷ ArrayRow u64 mostEntries ∷ []) arguments values) ∷ []) ∵
         enter ! (𝓣 .C) (𝓣 .Λ) code.function (table-value ∷ vint w32 entries ∷ only (array-vals (uint-vals w64) credits) ∷ []) _ $
         alloc1 ! (λ l₀. alloc1 ! (λ l₁. alloc1 ! (λ l₂. alloc1 ! (λ l₃. alloc1 ! (λ l₄.
         alloc1 ! (λ l₅. alloc1 ! (λ l₆. alloc1 ! (λ l₇. alloc1 ! (λ l₈. alloc1 ! (λ l₉.
         alloc1 ! (λ l₁₀. alloc1 ! (λ l₁₁. alloc1 ! (λ l₁₂. alloc1 ! (λ l₁₃. alloc1 ! (λ l₁₄. alloc0 ! $ params1 ! $
         pass1 ! (init ! 26 refl (tt, (tt, (record { fits = table-fits .0 }, tt)))) $
         pass1 ! (init ! 24 refl (tt, record { fits = entries-fits })) $
-        pass1 ! (init ! 22 refl (array-typed u64 512 𝓤 H A W (uint-lawful 𝓤 H A W w64) credits _ credits-fits)) $
+        pass1 ! (init ! 22 refl (array-typed u64 mostEntries 𝓤 H A W (uint-lawful 𝓤 H A W w64) credits _ credits-fits)) $
         pass0 ! $
         move ! (30 ∷ []) $ split ! $ move ! (32 ∷ []) $ fsplit ! $ move ! (1 ∷ []) $ fsplit ! $ move ! (1 ∷ []) $ fsplit ! $ move ! (2 ∷ []) $
         drop ! $ drop ! $ assigns ! (of-opd ! (load ! (from ! (stop !)) (look ! 26 refl))) (from ! (stop !))
-        (init ! 24 refl (array-typed u64 512 𝓤 H A W (uint-lawful 𝓤 H A W w64) credits _ credits-fits)) $
+        (init ! 24 refl (array-typed u64 mostEntries 𝓤 H A W (uint-lawful 𝓤 H A W w64) credits _ credits-fits)) $
         assigns ! (un ! (load ! (from ! (stop !)) (look ! 28 refl)) (record { fits = omega (arith, entries-fits) })) (from ! (stop !))
         (init ! 22 refl (tt, record { fits = omega (arith, entries-fits) })) $
         assigns ! (of-opd ! (lit ! tt)) (from ! (stop !)) (init ! 20 refl (tt, record { fits = lit< tt })) $
-        owned ! (ArrayRow u64 512) (Is (ArrayRow u64 512)) (array-makes 𝓤 H A W u64 (uint-makes 𝓤 H A W w64) 512) credits _ credits-fits $
-        move ! (25 ∷ 0 ∷ []) $ use2 W (‵ (fsep (feq ℕ (length credits) 512) (row u64 fullShare credits l₄ 0)))
-        (to-row u64 512 𝓤 H A W tt credits _ l₄) $
+        owned ! (ArrayRow u64 mostEntries) (Is (ArrayRow u64 mostEntries)) (array-makes 𝓤 H A W u64 (uint-makes 𝓤 H A W w64) mostEntries) credits _
+        credits-fits $
+        move ! (25 ∷ 0 ∷ []) $ use2 W (‵ (fsep (feq ℕ (length credits) mostEntries) (row u64 fullShare credits l₄ 0)))
+        (to-row u64 mostEntries 𝓤 H A W tt credits _ l₄) $
         fsplit ! $ drop ! $ rewrite ! 2 (λ (parties : List Party). ‵ (MutSlice (named 0) κ₀ PartyRow .own (table-at table-name parties)
         (table-value ∷ []))) changed-none refl $
         first ! $ blocks ! $
@@ -332,7 +334,7 @@ module _ {M : Type 1} (𝓤 : URA M) (H : Heap 𝓤) (A : Atoms 𝓤) (W : Given
   walks =
       walked 𝓤 H A credit-each′.ended stayed (credit-each′.clauses 𝓤 H A mem run) (WpFn 𝓤 H (𝓣 .C) (𝓣 .Λ) code.function)
       (λ κs. (slice-vals, (uint-vals w32, (array-vals (uint-vals w64), tt))))
-      (λ κs. (mut-slice-tells (named 0) (κs .0) PartyRow, (uint-tells w32, (array-tells u64 (uint-vals w64) (uint-tells w64) 512, tt))))
+      (λ κs. (mut-slice-tells (named 0) (κs .0) PartyRow, (uint-tells w32, (array-tells u64 (uint-vals w64) (uint-tells w64) mostEntries, tt))))
       (λ κs qs bounds a g are. needs 𝓤 _ _ (λ required. walk 𝓤 H A W mem run
       (κs .0) (qs .0) (a .0 .ptr .0) (a .0 .ptr .1) (a .0 .name) (a .0 .now) (a .1 .0) (a .1 .1 .0) (are .0 .0 .1) (are .1 .0 .1) (are .1 .1 .0)
       required 𝓣 (fmOf 𝓤 H (W .laws) 𝓣) known-credit-one))
@@ -344,7 +346,7 @@ module _ {M : Type 1} (𝓤 : URA M) (H : Heap 𝓤) (A : Atoms 𝓤) (W : Given
         (
           goes-none 𝓤 H A W 1 (λ _. u32) yes (λ κs x f.
               refl),
-          (goes-none 𝓤 H A W 1 (λ _. ArrayRow u64 512) yes (λ κs x f. refl), tt),
+          (goes-none 𝓤 H A W 1 (λ _. ArrayRow u64 mostEntries) yes (λ κs x f. refl), tt),
         ),
       )
       (credit-each′.clauses 𝓤 H A mem run) (WpFn 𝓤 H (𝓣 .C) (𝓣 .Λ) code.function) (WpFn-mono 𝓤 H (W .laws) 𝓣 code.function) walks

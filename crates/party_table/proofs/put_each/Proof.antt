@@ -49,7 +49,7 @@ use denote.Exit.{yes}
 use Rattle.ledger.specs.Records.{noParty}
 use Rattle.ledger.specs.declared.records.Party.{Party}
 use Rattle.party_table.proofs.Lending.{LentAgain, lends-again, comes-back}
-use Rattle.party_table.proofs.Rows.{PartyRow, party-type, party-value, party-values, party-tells, party-lawful, party-makes, party-typed, ArrayRow, array-type, array-typed, to-row, from-row}
+use Rattle.party_table.proofs.MachineValues.{PartyRow, party-type, party-value, party-values, party-tells, party-lawful, party-makes, party-typed, ArrayRow, array-type, array-typed, to-row, from-row}
 use Rattle.party_table.proofs.Turns.{Less, less-wf, last-or-more}
 use lib.Seq.{sets, length-sets}
 use Rattle.party_table.proofs.Putting.{put-next}

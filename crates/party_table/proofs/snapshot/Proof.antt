@@ -46,11 +46,12 @@ use denote.Triple.Spec.{Meets, tripleOf}
 use denote.Triple.Table.{entered, cited}
 use denote.Triple.Walked.{says, Stays, stay-none-slice, stay-none, walkOf, goes-none-slice, goes-none, Walks, ends-at, walked, walk-meets}
 use denote.Exit.{yes}
+use Rattle.ledger.specs.Limits.{mostEntries}
 use Rattle.ledger.specs.Records.{noParty, noParties}
 use Rattle.ledger.specs.declared.records.Party.{Party}
-use Rattle.party_table.proofs.Rows.{PartyRow, party-type, party-values, party-tells, party-lawful, party-copy, party-makes, party-typed, place-fits, ArrayRow, array-type, array-typed, to-row, from-row}
+use Rattle.party_table.proofs.MachineValues.{PartyRow, party-type, party-values, party-tells, party-lawful, party-copy, party-makes, party-typed, place-fits, ArrayRow, array-type, array-typed, to-row, from-row}
 use Rattle.party_table.proofs.Turns.{Less, less-wf, last-or-more}
-use Rattle.ledger.specs.TableLaws.{length-no-parties}
+use Rattle.ledger.specs.Theorems.Table.{length-no-parties}
 use Rattle.party_table.proofs.Copying.{copied, copied-next, copied-length, copied-snapshot}
 use Rattle.party_table.proofs.kept as kept′
 use Rattle.party_table.proofs.kept.Symbol as kept-def
@@ -85,42 +86,42 @@ module _ {M : Type 1} (𝓤 : URA M) (H : Heap 𝓤) (A : Atoms 𝓤) (W : Given
   values = (table-value ∷ [], (vint w32 entries ∷ [], tt))
 
   abbrev count : ℕ
-  count = min (min entries 512) (length table)
+  count = min (min entries mostEntries) (length table)
 
   abbrev zeros : List Party
   zeros = noParties
 
-  zeros-length : length zeros ≡ 512
+  zeros-length : length zeros ≡ mostEntries
   zeros-length = length-no-parties
 
   -- the array where i records are copied
   abbrev parties : ℕ → List Party
   parties i = copied i table zeros
 
-  count-512 : count ≤ 512
-  count-512 = le-trans (min-le-left (min entries 512) (length table)) (min-le-right entries 512)
+  count-most : count ≤ mostEntries
+  count-most = le-trans (min-le-left (min entries mostEntries) (length table)) (min-le-right entries mostEntries)
 
   count-zeros : count ≤ length zeros
-  count-zeros = subst (λ (k : ℕ). count ≤ k) (sym zeros-length) count-512
+  count-zeros = subst (λ (k : ℕ). count ≤ k) (sym zeros-length) count-most
 
   count-table : count ≤ length table
-  count-table = min-le-right (min entries 512) (length table)
+  count-table = min-le-right (min entries mostEntries) (length table)
 
   within : {i : ℕ} → i < count → i < length table
   within l = lt-of-lt-of-le l count-table
 
-  parties-length : {i : ℕ} → i ≤ count → length (parties i) ≡ 512
+  parties-length : {i : ℕ} → i ≤ count → length (parties i) ≡ mostEntries
   parties-length {i} l = copied-length i table zeros (le-trans l count-table) (le-trans l count-zeros) ∙ zeros-length
 
   inside : {i : ℕ} → i < count → i < length (parties i)
-  inside {i} l = subst (λ (k : ℕ). i < k) (sym (parties-length (le-of-lt l))) (lt-of-lt-of-le l count-512)
+  inside {i} l = subst (λ (k : ℕ). i < k) (sym (parties-length (le-of-lt l))) (lt-of-lt-of-le l count-most)
 
   abbrev Post : Val → SProp 𝓤
   Post = walkOf 𝓤 H A snapshot′.ended stayed (snapshot′.clauses 𝓤 H A mem run) .post (((κ₀, tt), (q₀, tt), tt, arguments, values), tt)
 
   abbrev Ends : Val → List (Item 𝓤)
   Ends v = ‵ (flft κ₀ q₀) ∷ ‵ (ShrSlice (named 0) κ₀ PartyRow .own (table-at table-name table) (table-value ∷ [])) ∷
-      ‵ ((ArrayRow PartyRow 512) .own (parties count) (v ∷ [])) ∷ []
+      ‵ ((ArrayRow PartyRow mostEntries) .own (parties count) (v ∷ [])) ∷ []
 
   exits : (v : Val) → ent 𝓤 (⋆ 𝓤 H A (Ends v)) (Post v)
   exits v =
@@ -137,15 +138,15 @@ module _ {M : Type 1} (𝓤 : URA M) (H : Heap 𝓤) (A : Atoms 𝓤) (W : Given
       (tripleOf 𝓤 H A ledger-records-no-parties′.signature (ledger-records-no-parties′.spec 𝓤 H A mem run))) where
     module _ (l₀ l₁ l₂ l₃ l₄ l₅ l₆ l₇ l₈ l₉ l₁₀ l₁₁ l₁₂ l₁₃ l₁₄ : ℕ) (q′ : Share) where
       abbrev En : Env 𝓤 H
-      En = (array-type PartyRow 512, l₀) ∷ (sliceTy (tyRef (named 0) imm (pointee (PartyRow .written))), l₁) ∷ (tyInt w32, l₂) ∷ (tyInt w64, l₃) ∷
-          (array-type PartyRow 512, l₄) ∷ (tyInt w64, l₅) ∷ (tyInt w64, l₆) ∷ (array-type PartyRow 512, l₇) ∷ (tyBool, l₈) ∷ (tyInt w64, l₉) ∷
-          (tyPtr, l₁₀) ∷ (party-type, l₁₁) ∷ (tyInt w64, l₁₂) ∷ (tyPtr, l₁₃) ∷ (tyPtr, l₁₄) ∷ []
+      En = (array-type PartyRow mostEntries, l₀) ∷ (sliceTy (tyRef (named 0) imm (pointee (PartyRow .written))), l₁) ∷ (tyInt w32, l₂) ∷
+          (tyInt w64, l₃) ∷ (array-type PartyRow mostEntries, l₄) ∷ (tyInt w64, l₅) ∷ (tyInt w64, l₆) ∷ (array-type PartyRow mostEntries, l₇) ∷
+          (tyBool, l₈) ∷ (tyInt w64, l₉) ∷ (tyPtr, l₁₀) ∷ (party-type, l₁₁) ∷ (tyInt w64, l₁₂) ∷ (tyPtr, l₁₃) ∷ (tyPtr, l₁₄) ∷ []
 
       abbrev Dies : List (Item 𝓤)
-      Dies = ‵ (fdies (array-type PartyRow 512) l₀) ∷ ‵ (fdies (sliceTy (tyRef (named 0) imm (pointee (PartyRow .written)))) l₁) ∷
-          ‵ (fdies (tyInt w32) l₂) ∷ ‵ (fdies (tyInt w64) l₃) ∷ ‵ (fdies (array-type PartyRow 512) l₄) ∷ ‵ (fdies (tyInt w64) l₅) ∷
-          ‵ (fdies (tyInt w64) l₆) ∷ ‵ (fdies (array-type PartyRow 512) l₇) ∷ ‵ (fdies tyBool l₈) ∷ ‵ (fdies (tyInt w64) l₉) ∷ ‵ (fdies tyPtr l₁₀) ∷
-          ‵ (fdies party-type l₁₁) ∷ ‵ (fdies (tyInt w64) l₁₂) ∷ ‵ (fdies tyPtr l₁₃) ∷ ‵ (fdies tyPtr l₁₄) ∷ []
+      Dies = ‵ (fdies (array-type PartyRow mostEntries) l₀) ∷ ‵ (fdies (sliceTy (tyRef (named 0) imm (pointee (PartyRow .written)))) l₁) ∷
+          ‵ (fdies (tyInt w32) l₂) ∷ ‵ (fdies (tyInt w64) l₃) ∷ ‵ (fdies (array-type PartyRow mostEntries) l₄) ∷ ‵ (fdies (tyInt w64) l₅) ∷
+          ‵ (fdies (tyInt w64) l₆) ∷ ‵ (fdies (array-type PartyRow mostEntries) l₇) ∷ ‵ (fdies tyBool l₈) ∷ ‵ (fdies (tyInt w64) l₉) ∷
+          ‵ (fdies tyPtr l₁₀) ∷ ‵ (fdies party-type l₁₁) ∷ ‵ (fdies (tyInt w64) l₁₂) ∷ ‵ (fdies tyPtr l₁₃) ∷ ‵ (fdies tyPtr l₁₄) ∷ []
 
       -- the invariant
       abbrev At : ℕ → List (Item 𝓤)
@@ -158,9 +159,9 @@ module _ {M : Type 1} (𝓤 : URA M) (H : Heap 𝓤) (A : Atoms 𝓤) (W : Given
           ∷ ‵ (fat fullShare (tyInt w32) l₂ 0 (vint w32 entries))
           ∷ ‵ (fat fullShare (tyInt w64) l₃ 0 (vint w64 count))
           ∷ ‵ (fat fullShare (tyInt w64) l₅ 0 (vint w64 i))
-          ∷ ‵ (froom (array-type PartyRow 512) l₀ 0)
+          ∷ ‵ (froom (array-type PartyRow mostEntries) l₀ 0)
           ∷ ‵ (froom (tyInt w64) l₆ 0)
-          ∷ ‵ (froom (array-type PartyRow 512) l₇ 0)
+          ∷ ‵ (froom (array-type PartyRow mostEntries) l₇ 0)
           ∷ ‵ (froom tyBool l₈ 0)
           ∷ ‵ (froom (tyInt w64) l₉ 0)
           ∷ ‵ (froom tyPtr l₁₀ 0)
@@ -213,8 +214,8 @@ module _ {M : Type 1} (𝓤 : URA M) (H : Heap 𝓤) (A : Atoms 𝓤) (W : Given
           (party-values (getD table i noParty)) l₄ 0 (inside l) $
           rewrite ! 0 (λ (xs : List Party). ‵ (row PartyRow fullShare xs l₄ 0)) (copied-next i table zeros (within l) (lt-of-lt-of-le l count-zeros))
           refl $
-          assigns-last ! (bin ! (load ! (from ! (stop !)) (look ! 7 refl)) (lit ! tt) (record { fits = omega (arith, l, count-512) }))
-          (from ! (stop !)) (store ! 7 refl (tt, record { fits = omega (arith, l, count-512) })) $
+          assigns-last ! (bin ! (load ! (from ! (stop !)) (look ! 7 refl)) (lit ! tt) (record { fits = omega (arith, l, count-most) }))
+          (from ! (stop !)) (store ! 7 refl (tt, record { fits = omega (arith, l, count-most) })) $
           forget ! 11 refl $ forget ! 12 refl $ forget ! 13 refl $ forget ! 14 refl $ forget ! 15 refl $ forget ! 16 refl $ forget ! 17 refl $
           keep ! (1 ∷ 2 ∷ 3 ∷ 0 ∷ 4 ∷ 5 ∷ 6 ∷ 7 ∷ 8 ∷ 9 ∷ 10 ∷ 11 ∷ 12 ∷ 13 ∷ 14 ∷ 15 ∷ 16 ∷ 17 ∷ 18 ∷ 19 ∷ 20 ∷ 21 ∷ 22 ∷ 23 ∷ 24 ∷ 25 ∷ 26 ∷ 27 ∷
           28 ∷ 29 ∷ 30 ∷ 31 ∷ 32 ∷ []) $
@@ -228,14 +229,14 @@ module _ {M : Type 1} (𝓤 : URA M) (H : Heap 𝓤) (A : Atoms 𝓤) (W : Given
           (init ! 11 refl (tt, tt)) $
           rewrite ! 11 (λ (t : Bool). ‵ (fat fullShare tyBool l₈ 0 (vbool t))) (le-ltb count count (le-refl count)) refl $
           leaves-loop ! (load ! (from ! (stop !)) (look ! 11 refl)) $ exec ! (𝓣 .C) (𝓣 .Λ) En mir.t-7 (atRet En Post) $
-          feqI ! ℕ (length (parties count)) 512 (parties-length (le-refl count)) $
-          move ! (0 ∷ 4 ∷ []) $ fjoin ! $ use1 W (‵ (fat fullShare (array-type PartyRow 512) l₄ 0 (only (array-vals party-values (parties count)))) ⊛
-          ‵ ((ArrayRow PartyRow 512) .own (parties count) (array-vals party-values (parties count))))
-          (from-row PartyRow 512 𝓤 H A W party-values party-tells (parties count) l₄) $
-          split ! $ move ! (1 ∷ []) $ peeks ! (ArrayRow PartyRow 512) (Is (ArrayRow PartyRow 512)) (shows 𝓤 H A (ArrayRow PartyRow 512))
-          (parties count) (array-vals party-values (parties count)) (λ array-known.
+          feqI ! ℕ (length (parties count)) mostEntries (parties-length (le-refl count)) $
+          move ! (0 ∷ 4 ∷ []) $ fjoin ! $ use1 W (‵ (fat fullShare (array-type PartyRow mostEntries) l₄ 0
+          (only (array-vals party-values (parties count)))) ⊛ ‵ ((ArrayRow PartyRow mostEntries) .own (parties count)
+          (array-vals party-values (parties count)))) (from-row PartyRow mostEntries 𝓤 H A W party-values party-tells (parties count) l₄) $
+          split ! $ move ! (1 ∷ []) $ peeks ! (ArrayRow PartyRow mostEntries) (Is (ArrayRow PartyRow mostEntries))
+          (shows 𝓤 H A (ArrayRow PartyRow mostEntries)) (parties count) (array-vals party-values (parties count)) (λ array-known.
           assigns ! (of-opd ! (load ! (from ! (stop !)) (look ! 1 refl))) (from ! (stop !))
-          (init ! 9 refl (array-typed PartyRow 512 𝓤 H A W (party-lawful 𝓤 H A W) (parties count) _ array-known)) $
+          (init ! 9 refl (array-typed PartyRow mostEntries 𝓤 H A W (party-lawful 𝓤 H A W) (parties count) _ array-known)) $
           move ! (2 ∷ 3 ∷ []) $ shuts-slice ! tt PartyRow q′ table table-block table-offset $
           returns ! (look ! 8 refl) $
           forget ! 8 refl $ forget ! 4 refl $ forget ! 5 refl $ forget ! 6 refl $ forget ! 2 refl $ forget ! 7 refl $ forget ! 11 refl $
@@ -298,21 +299,21 @@ module _ {M : Type 1} (𝓤 : URA M) (H : Heap 𝓤) (A : Atoms 𝓤) (W : Given
         ((tt, tt, tt, tt, tt), tt))) (id⊢ 𝓤 _) $
         calls-at ! fm (tripleOf 𝓤 H A ledger-records-no-parties′.signature (ledger-records-no-parties′.spec 𝓤 H A mem run))
         known-ledger-records-no-parties ((tt, tt, tt, tt, tt), tt) (no-more !) (λ blank-value.
-        use1 W (later (some (λ (blank : List Party). ((‵ ftrue) ⊛ ‵ ((ArrayRow PartyRow 512) .own blank (blank-value ∷ []))) ⊛ raw
+        use1 W (later (some (λ (blank : List Party). ((‵ ftrue) ⊛ ‵ ((ArrayRow PartyRow mostEntries) .own blank (blank-value ∷ []))) ⊛ raw
         (ensured 𝓤 H A ledger-records-no-parties′.ended (ledger-records-no-parties′.clauses 𝓤 H A mem run) tt tt tt blank)))) (id⊢ 𝓤 _) $
         await ! tt $ pick ! (λ blank.
         split ! $ move ! (1 ∷ []) $ use1 W (raw (fact 𝓤 (blank ≡ zeros))) (exE 𝓤 _ (λ last.
         snd∗ 𝓤 (sem 𝓤 H A (lasts ledger-records-no-parties′.ended tt tt last)) (fact 𝓤 (blank ≡ zeros)))) $
         heard ! (blank ≡ zeros) (λ blank-is.
-        split ! $ rewrite ! 1 (λ (d : List Party). ‵ ((ArrayRow PartyRow 512) .own d (blank-value ∷ []))) blank-is refl $
-        move ! (1 ∷ []) $ peeks ! (ArrayRow PartyRow 512) (Is (ArrayRow PartyRow 512)) (shows 𝓤 H A (ArrayRow PartyRow 512)) zeros (blank-value ∷ [])
-        (λ blank-known.
-        land ! (from ! (stop !)) (init ! 21 refl (array-typed PartyRow 512 𝓤 H A W (party-lawful 𝓤 H A W) zeros _ blank-known)) $
+        split ! $ rewrite ! 1 (λ (d : List Party). ‵ ((ArrayRow PartyRow mostEntries) .own d (blank-value ∷ []))) blank-is refl $
+        move ! (1 ∷ []) $ peeks ! (ArrayRow PartyRow mostEntries) (Is (ArrayRow PartyRow mostEntries)) (shows 𝓤 H A (ArrayRow PartyRow mostEntries))
+        zeros (blank-value ∷ []) (λ blank-known.
+        land ! (from ! (stop !)) (init ! 21 refl (array-typed PartyRow mostEntries 𝓤 H A W (party-lawful 𝓤 H A W) zeros _ blank-known)) $
         assigns ! (of-opd ! (load ! (from ! (stop !)) (look ! 21 refl))) (from ! (stop !))
-        (init ! 27 refl (array-typed PartyRow 512 𝓤 H A W (party-lawful 𝓤 H A W) zeros _ blank-known)) $
+        (init ! 27 refl (array-typed PartyRow mostEntries 𝓤 H A W (party-lawful 𝓤 H A W) zeros _ blank-known)) $
         assigns ! (of-opd ! (lit ! tt)) (from ! (stop !)) (init ! 25 refl (tt, record { fits = lit< tt })) $
-        move ! (27 ∷ 0 ∷ []) $ use2 W (‵ (fsep (feq ℕ (length zeros) 512) (row PartyRow fullShare zeros l₄ 0)))
-        (to-row PartyRow 512 𝓤 H A W tt zeros blank-value l₄) $
+        move ! (27 ∷ 0 ∷ []) $ use2 W (‵ (fsep (feq ℕ (length zeros) mostEntries) (row PartyRow fullShare zeros l₄ 0)))
+        (to-row PartyRow mostEntries 𝓤 H A W tt zeros blank-value l₄) $
         fsplit ! $ drop ! $ move ! (4 ∷ []) $ use1 W (‵ (ShrSlice (named 0) κ₀ PartyRow .own (table-at table-name table) (table-value ∷ [])) ⊛
         ‵ (ShrSlice (named 0) κ₀ PartyRow .own (table-at table-name table) (table-value ∷ [])))
         (shr-slice-copy 𝓤 H A W (named 0) κ₀ PartyRow .twice (table-at table-name table) (table-value ∷ [])) $

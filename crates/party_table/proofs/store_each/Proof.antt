@@ -46,10 +46,11 @@ use denote.Triple.Spec.{Meets, tripleOf}
 use denote.Triple.Table.{entered, cited}
 use denote.Triple.Walked.{says, needs, Stays, stay-slice, stay-none, walkOf, goes-slice, goes-none, Walks, ends-at, walked, walk-meets}
 use denote.Exit.{yes}
+use Rattle.ledger.specs.Limits.{mostEntries}
 use Rattle.ledger.specs.Records.{noParty}
 use Rattle.ledger.specs.declared.records.Party.{Party}
 use Rattle.party_table.proofs.Lending.{LentAgain, lends-again, comes-back}
-use Rattle.party_table.proofs.Rows.{PartyRow, party-type, party-value, party-values, party-tells, party-lawful, party-makes, party-typed, ArrayRow, array-type, array-typed, to-row, from-row}
+use Rattle.party_table.proofs.MachineValues.{PartyRow, party-type, party-value, party-values, party-tells, party-lawful, party-makes, party-typed, ArrayRow, array-type, array-typed, to-row, from-row}
 use Rattle.party_table.proofs.Turns.{Less, less-wf, last-or-more}
 use Rattle.party_table.proofs.Copying.{copied, copied-next, copied-length}
 use Rattle.party_table.proofs.put_one as put-one′
@@ -63,13 +64,13 @@ use Rattle.party_table.proofs.store_each.Code as code
 use Rattle.party_table.proofs.store_each.Code.Mir as mir
 
 abbrev stayed : Stays (store-each′.ended .signature .params) (store-each′.ended .kept)
-stayed = (stay-slice (0 ∷ []) tt (plain (λ _. PartyRow)), (stay-none (λ _. u32) yes, (stay-none (λ _. ArrayRow PartyRow 512) yes, tt)))
+stayed = (stay-slice (0 ∷ []) tt (plain (λ _. PartyRow)), (stay-none (λ _. u32) yes, (stay-none (λ _. ArrayRow PartyRow mostEntries) yes, tt)))
 
 module _ {M : Type 1} (𝓤 : URA M) (H : Heap 𝓤) (A : Atoms 𝓤) (W : Given 𝓤 H A) (mem : Memory → SProp 𝓤) (run : Routine → Fun 𝓤)
     (κ₀ : Lft) (q₀ : Share) (table-block table-offset : ℕ) (table-name : GName) (table : List Party) (entries : ℕ) (parties : List Party)
     (table-fits : Room PartyRow (length table)) (entries-fits : entries < 2 ^ 32)
-    (parties-fits : Is (ArrayRow PartyRow 512) parties (array-vals party-values parties))
-    (required : (entries ≤ 512) × (entries ≤ length table)) where
+    (parties-fits : Is (ArrayRow PartyRow mostEntries) parties (array-vals party-values parties))
+    (required : (entries ≤ mostEntries) × (entries ≤ length table)) where
   abbrev table-at : GName → List Party → RefT (List Party)
   table-at name parties = record { ptr = (table-block, table-offset); name = name; now = parties }
 
@@ -82,7 +83,7 @@ module _ {M : Type 1} (𝓤 : URA M) (H : Heap 𝓤) (A : Atoms 𝓤) (W : Given
   abbrev values : List Val × (List Val × (List Val × Unit {0}))
   values = (table-value ∷ [], (vint w32 entries ∷ [], (only (array-vals party-values parties) ∷ [], tt)))
 
-  array-length : length parties ≡ 512
+  array-length : length parties ≡ mostEntries
   array-length = parties-fits .1 .0 .1
 
   inside : {i : ℕ} → i < entries → i < length parties
@@ -127,8 +128,8 @@ module _ {M : Type 1} (𝓤 : URA M) (H : Heap 𝓤) (A : Atoms 𝓤) (W : Given
       (ends-at 𝓤 H A store-each′.ended stayed (store-each′.clauses 𝓤 H A mem run) W (((κ₀, tt), (q₀, tt), tt, arguments, values), tt) vunit tt
       (after, (tt, (tt, tt))) (after-length, (tt, (tt, tt)))) $
       says ! refl $
-      nothing ! $ owned ! (ArrayRow PartyRow 512) (Is (ArrayRow PartyRow 512)) (array-makes 𝓤 H A W PartyRow (party-makes 𝓤 H A W) 512) parties _
-      parties-fits $
+      nothing ! $ owned ! (ArrayRow PartyRow mostEntries) (Is (ArrayRow PartyRow mostEntries))
+      (array-makes 𝓤 H A W PartyRow (party-makes 𝓤 H A W) mostEntries) parties _ parties-fits $
       fjoin ! $ owned ! u32 (Is u32) (uint-makes 𝓤 H A W w32) entries _ (refl, entries-fits) $
       fjoin ! $ move ! (2 ∷ 0 ∷ []) $ fjoin ! $ nothing ! $ move ! (2 ∷ 0 ∷ []) $ join ! $ frame ! $ frame ! $
       feqI ! (List Val) (vunit ∷ []) (vunit ∷ []) refl $ done !
@@ -137,15 +138,15 @@ module _ {M : Type 1} (𝓤 : URA M) (H : Heap 𝓤) (A : Atoms 𝓤) (W : Given
       (tripleOf 𝓤 H A put-one′.signature (put-one′.spec 𝓤 H A mem run))) where
     module _ (l₀ l₁ l₂ l₃ l₄ l₅ l₆ l₇ l₈ l₉ l₁₀ l₁₁ l₁₂ l₁₃ l₁₄ : ℕ) where
       abbrev En : Env 𝓤 H
-      En = (tyUnit, l₀) ∷ (sliceTy (tyRef (named 0) mut (pointee (PartyRow .written))), l₁) ∷ (tyInt w32, l₂) ∷ (array-type PartyRow 512, l₃) ∷
-          (array-type PartyRow 512, l₄) ∷ (tyInt w64, l₅) ∷ (tyInt w64, l₆) ∷ (tyBool, l₇) ∷ (tyUnit, l₈) ∷
+      En = (tyUnit, l₀) ∷ (sliceTy (tyRef (named 0) mut (pointee (PartyRow .written))), l₁) ∷ (tyInt w32, l₂) ∷ (array-type PartyRow mostEntries, l₃)
+          ∷ (array-type PartyRow mostEntries, l₄) ∷ (tyInt w64, l₅) ∷ (tyInt w64, l₆) ∷ (tyBool, l₇) ∷ (tyUnit, l₈) ∷
           (tyRef erased mut (pointee (PartyRow .written)), l₉) ∷ (sliceTy (tyRef erased mut (pointee (PartyRow .written))), l₁₀) ∷ (tyInt w64, l₁₁) ∷
           (tyPtr, l₁₂) ∷ (tyPtr, l₁₃) ∷ (party-type, l₁₄) ∷ []
 
       abbrev Dies : List (Item 𝓤)
       Dies = ‵ (fdies tyUnit l₀) ∷ ‵ (fdies (sliceTy (tyRef (named 0) mut (pointee (PartyRow .written)))) l₁) ∷ ‵ (fdies (tyInt w32) l₂) ∷
-          ‵ (fdies (array-type PartyRow 512) l₃) ∷ ‵ (fdies (array-type PartyRow 512) l₄) ∷ ‵ (fdies (tyInt w64) l₅) ∷ ‵ (fdies (tyInt w64) l₆) ∷
-          ‵ (fdies tyBool l₇) ∷ ‵ (fdies tyUnit l₈) ∷ ‵ (fdies (tyRef erased mut (pointee (PartyRow .written))) l₉) ∷
+          ‵ (fdies (array-type PartyRow mostEntries) l₃) ∷ ‵ (fdies (array-type PartyRow mostEntries) l₄) ∷ ‵ (fdies (tyInt w64) l₅) ∷
+          ‵ (fdies (tyInt w64) l₆) ∷ ‵ (fdies tyBool l₇) ∷ ‵ (fdies tyUnit l₈) ∷ ‵ (fdies (tyRef erased mut (pointee (PartyRow .written))) l₉) ∷
           ‵ (fdies (sliceTy (tyRef erased mut (pointee (PartyRow .written)))) l₁₀) ∷ ‵ (fdies (tyInt w64) l₁₁) ∷ ‵ (fdies tyPtr l₁₂) ∷
           ‵ (fdies tyPtr l₁₃) ∷ ‵ (fdies party-type l₁₄) ∷ []
 
@@ -157,7 +158,7 @@ module _ {M : Type 1} (𝓤 : URA M) (H : Heap 𝓤) (A : Atoms 𝓤) (W : Given
           ∷ ‵ (row PartyRow fullShare parties l₄ 0)
           ∷ ‵ (fat fullShare (sliceTy (tyRef (named 0) mut (pointee (PartyRow .written)))) l₁ 0 table-value)
           ∷ ‵ (fat fullShare (tyInt w32) l₂ 0 (vint w32 entries))
-          ∷ ‵ (fat fullShare (array-type PartyRow 512) l₃ 0 (only (array-vals party-values parties)))
+          ∷ ‵ (fat fullShare (array-type PartyRow mostEntries) l₃ 0 (only (array-vals party-values parties)))
           ∷ ‵ (fat fullShare (tyInt w64) l₅ 0 (vint w64 entries))
           ∷ ‵ (fat fullShare (tyInt w64) l₆ 0 (vint w64 i))
           ∷ ‵ (froom tyUnit l₀ 0)
@@ -275,10 +276,10 @@ module _ {M : Type 1} (𝓤 : URA M) (H : Heap 𝓤) (A : Atoms 𝓤) (W : Given
           rewrite ! 9 (λ (t : Bool). ‵ (fat fullShare tyBool l₇ 0 (vbool t))) (le-ltb entries entries (le-refl entries)) refl $
           leaves-loop ! (load ! (from ! (stop !)) (look ! 9 refl)) $ exec ! (𝓣 .C) (𝓣 .Λ) En mir.t-5 (atRet En Post) $
           assigns ! (of-opd ! (unit-lit !)) (from ! (stop !)) (init ! 8 refl (tt, tt)) $
-          feqI ! ℕ (length parties) 512 array-length $
-          move ! (0 ∷ 3 ∷ []) $ fjoin ! $ use1 W (‵ (fat fullShare (array-type PartyRow 512) l₄ 0 (only (array-vals party-values parties))) ⊛
-          ‵ ((ArrayRow PartyRow 512) .own parties (array-vals party-values parties)))
-          (from-row PartyRow 512 𝓤 H A W party-values party-tells parties l₄) $
+          feqI ! ℕ (length parties) mostEntries array-length $
+          move ! (0 ∷ 3 ∷ []) $ fjoin ! $ use1 W (‵ (fat fullShare (array-type PartyRow mostEntries) l₄ 0 (only (array-vals party-values parties))) ⊛
+          ‵ ((ArrayRow PartyRow mostEntries) .own parties (array-vals party-values parties)))
+          (from-row PartyRow mostEntries 𝓤 H A W party-values party-tells parties l₄) $
           split ! $ returns ! (look ! 9 refl) $
           forget ! 9 refl $ forget ! 4 refl $ forget ! 5 refl $ forget ! 6 refl $ forget ! 0 refl $ forget ! 7 refl $ forget ! 8 refl $
           forget ! 10 refl $
@@ -296,24 +297,26 @@ module _ {M : Type 1} (𝓤 : URA M) (H : Heap 𝓤) (A : Atoms 𝓤) (W : Given
     walk : ent 𝓤 (onEntry 𝓤 H A store-each′.signature (κ₀, tt) (q₀, tt) arguments values)
         (WpFn 𝓤 H (𝓣 .C) (𝓣 .Λ) code.function (table-value ∷ vint w32 entries ∷ only (array-vals party-values parties) ∷ []) Post)
     walk =
-        qed W ((‵ (flft κ₀ q₀) ⊛ ‵ ftrue) ∷ ‵ (owns (MutSlice (named 0) κ₀ PartyRow ∷ u32 ∷ ArrayRow PartyRow 512 ∷ []) arguments values) ∷ []) ∵
+        qed W ((‵ (flft κ₀ q₀) ⊛ ‵ ftrue) ∷ ‵ (owns (MutSlice (named 0) κ₀ PartyRow ∷ u32 ∷ ArrayRow PartyRow mostEntries ∷ []) arguments values) ∷
+        []) ∵
         enter ! (𝓣 .C) (𝓣 .Λ) code.function (table-value ∷ vint w32 entries ∷ only (array-vals party-values parties) ∷ []) _ $
         alloc1 ! (λ l₀. alloc1 ! (λ l₁. alloc1 ! (λ l₂. alloc1 ! (λ l₃. alloc1 ! (λ l₄.
         alloc1 ! (λ l₅. alloc1 ! (λ l₆. alloc1 ! (λ l₇. alloc1 ! (λ l₈. alloc1 ! (λ l₉.
         alloc1 ! (λ l₁₀. alloc1 ! (λ l₁₁. alloc1 ! (λ l₁₂. alloc1 ! (λ l₁₃. alloc1 ! (λ l₁₄. alloc0 ! $ params1 ! $
         pass1 ! (init ! 26 refl (tt, (tt, (record { fits = table-fits .0 }, tt)))) $
         pass1 ! (init ! 24 refl (tt, record { fits = entries-fits })) $
-        pass1 ! (init ! 22 refl (array-typed PartyRow 512 𝓤 H A W (party-lawful 𝓤 H A W) parties _ parties-fits)) $
+        pass1 ! (init ! 22 refl (array-typed PartyRow mostEntries 𝓤 H A W (party-lawful 𝓤 H A W) parties _ parties-fits)) $
         pass0 ! $
         move ! (30 ∷ []) $ split ! $ move ! (32 ∷ []) $ fsplit ! $ move ! (1 ∷ []) $ fsplit ! $ move ! (1 ∷ []) $ fsplit ! $ move ! (2 ∷ []) $
         drop ! $ drop ! $ assigns ! (of-opd ! (load ! (from ! (stop !)) (look ! 26 refl))) (from ! (stop !))
-        (init ! 24 refl (array-typed PartyRow 512 𝓤 H A W (party-lawful 𝓤 H A W) parties _ parties-fits)) $
+        (init ! 24 refl (array-typed PartyRow mostEntries 𝓤 H A W (party-lawful 𝓤 H A W) parties _ parties-fits)) $
         assigns ! (un ! (load ! (from ! (stop !)) (look ! 28 refl)) (record { fits = omega (arith, entries-fits) })) (from ! (stop !))
         (init ! 22 refl (tt, record { fits = omega (arith, entries-fits) })) $
         assigns ! (of-opd ! (lit ! tt)) (from ! (stop !)) (init ! 20 refl (tt, record { fits = lit< tt })) $
-        owned ! (ArrayRow PartyRow 512) (Is (ArrayRow PartyRow 512)) (array-makes 𝓤 H A W PartyRow (party-makes 𝓤 H A W) 512) parties _ parties-fits $
-        move ! (25 ∷ 0 ∷ []) $ use2 W (‵ (fsep (feq ℕ (length parties) 512) (row PartyRow fullShare parties l₄ 0)))
-        (to-row PartyRow 512 𝓤 H A W tt parties _ l₄) $
+        owned ! (ArrayRow PartyRow mostEntries) (Is (ArrayRow PartyRow mostEntries)) (array-makes 𝓤 H A W PartyRow (party-makes 𝓤 H A W) mostEntries)
+        parties _ parties-fits $
+        move ! (25 ∷ 0 ∷ []) $ use2 W (‵ (fsep (feq ℕ (length parties) mostEntries) (row PartyRow fullShare parties l₄ 0)))
+        (to-row PartyRow mostEntries 𝓤 H A W tt parties _ l₄) $
         fsplit ! $ drop ! $ rewrite ! 2 (λ (parties : List Party). ‵ (MutSlice (named 0) κ₀ PartyRow .own (table-at table-name parties)
         (table-value ∷ []))) changed-none refl $
         first ! $ blocks ! $
@@ -329,7 +332,7 @@ module _ {M : Type 1} (𝓤 : URA M) (H : Heap 𝓤) (A : Atoms 𝓤) (W : Given
   walks =
       walked 𝓤 H A store-each′.ended stayed (store-each′.clauses 𝓤 H A mem run) (WpFn 𝓤 H (𝓣 .C) (𝓣 .Λ) code.function)
       (λ κs. (slice-vals, (uint-vals w32, (array-vals party-values, tt))))
-      (λ κs. (mut-slice-tells (named 0) (κs .0) PartyRow, (uint-tells w32, (array-tells PartyRow party-values party-tells 512, tt))))
+      (λ κs. (mut-slice-tells (named 0) (κs .0) PartyRow, (uint-tells w32, (array-tells PartyRow party-values party-tells mostEntries, tt))))
       (λ κs qs bounds a g are. needs 𝓤 _ _ (λ required. walk 𝓤 H A W mem run
       (κs .0) (qs .0) (a .0 .ptr .0) (a .0 .ptr .1) (a .0 .name) (a .0 .now) (a .1 .0) (a .1 .1 .0) (are .0 .0 .1) (are .1 .0 .1) (are .1 .1 .0)
       required 𝓣 (fmOf 𝓤 H (W .laws) 𝓣) known-put-one))
@@ -341,7 +344,7 @@ module _ {M : Type 1} (𝓤 : URA M) (H : Heap 𝓤) (A : Atoms 𝓤) (W : Given
         (
           goes-none 𝓤 H A W 1 (λ _. u32) yes (λ κs x f.
               refl),
-          (goes-none 𝓤 H A W 1 (λ _. ArrayRow PartyRow 512) yes (λ κs x f. refl), tt),
+          (goes-none 𝓤 H A W 1 (λ _. ArrayRow PartyRow mostEntries) yes (λ κs x f. refl), tt),
         ),
       )
       (store-each′.clauses 𝓤 H A mem run) (WpFn 𝓤 H (𝓣 .C) (𝓣 .Λ) code.function) (WpFn-mono 𝓤 H (W .laws) 𝓣 code.function) walks

@@ -43,14 +43,15 @@ use denote.Triple.Spec.{Meets, tripleOf}
 use denote.Triple.Table.{entered, cited}
 use denote.Triple.Walked.{says, Stays, stay-slice, stay-none, walkOf, goes-slice, goes-none, Walks, ends-at, walked, walk-meets}
 use denote.Exit.{yes}
+use Rattle.ledger.specs.Limits.{mostEntries}
 use Rattle.ledger.specs.Records.{noParty}
 use Rattle.ledger.specs.declared.records.Party.{Party}
 use Rattle.party_table.proofs.Lending.{LentAgain, lends-again, comes-back}
-use Rattle.party_table.proofs.Rows.{PartyRow, party-lawful, party-makes, ArrayRow, array-typed}
+use Rattle.party_table.proofs.MachineValues.{PartyRow, party-lawful, party-makes, ArrayRow, array-typed}
 use Rattle.ledger.specs.Updates.{withPaidOut}
 use Rattle.entry_calls.specs.EntryCalls.{payOutChange, changedTable}
 use Rattle.party_table.specs.PartyTable.{snapshotOf}
-use Rattle.pioneer.specs.Calls.{notDone}
+use Rattle.pioneer.specs.ReadResult.{notDone}
 use Rattle.pioneer.proofs.Changes.{Changes, changed-length, refused-leaves, done-leaves, pay-out-changes, pay-out-promised}
 use Rattle.pioneer_accept.proofs.Records.{entries-fits}
 use Rattle.pioneer.proofs.Records.{paid-out-fits}
@@ -206,17 +207,17 @@ module _ {M : Type 1} (𝓤 : URA M) (H : Heap 𝓤) (A : Atoms 𝓤) (W : Given
         ) (and-then ! (load ! (from ! (stop !)) (look ! 18 refl)) (and-then ! (load ! (from ! (fld ! refl (stop !)))
         (look-in ! 32 (sub ! 4 refl (whole !)))) (no-more !))) (λ copied-value.
         use1 W (later (some (λ (copied : List Party). ((‵ (flft (ν ∷ []) fullShare) ⊛ ‵ ftrue) ⊛
-        ‵ ((ArrayRow PartyRow 512) .own copied (copied-value ∷ []))) ⊛ raw (ensured 𝓤 H A party-table-snapshot′.ended
+        ‵ ((ArrayRow PartyRow mostEntries) .own copied (copied-value ∷ []))) ⊛ raw (ensured 𝓤 H A party-table-snapshot′.ended
         (party-table-snapshot′.clauses 𝓤 H A mem run) (ν ∷ [], tt) (table-at δ table, ((ledger .entries), tt)) tt copied)))) (id⊢ 𝓤 _) $
         await ! tt $ pick ! (λ copied.
         split ! $ move ! (1 ∷ []) $ use1 W (raw (fact 𝓤 (copied ≡ parties))) (exE 𝓤 _ (λ last.
         snd∗ 𝓤 (sem 𝓤 H A (lasts party-table-snapshot′.ended (ν ∷ [], tt) (table-at δ table, ((ledger .entries), tt)) last))
         (fact 𝓤 (copied ≡ parties)))) $
         heard ! (copied ≡ parties) (λ copied-is.
-        split ! $ split ! $ rewrite ! 2 (λ (d : List Party). ‵ ((ArrayRow PartyRow 512) .own d (copied-value ∷ []))) copied-is refl $
-        move ! (2 ∷ []) $ facts ! (ArrayRow PartyRow 512) (Is (ArrayRow PartyRow 512)) (shows 𝓤 H A (ArrayRow PartyRow 512)) parties
-        (copied-value ∷ []) (λ copied-known.
-        land ! (from ! (stop !)) (init ! 25 refl (array-typed PartyRow 512 𝓤 H A W (party-lawful 𝓤 H A W) parties _ copied-known)) $
+        split ! $ split ! $ rewrite ! 2 (λ (d : List Party). ‵ ((ArrayRow PartyRow mostEntries) .own d (copied-value ∷ []))) copied-is refl $
+        move ! (2 ∷ []) $ facts ! (ArrayRow PartyRow mostEntries) (Is (ArrayRow PartyRow mostEntries)) (shows 𝓤 H A (ArrayRow PartyRow mostEntries))
+        parties (copied-value ∷ []) (λ copied-known.
+        land ! (from ! (stop !)) (init ! 25 refl (array-typed PartyRow mostEntries 𝓤 H A W (party-lawful 𝓤 H A W) parties _ copied-known)) $
         lft-end ! tt $
         move ! (0 ∷ 2 ∷ []) $ lent-back ! tt $
         fsplit ! $ drop ! $ move ! (0 ∷ 2 ∷ 3 ∷ 4 ∷ []) $ closes-slice ! tt PartyRow table table refl table-block table-offset $
@@ -226,8 +227,8 @@ module _ {M : Type 1} (𝓤 : URA M) (H : Heap 𝓤) (A : Atoms 𝓤) (W : Given
         nothing ! $ owned ! u64 (Is u64) (uint-makes 𝓤 H A W w64) amount _ (refl, amount-fits) $
         fjoin ! $ owned ! u32 (Is u32) (uint-makes 𝓤 H A W w32) entry _ (refl, entry-fits) $
         fjoin ! $ owned ! usize (Is usize) (uint-makes 𝓤 H A W w64) (length table) _ (refl, (table-fits .0)) $
-        fjoin ! $ owned ! (ArrayRow PartyRow 512) (Is (ArrayRow PartyRow 512)) (array-makes 𝓤 H A W PartyRow (party-makes 𝓤 H A W) 512) parties _
-        copied-known $
+        fjoin ! $ owned ! (ArrayRow PartyRow mostEntries) (Is (ArrayRow PartyRow mostEntries))
+        (array-makes 𝓤 H A W PartyRow (party-makes 𝓤 H A W) mostEntries) parties _ copied-known $
         fjoin ! $ owned ! LedgerRow (Is LedgerRow) (ledger-makes 𝓤 H A) ledger _ ledger-fits $
         fjoin ! $ nothing ! $ join ! $ nothing ! $ move ! (1 ∷ 0 ∷ []) $ join ! $ use1 W
         (raw ((tripleOf 𝓤 H A entry-calls-pay-out′.signature (entry-calls-pay-out′.spec 𝓤 H A mem run)) .pre (

@@ -39,14 +39,15 @@ use denote.Triple.Spec.{Meets, tripleOf}
 use denote.Triple.Table.{entered, cited}
 use denote.Triple.Walked.{says, Stays, stay-slice, stay-none-slice, stay-none, walkOf, goes-slice, goes-none-slice, goes-none, Walks, ends-at, walked, walk-meets}
 use denote.Exit.{yes}
+use Rattle.ledger.specs.Limits.{mostEntries}
 use Rattle.ledger.specs.declared.records.Party.{Party}
 use Rattle.party_table.proofs.Lending.{LentAgain, lends-again, comes-back}
-use Rattle.party_table.proofs.Rows.{PartyRow, party-lawful, party-makes, ArrayRow, array-typed}
+use Rattle.party_table.proofs.MachineValues.{PartyRow, party-lawful, party-makes, ArrayRow, array-typed}
 use mathlib.Core.List.{_++_}
 use lib.ListN.{drop as dropped}
 use Rattle.stored.specs.Reading.{readBack, ReadEnd, readOf}
-use Rattle.pioneer.specs.Calls.{readRefused, readResult}
-use Rattle.stored.specs.ReadFacts.{read-length}
+use Rattle.pioneer.specs.ReadResult.{readRefused, readResult}
+use Rattle.stored.specs.Theorems.ReadLedger.{read-length}
 use Rattle.pioneer.proofs.Readings.{read-same, refused-leaves, Stores, standing-stores}
 use Rattle.ledger.specs.declared.records.Ledger.{Ledger}
 use Rattle.pioneer_accept.proofs.Records.{LedgerRow, ledger-value, ledger-values, ledger-tells, ledger-makes, ledger-typed}
@@ -281,16 +282,16 @@ module _ {M : Type 1} (𝓤 : URA M) (H : Heap 𝓤) (A : Atoms 𝓤) (W : Given
         (id⊢ 𝓤 _) $
         calls-at ! fm (tripleOf 𝓤 H A parties-of′.signature (parties-of′.spec 𝓤 H A mem run)) known-parties-of
         ((tt, tt, tt, (back, tt), (found-value ∷ [], tt)), tt) (and-then ! (load ! (from ! (stop !)) (look ! 24 refl)) (no-more !)) (λ kept-value.
-        use1 W (later (some (λ (kept : List Party). ((‵ ftrue) ⊛ ‵ ((ArrayRow PartyRow 512) .own kept (kept-value ∷ []))) ⊛ raw
+        use1 W (later (some (λ (kept : List Party). ((‵ ftrue) ⊛ ‵ ((ArrayRow PartyRow mostEntries) .own kept (kept-value ∷ []))) ⊛ raw
         (ensured 𝓤 H A parties-of′.ended (parties-of′.clauses 𝓤 H A mem run) tt (back, tt) tt kept)))) (id⊢ 𝓤 _) $
         await ! tt $ pick ! (λ kept.
         split ! $ move ! (1 ∷ []) $ use1 W (raw (fact 𝓤 (kept ≡ back .parties))) (exE 𝓤 _ (λ last.
         snd∗ 𝓤 (sem 𝓤 H A (lasts parties-of′.ended tt (back, tt) last)) (fact 𝓤 (kept ≡ back .parties)))) $
         heard ! (kept ≡ back .parties) (λ kept-is.
-        split ! $ rewrite ! 1 (λ (d : List Party). ‵ ((ArrayRow PartyRow 512) .own d (kept-value ∷ []))) kept-is refl $
-        move ! (1 ∷ []) $ facts ! (ArrayRow PartyRow 512) (Is (ArrayRow PartyRow 512)) (shows 𝓤 H A (ArrayRow PartyRow 512)) (back .parties)
-        (kept-value ∷ []) (λ kept-known.
-        land ! (from ! (stop !)) (init ! 10 refl (array-typed PartyRow 512 𝓤 H A W (party-lawful 𝓤 H A W) (back .parties) _ kept-known)) $
+        split ! $ rewrite ! 1 (λ (d : List Party). ‵ ((ArrayRow PartyRow mostEntries) .own d (kept-value ∷ []))) kept-is refl $
+        move ! (1 ∷ []) $ facts ! (ArrayRow PartyRow mostEntries) (Is (ArrayRow PartyRow mostEntries)) (shows 𝓤 H A (ArrayRow PartyRow mostEntries))
+        (back .parties) (kept-value ∷ []) (λ kept-known.
+        land ! (from ! (stop !)) (init ! 10 refl (array-typed PartyRow mostEntries 𝓤 H A W (party-lawful 𝓤 H A W) (back .parties) _ kept-known)) $
         lft-new ! tt (λ ν.
         move ! (8 ∷ 10 ∷ []) $ use2 W (later (some (λ (δ : GName). ‵ (MutSlice (named 0) (ν ∷ []) PartyRow .own (table-at δ table)
         (table-value ∷ [])) ⊛ ‵ (LentAgain PartyRow κ₀ (ν ∷ []) q₀ table-name table-block table-offset δ table))))
@@ -298,12 +299,12 @@ module _ {M : Type 1} (𝓤 : URA M) (H : Heap 𝓤) (A : Atoms 𝓤) (W : Given
         await ! tt $ pick ! (λ δ.
         split ! $
         -- `party_table::store_each`
-        nothing ! $ owned ! (ArrayRow PartyRow 512) (Is (ArrayRow PartyRow 512)) (array-makes 𝓤 H A W PartyRow (party-makes 𝓤 H A W) 512)
-        (back .parties) _ kept-known $
+        nothing ! $ owned ! (ArrayRow PartyRow mostEntries) (Is (ArrayRow PartyRow mostEntries))
+        (array-makes 𝓤 H A W PartyRow (party-makes 𝓤 H A W) mostEntries) (back .parties) _ kept-known $
         fjoin ! $ owned ! u32 (Is u32) (uint-makes 𝓤 H A W w32) (back .ledger .entries) _ (refl, (count-known .1)) $
         fjoin ! $ move ! (1 ∷ 0 ∷ []) $ fjoin ! $ nothing ! $ move ! (3 ∷ 0 ∷ []) $ join ! $ join ! $ nothing ! $
-        use1 W (raw (fact 𝓤 ((back .ledger .entries ≤ 512) × (back .ledger .entries ≤ length table))))
-        (factI 𝓤 ((back .ledger .entries ≤ 512) × (back .ledger .entries ≤ length table)) (sem 𝓤 H A ftrue)
+        use1 W (raw (fact 𝓤 ((back .ledger .entries ≤ mostEntries) × (back .ledger .entries ≤ length table))))
+        (factI 𝓤 ((back .ledger .entries ≤ mostEntries) × (back .ledger .entries ≤ length table)) (sem 𝓤 H A ftrue)
         (stores tested .limit, stores tested .room)) $
         move ! (1 ∷ 0 ∷ []) $ join ! $ use1 W (raw ((tripleOf 𝓤 H A party-table-store-each′.signature (party-table-store-each′.spec 𝓤 H A mem run))
         .pre (

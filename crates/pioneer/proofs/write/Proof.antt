@@ -37,9 +37,10 @@ use denote.Triple.Spec.{Meets, tripleOf}
 use denote.Triple.Table.{entered, cited}
 use denote.Triple.Walked.{says, Stays, stay-slice, stay-none-slice, stay-none, walkOf, goes-slice, goes-none-slice, goes-none, Walks, ends-at, walked, walk-meets}
 use denote.Exit.{yes}
+use Rattle.ledger.specs.Limits.{mostEntries}
 use Rattle.ledger.specs.declared.records.Party.{Party}
 use Rattle.party_table.proofs.Lending.{LentAgain, lends-again, comes-back}
-use Rattle.party_table.proofs.Rows.{PartyRow, party-lawful, party-makes, ArrayRow, array-typed}
+use Rattle.party_table.proofs.MachineValues.{PartyRow, party-lawful, party-makes, ArrayRow, array-typed}
 use Rattle.party_table.specs.PartyTable.{snapshotOf}
 use Rattle.stored.specs.Writing.{writtenAnswer, writtenOutput}
 use Rattle.pioneer_accept.proofs.Records.{entries-fits}
@@ -148,18 +149,18 @@ module _ {M : Type 1} (𝓤 : URA M) (H : Heap 𝓤) (A : Atoms 𝓤) (W : Given
           tt,
         ) (and-then ! (load ! (from ! (stop !)) (look ! 16 refl)) (and-then ! (load ! (from ! (fld ! refl (stop !)))
         (look-in ! 18 (sub ! 4 refl (whole !)))) (no-more !))) (λ copied-value.
-        use1 W (later (some (λ (copied : List Party). ((‵ (flft κ₀ q₀) ⊛ ‵ ftrue) ⊛ ‵ ((ArrayRow PartyRow 512) .own copied (copied-value ∷ []))) ⊛
-        raw (ensured 𝓤 H A party-table-snapshot′.ended (party-table-snapshot′.clauses 𝓤 H A mem run) (κ₀, tt)
-        (table-at table-name table, ((ledger .entries), tt)) tt copied)))) (id⊢ 𝓤 _) $
+        use1 W (later (some (λ (copied : List Party). ((‵ (flft κ₀ q₀) ⊛ ‵ ftrue) ⊛
+        ‵ ((ArrayRow PartyRow mostEntries) .own copied (copied-value ∷ []))) ⊛ raw (ensured 𝓤 H A party-table-snapshot′.ended
+        (party-table-snapshot′.clauses 𝓤 H A mem run) (κ₀, tt) (table-at table-name table, ((ledger .entries), tt)) tt copied)))) (id⊢ 𝓤 _) $
         await ! tt $ pick ! (λ copied.
         split ! $ move ! (1 ∷ []) $ use1 W (raw (fact 𝓤 (copied ≡ parties))) (exE 𝓤 _ (λ last.
         snd∗ 𝓤 (sem 𝓤 H A (lasts party-table-snapshot′.ended (κ₀, tt) (table-at table-name table, ((ledger .entries), tt)) last))
         (fact 𝓤 (copied ≡ parties)))) $
         heard ! (copied ≡ parties) (λ copied-is.
-        split ! $ split ! $ rewrite ! 2 (λ (d : List Party). ‵ ((ArrayRow PartyRow 512) .own d (copied-value ∷ []))) copied-is refl $
-        move ! (2 ∷ []) $ facts ! (ArrayRow PartyRow 512) (Is (ArrayRow PartyRow 512)) (shows 𝓤 H A (ArrayRow PartyRow 512)) parties
-        (copied-value ∷ []) (λ copied-known.
-        land ! (from ! (stop !)) (init ! 13 refl (array-typed PartyRow 512 𝓤 H A W (party-lawful 𝓤 H A W) parties _ copied-known)) $
+        split ! $ split ! $ rewrite ! 2 (λ (d : List Party). ‵ ((ArrayRow PartyRow mostEntries) .own d (copied-value ∷ []))) copied-is refl $
+        move ! (2 ∷ []) $ facts ! (ArrayRow PartyRow mostEntries) (Is (ArrayRow PartyRow mostEntries)) (shows 𝓤 H A (ArrayRow PartyRow mostEntries))
+        parties (copied-value ∷ []) (λ copied-known.
+        land ! (from ! (stop !)) (init ! 13 refl (array-typed PartyRow mostEntries 𝓤 H A W (party-lawful 𝓤 H A W) parties _ copied-known)) $
         assigns ! (of-opd ! (load ! (from ! (fld ! refl (stop !))) (look-in ! 17 (sub ! 1 refl (whole !))))) (from ! (stop !))
         (init ! 11 refl (tt, record { fits = table-fits .0 })) $
         assigns ! (addr ! (from ! (fld ! refl (hop ! (look-in ! 15 (sub ! 0 refl (whole !))) (stop !))))) (from ! (stop !)) (init ! 9 refl (tt, tt)) $
@@ -173,8 +174,8 @@ module _ {M : Type 1} (𝓤 : URA M) (H : Heap 𝓤) (A : Atoms 𝓤) (W : Given
         split ! $
         -- `stored_writing::write`
         nothing ! $ move ! (1 ∷ 0 ∷ []) $ fjoin ! $ owned ! usize (Is usize) (uint-makes 𝓤 H A W w64) (length table) _ (refl, (table-fits .0)) $
-        fjoin ! $ owned ! (ArrayRow PartyRow 512) (Is (ArrayRow PartyRow 512)) (array-makes 𝓤 H A W PartyRow (party-makes 𝓤 H A W) 512) parties _
-        copied-known $
+        fjoin ! $ owned ! (ArrayRow PartyRow mostEntries) (Is (ArrayRow PartyRow mostEntries))
+        (array-makes 𝓤 H A W PartyRow (party-makes 𝓤 H A W) mostEntries) parties _ copied-known $
         fjoin ! $ owned ! LedgerRow (Is LedgerRow) (ledger-makes 𝓤 H A) ledger _ ledger-fits $
         fjoin ! $ nothing ! $ move ! (3 ∷ 0 ∷ []) $ join ! $ join ! $ nothing ! $ move ! (1 ∷ 0 ∷ []) $ join ! $
         use1 W (raw ((tripleOf 𝓤 H A stored-writing-write′.signature (stored-writing-write′.spec 𝓤 H A mem run)) .pre (

@@ -43,15 +43,19 @@ use denote.Triple.Spec.{Meets, tripleOf}
 use denote.Triple.Table.{entered, cited}
 use denote.Triple.Walked.{says, Stays, stay-slice, stay-none-slice, stay-none, walkOf, goes-slice, goes-none-slice, goes-none, Walks, ends-at, walked, walk-meets}
 use denote.Exit.{yes}
+use Rattle.ledger.specs.Limits.{mostSchemes, mostEntries}
 use Rattle.ledger.specs.declared.records.Party.{Party}
 use Rattle.party_table.proofs.Lending.{LentAgain, lends-again, comes-back}
-use Rattle.party_table.proofs.Rows.{PartyRow, party-lawful, party-makes, ArrayRow, array-typed}
+use Rattle.party_table.proofs.MachineValues.{PartyRow, party-lawful, party-makes, ArrayRow, array-typed}
 use Rattle.charge.specs.Price.{priceOf}
 use Rattle.acceptance.specs.Plan.{planOf, planTable}
 use Rattle.acceptance.specs.PlanFits.{PlanFits}
+use Rattle.acceptance.specs.Theorems.PlanPromised.{plan-promised}
 use Rattle.party_table.specs.PartyTable.{snapshotOf}
-use Rattle.pioneer_accept.specs.Calls.{notAccepted, carriedOut, acceptResult}
-use Rattle.pioneer_accept.proofs.Plans.{plan-length, kept-leaves, carried-leaves, plan-carries, plan-promised}
+use Rattle.acceptance.specs.PlanCarried.{planCarriedOut}
+use Rattle.pioneer_accept.specs.AcceptResult.{notAccepted, acceptResult}
+use Rattle.pioneer_accept.specs.Theorems.Snapshots.{same-entries}
+use Rattle.pioneer_accept.proofs.Plans.{plan-length, kept-leaves, carried-leaves, plan-carries}
 use Rattle.pioneer_accept.proofs.Records.{entries-fits, schemes-length}
 use Rattle.ledger.specs.declared.records.Ledger.{Ledger}
 use Rattle.pioneer_accept.proofs.Records.{LedgerRow, ledger-value, ledger-values, ledger-tells, ledger-makes, ledger-typed}
@@ -137,7 +141,7 @@ module _ {M : Type 1} (𝓤 : URA M) (H : Heap 𝓤) (A : Atoms 𝓤) (W : Given
   after-length : length after ≡ length table
   after-length = plan-length ledger table plan
 
-  places : length (ledger .schemes) ≡ 64
+  places : length (ledger .schemes) ≡ mostSchemes
   places = schemes-length ledger _ ledger-fits
 
   carries : T (not (notAccepted (plan .answer))) → PlanFits (ledger .entries) (length table) table plan
@@ -160,7 +164,7 @@ module _ {M : Type 1} (𝓤 : URA M) (H : Heap 𝓤) (A : Atoms 𝓤) (W : Given
       (ends-at 𝓤 H A accept′.ended stayed (accept′.clauses 𝓤 H A mem run) W (((κ₀, (κ₁, (κ₂, tt))), (q₀, (q₁, (q₂, tt))), tt, arguments, values), tt)
       v (acceptResult (plan .answer) (plan .ledger))
       (tt, (after, (tt, (tt, tt)))) (tt, (after-length, (tt, (tt, tt))))) $
-      says ! (plan-promised ledger table places book request) $
+      says ! (plan-promised (same-entries ledger table) places book request) $
       nothing ! $ move ! (6 ∷ 0 ∷ []) $ fjoin ! $ move ! (5 ∷ 0 ∷ []) $ fjoin ! $ move ! (4 ∷ 0 ∷ []) $ fjoin ! $
       owned ! LedgerRow (Is LedgerRow) (ledger-makes 𝓤 H A) ledger _ ledger-fits $
       fjoin ! $ nothing ! $ move ! (4 ∷ 0 ∷ []) $ join ! $ move ! (3 ∷ 0 ∷ []) $ join ! $ move ! (2 ∷ 0 ∷ []) $ join ! $ frame ! $ frame ! $ done !
@@ -214,17 +218,17 @@ module _ {M : Type 1} (𝓤 : URA M) (H : Heap 𝓤) (A : Atoms 𝓤) (W : Given
         ) (and-then ! (load ! (from ! (stop !)) (look ! 22 refl)) (and-then ! (load ! (from ! (fld ! refl (stop !)))
         (look-in ! 36 (sub ! 4 refl (whole !)))) (no-more !))) (λ copied-value.
         use1 W (later (some (λ (copied : List Party). ((‵ (flft (ν ∷ []) fullShare) ⊛ ‵ ftrue) ⊛
-        ‵ ((ArrayRow PartyRow 512) .own copied (copied-value ∷ []))) ⊛ raw (ensured 𝓤 H A party-table-snapshot′.ended
+        ‵ ((ArrayRow PartyRow mostEntries) .own copied (copied-value ∷ []))) ⊛ raw (ensured 𝓤 H A party-table-snapshot′.ended
         (party-table-snapshot′.clauses 𝓤 H A mem run) (ν ∷ [], tt) (table-at δ table, ((ledger .entries), tt)) tt copied)))) (id⊢ 𝓤 _) $
         await ! tt $ pick ! (λ copied.
         split ! $ move ! (1 ∷ []) $ use1 W (raw (fact 𝓤 (copied ≡ parties))) (exE 𝓤 _ (λ last.
         snd∗ 𝓤 (sem 𝓤 H A (lasts party-table-snapshot′.ended (ν ∷ [], tt) (table-at δ table, ((ledger .entries), tt)) last))
         (fact 𝓤 (copied ≡ parties)))) $
         heard ! (copied ≡ parties) (λ copied-is.
-        split ! $ split ! $ rewrite ! 2 (λ (d : List Party). ‵ ((ArrayRow PartyRow 512) .own d (copied-value ∷ []))) copied-is refl $
-        move ! (2 ∷ []) $ facts ! (ArrayRow PartyRow 512) (Is (ArrayRow PartyRow 512)) (shows 𝓤 H A (ArrayRow PartyRow 512)) parties
-        (copied-value ∷ []) (λ copied-known.
-        land ! (from ! (stop !)) (init ! 29 refl (array-typed PartyRow 512 𝓤 H A W (party-lawful 𝓤 H A W) parties _ copied-known)) $
+        split ! $ split ! $ rewrite ! 2 (λ (d : List Party). ‵ ((ArrayRow PartyRow mostEntries) .own d (copied-value ∷ []))) copied-is refl $
+        move ! (2 ∷ []) $ facts ! (ArrayRow PartyRow mostEntries) (Is (ArrayRow PartyRow mostEntries)) (shows 𝓤 H A (ArrayRow PartyRow mostEntries))
+        parties (copied-value ∷ []) (λ copied-known.
+        land ! (from ! (stop !)) (init ! 29 refl (array-typed PartyRow mostEntries 𝓤 H A W (party-lawful 𝓤 H A W) parties _ copied-known)) $
         lft-end ! tt $
         move ! (0 ∷ 2 ∷ []) $ lent-back ! tt $
         fsplit ! $ drop ! $ move ! (0 ∷ 2 ∷ 3 ∷ 4 ∷ []) $ closes-slice ! tt PartyRow table table refl table-block table-offset $
@@ -240,8 +244,8 @@ module _ {M : Type 1} (𝓤 : URA M) (H : Heap 𝓤) (A : Atoms 𝓤) (W : Given
         -- `acceptance::accept::accept`
         nothing ! $ move ! (2 ∷ 0 ∷ []) $ fjoin ! $ move ! (3 ∷ 0 ∷ []) $ fjoin ! $
         owned ! usize (Is usize) (uint-makes 𝓤 H A W w64) (length table) _ (refl, (table-fits .0)) $
-        fjoin ! $ owned ! (ArrayRow PartyRow 512) (Is (ArrayRow PartyRow 512)) (array-makes 𝓤 H A W PartyRow (party-makes 𝓤 H A W) 512) parties _
-        copied-known $
+        fjoin ! $ owned ! (ArrayRow PartyRow mostEntries) (Is (ArrayRow PartyRow mostEntries))
+        (array-makes 𝓤 H A W PartyRow (party-makes 𝓤 H A W) mostEntries) parties _ copied-known $
         fjoin ! $ owned ! LedgerRow (Is LedgerRow) (ledger-makes 𝓤 H A) ledger _ ledger-fits $
         fjoin ! $ nothing ! $ move ! (8 ∷ 0 ∷ []) $ join ! $ move ! (9 ∷ 0 ∷ []) $ join ! $ join ! $ nothing ! $ move ! (1 ∷ 0 ∷ []) $ join ! $
         use1 W (raw ((tripleOf 𝓤 H A acceptance-accept-accept′.signature (acceptance-accept-accept′.spec 𝓤 H A mem run)) .pre (
@@ -377,10 +381,10 @@ module _ {M : Type 1} (𝓤 : URA M) (H : Heap 𝓤) (A : Atoms 𝓤) (W : Given
         await ! tt $ pick ! (λ done.
         split ! $ move ! (1 ∷ []) $ use1 W (some (λ (last : List Party × (Unit {0} × (Unit {0} × Unit {0}))).
         ‵ (lasts carry-out′.ended (ν ∷ [], tt) (table-at δ table, ((ledger .entries), (plan, tt))) last) ⊛ raw
-        (fact 𝓤 (last .0 ≡ carriedOut (ledger .entries) table plan)))) (id⊢ 𝓤 _) $
+        (fact 𝓤 (last .0 ≡ planCarriedOut (ledger .entries) table plan)))) (id⊢ 𝓤 _) $
         pick ! (λ last.
         split ! $ fsplit ! $ fsplit ! $ move ! (1 ∷ []) $ feqL ! (λ last-length.
-        move ! (2 ∷ []) $ heard ! (last .0 ≡ carriedOut (ledger .entries) table plan) (λ done-is.
+        move ! (2 ∷ []) $ heard ! (last .0 ≡ planCarriedOut (ledger .entries) table plan) (λ done-is.
         move ! (2 ∷ []) $ split ! $ split ! $ move ! (2 ∷ []) $ facts ! unit (Is unit) (shows 𝓤 H A unit) done (done-value ∷ []) (λ done-known.
         land ! (from ! (stop !)) (init ! 18 refl (nothing-lawful 𝓤 H A W .typed done _ done-known .0)) $
         lft-end ! tt $

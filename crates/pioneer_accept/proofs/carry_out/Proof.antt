@@ -39,14 +39,15 @@ use denote.Triple.Spec.{Meets, tripleOf}
 use denote.Triple.Table.{entered, cited}
 use denote.Triple.Walked.{says, needs, Stays, stay-slice, stay-none, walkOf, goes-slice, goes-none, Walks, ends-at, walked, walk-meets}
 use denote.Exit.{yes}
+use Rattle.ledger.specs.Limits.{mostEntries}
 use Rattle.ledger.specs.declared.records.Party.{Party}
 use Rattle.party_table.proofs.Lending.{LentAgain, lends-again, comes-back}
-use Rattle.party_table.proofs.Rows.{PartyRow, party-lawful, party-makes, ArrayRow, array-typed}
+use Rattle.party_table.proofs.MachineValues.{PartyRow, party-lawful, party-makes, ArrayRow, array-typed}
 use lib.Seq.{length-sets}
-use Rattle.ledger.specs.Table.{creditEach}
-use Rattle.ledger.specs.TableLaws.{length-credit-each}
-use Rattle.acceptance.specs.PlanFits.{CreditsFit, PlanFits}
-use Rattle.pioneer_accept.specs.Calls.{carriedOut}
+use Rattle.ledger.specs.Table.{creditEach, CreditsFit}
+use Rattle.ledger.specs.Theorems.Table.{length-credit-each}
+use Rattle.acceptance.specs.PlanFits.{PlanFits}
+use Rattle.acceptance.specs.PlanCarried.{planCarriedOut}
 use Rattle.acceptance.specs.declared.accept.Plan.{Plan}
 use Rattle.pioneer_accept.proofs.Records.{PlanRow, plan-value, plan-values, plan-tells, plan-makes, plan-typed}
 use Rattle.pioneer_accept.proofs.credits_of as credits-of′
@@ -103,7 +104,7 @@ module _ {M : Type 1} (𝓤 : URA M) (H : Heap 𝓤) (A : Atoms 𝓤) (W : Given
   count = plan .«added_count»
 
   abbrev after : List Party
-  after = carriedOut entries table plan
+  after = planCarriedOut entries table plan
 
   after-length : length after ≡ length table
   after-length = length-sets credited entries (take count (plan .added)) ∙ credited-length
@@ -157,16 +158,16 @@ module _ {M : Type 1} (𝓤 : URA M) (H : Heap 𝓤) (A : Atoms 𝓤) (W : Given
         calls-at ! fm (tripleOf 𝓤 H A credits-of′.signature (credits-of′.spec 𝓤 H A mem run)) known-credits-of
         ((tt, tt, tt, (plan, tt), (plan-value plan ∷ [], tt)), tt) (and-then ! (load ! (from ! (stop !)) (look ! 21 refl)) (no-more !))
         (λ shares-value.
-        use1 W (later (some (λ (shares : List ℕ). ((‵ ftrue) ⊛ ‵ ((ArrayRow u64 512) .own shares (shares-value ∷ []))) ⊛ raw
+        use1 W (later (some (λ (shares : List ℕ). ((‵ ftrue) ⊛ ‵ ((ArrayRow u64 mostEntries) .own shares (shares-value ∷ []))) ⊛ raw
         (ensured 𝓤 H A credits-of′.ended (credits-of′.clauses 𝓤 H A mem run) tt (plan, tt) tt shares)))) (id⊢ 𝓤 _) $
         await ! tt $ pick ! (λ shares.
         split ! $ move ! (1 ∷ []) $ use1 W (raw (fact 𝓤 (shares ≡ plan .credits))) (exE 𝓤 _ (λ last.
         snd∗ 𝓤 (sem 𝓤 H A (lasts credits-of′.ended tt (plan, tt) last)) (fact 𝓤 (shares ≡ plan .credits)))) $
         heard ! (shares ≡ plan .credits) (λ shares-is.
-        split ! $ rewrite ! 1 (λ (d : List ℕ). ‵ ((ArrayRow u64 512) .own d (shares-value ∷ []))) shares-is refl $
-        move ! (1 ∷ []) $ facts ! (ArrayRow u64 512) (Is (ArrayRow u64 512)) (shows 𝓤 H A (ArrayRow u64 512)) (plan .credits) (shares-value ∷ [])
-        (λ shares-known.
-        land ! (from ! (stop !)) (init ! 13 refl (array-typed u64 512 𝓤 H A W (uint-lawful 𝓤 H A W w64) (plan .credits) _ shares-known)) $
+        split ! $ rewrite ! 1 (λ (d : List ℕ). ‵ ((ArrayRow u64 mostEntries) .own d (shares-value ∷ []))) shares-is refl $
+        move ! (1 ∷ []) $ facts ! (ArrayRow u64 mostEntries) (Is (ArrayRow u64 mostEntries)) (shows 𝓤 H A (ArrayRow u64 mostEntries)) (plan .credits)
+        (shares-value ∷ []) (λ shares-known.
+        land ! (from ! (stop !)) (init ! 13 refl (array-typed u64 mostEntries 𝓤 H A W (uint-lawful 𝓤 H A W w64) (plan .credits) _ shares-known)) $
         lft-new ! tt (λ ν.
         move ! (3 ∷ 4 ∷ []) $ use2 W (later (some (λ (δ : GName). ‵ (MutSlice (named 0) (ν ∷ []) PartyRow .own (table-at δ table) (table-value ∷ []))
         ⊛ ‵ (LentAgain PartyRow κ₀ (ν ∷ []) q₀ table-name table-block table-offset δ table))))
@@ -174,12 +175,12 @@ module _ {M : Type 1} (𝓤 : URA M) (H : Heap 𝓤) (A : Atoms 𝓤) (W : Given
         await ! tt $ pick ! (λ δ.
         split ! $
         -- `party_table::credit_each`
-        nothing ! $ owned ! (ArrayRow u64 512) (Is (ArrayRow u64 512)) (array-makes 𝓤 H A W u64 (uint-makes 𝓤 H A W w64) 512) (plan .credits) _
-        shares-known $
+        nothing ! $ owned ! (ArrayRow u64 mostEntries) (Is (ArrayRow u64 mostEntries)) (array-makes 𝓤 H A W u64 (uint-makes 𝓤 H A W w64) mostEntries)
+        (plan .credits) _ shares-known $
         fjoin ! $ owned ! u32 (Is u32) (uint-makes 𝓤 H A W w32) entries _ (refl, entries-fits) $
         fjoin ! $ move ! (1 ∷ 0 ∷ []) $ fjoin ! $ nothing ! $ move ! (3 ∷ 0 ∷ []) $ join ! $ join ! $ nothing ! $
-        use1 W (raw (fact 𝓤 ((entries ≤ 512) × (entries ≤ length table) × CreditsFit entries table (plan .credits))))
-        (factI 𝓤 ((entries ≤ 512) × (entries ≤ length table) × CreditsFit entries table (plan .credits)) (sem 𝓤 H A ftrue)
+        use1 W (raw (fact 𝓤 ((entries ≤ mostEntries) × (entries ≤ length table) × CreditsFit entries table (plan .credits))))
+        (factI 𝓤 ((entries ≤ mostEntries) × (entries ≤ length table) × CreditsFit entries table (plan .credits)) (sem 𝓤 H A ftrue)
         (omega (arith, required .limit), omega (arith, required .places), required .credits)) $
         move ! (1 ∷ 0 ∷ []) $ join ! $ use1 W (raw ((tripleOf 𝓤 H A party-table-credit-each′.signature (party-table-credit-each′.spec 𝓤 H A mem run))
         .pre (

@@ -4,11 +4,12 @@ use native.Mathlib.Omega.{arith}
 use lib.ListN.{length-take}
 use lib.Seq.{take-all}
 use borrow.Author.Needs.{needs}
+use Rattle.print_slip.specs.Counted.{countedSize}
 use Rattle.print_slip.proofs.counted.Statement.{statement}
 use Rattle.print_slip.proofs.counted.Tie as tie
 
 returns : tie.Need-returns
-returns c = (sym (take-all 4096 _ (omega arith)), refl)
+returns c = (sym (take-all countedSize _ (omega arith)), refl)
 
 slice-aggregate-result : tie.Need-slice-aggregate-result
 slice-aggregate-result c = simp length-take (omega arith)

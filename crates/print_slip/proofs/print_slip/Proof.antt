@@ -3,7 +3,8 @@ use Prim.Native.Nat.{_≤_}
 use mathlib.Core.Path.{sym, _∙_}
 use lib.ListN.{replicate}
 use lib.Seq.{length-take-le}
-use Rattle.slip_text.specs.SlipFacts.{written-within}
+use Rattle.slip_text.specs.Slip.{room}
+use Rattle.slip_text.specs.Theorems.Slip.{written-within}
 use native.Mathlib.Omega.{arith}
 use borrow.Author.Needs.{needs}
 use Rattle.print_slip.proofs.print_slip.Statement.{statement}
@@ -43,10 +44,10 @@ enum-known-written : tie.Need-enum-known-written
 enum-known-written c = search needs
 
 -- the slip fits the buffer
-size-fits : (c : tie.After-known-told) → c .before .written .given .0 .0 ≤ 256
+size-fits : (c : tie.After-known-told) → c .before .written .given .0 .0 ≤ room
 size-fits c =
     let slip = c .before .before .before .before .files-slip in
-    written-within _ (replicate 256 0) (c .before .written .given .0 .0) (sym (slip .ensures .0) ∙ c .before .written .given .1)
+    written-within _ (replicate room 0) (c .before .written .given .0 .0) (sym (slip .ensures .0) ∙ c .before .written .given .1)
 
 array-share-prefix-text : tie.Need-array-share-prefix-text
 array-share-prefix-text c = omega (arith, size-fits c, c .before .before .before .before .files-slip .kept .1 .1 .0)

@@ -59,20 +59,20 @@ signed-requires-12 c κs = search needs
 signed-requires-13 : tie.Need-signed-requires-13
 signed-requires-13 c κs = search needs
 
-percent-told-requires : tie.Need-percent-told-requires
-percent-told-requires c κs = search needs
+percent-is-there-requires : tie.Need-percent-is-there-requires
+percent-is-there-requires c κs = search needs
 
 percent-figure-requires : tie.Need-percent-figure-requires
 percent-figure-requires c κs = search needs
 
-percent-told-requires-2 : tie.Need-percent-told-requires-2
-percent-told-requires-2 c κs = search needs
+percent-is-there-requires-2 : tie.Need-percent-is-there-requires-2
+percent-is-there-requires-2 c κs = search needs
 
 percent-figure-requires-2 : tie.Need-percent-figure-requires-2
 percent-figure-requires-2 c κs = search needs
 
-percent-told-requires-3 : tie.Need-percent-told-requires-3
-percent-told-requires-3 c κs = search needs
+percent-is-there-requires-3 : tie.Need-percent-is-there-requires-3
+percent-is-there-requires-3 c κs = search needs
 
 percent-figure-requires-3 : tie.Need-percent-figure-requires-3
 percent-figure-requires-3 c κs = search needs
@@ -110,11 +110,11 @@ returns c =
       back (after13 .signed13 .ensures) (after13 .signed13 .ok),
       toZ-ofZ w64 (start .args .r .nic) (nic-within start),
       toZ-ofZ w64 (start .args .r .nc) (nc-within start),
-      back (last .before .before .before .before .before .percent-told .ensures) (last .before .before .before .before .before .percent-told .ok),
+      back (last .before .before .before .before .before .percent-is-there .ensures) (last .before .before .before .before .before .percent-is-there .ok),
       back (last .before .before .before .before .percent-figure .ensures) (last .before .before .before .before .percent-figure .ok),
-      back (last .before .before .before .percent-told2 .ensures) (last .before .before .before .percent-told2 .ok),
+      back (last .before .before .before .percent-is-there2 .ensures) (last .before .before .before .percent-is-there2 .ok),
       back (last .before .before .percent-figure2 .ensures) (last .before .before .percent-figure2 .ok),
-      back (last .before .percent-told3 .ensures) (last .before .percent-told3 .ok),
+      back (last .before .percent-is-there3 .ensures) (last .before .percent-is-there3 .ok),
       back (last .percent-figure3 .ensures) (last .percent-figure3 .ok),
     )
 
@@ -135,10 +135,10 @@ figure-places-spec =
     signed-requires-11
     signed-requires-12
     signed-requires-13
-    percent-told-requires
+    percent-is-there-requires
     percent-figure-requires
-    percent-told-requires-2
+    percent-is-there-requires-2
     percent-figure-requires-2
-    percent-told-requires-3
+    percent-is-there-requires-3
     percent-figure-requires-3
     returns)

@@ -6,8 +6,8 @@ use Rattle.numbers.specs.BigEndian.{Bytes}
 use Rattle.calls.specs.Decision.{accept}
 use Rattle.quoting_unit.specs.Interface.{lentBoth}
 use Rattle.quoting_unit.specs.Unit.{onLedger}
-use Rattle.quoting_unit.specs.UnitFacts.{accepted-bounded}
-use Rattle.quoting_unit.specs.UnitBuffers.{first-short, second-short, both-long}
+use Rattle.quoting_unit.specs.Theorems.UnitFigures.{accepted-bounded}
+use Rattle.quoting_unit.specs.Theorems.UnitBuffers.{first-short, second-short, both-long}
 use Rattle.quoting_unit.proofs.fikrem_accept.Statement.{statement}
 use Rattle.quoting_unit.proofs.fikrem_accept.Tie as tie
 

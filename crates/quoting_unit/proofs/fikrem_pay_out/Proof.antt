@@ -5,7 +5,7 @@ use borrow.Author.Needs.{needs}
 use Rattle.calls.specs.Decision.{payOut}
 use Rattle.quoting_unit.specs.Interface.{lentOutput}
 use Rattle.quoting_unit.specs.Unit.{onLedger}
-use Rattle.quoting_unit.specs.UnitBuffers.{answer-short, answer-long}
+use Rattle.quoting_unit.specs.Theorems.UnitBuffers.{answer-short, answer-long}
 use Rattle.quoting_unit.proofs.fikrem_pay_out.Statement.{statement}
 use Rattle.quoting_unit.proofs.fikrem_pay_out.Tie as tie
 

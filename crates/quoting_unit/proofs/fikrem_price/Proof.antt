@@ -3,10 +3,10 @@ use mathlib.Core.Path.{refl, sym, _∙_}
 use native.Mathlib.Omega.{arith}
 use borrow.Author.Needs.{needs}
 use Rattle.numbers.specs.BigEndian.{Bytes}
-use Rattle.charge.specs.PriceFacts.{priced-within}
+use Rattle.charge.specs.Theorems.Bill.{priced-within}
 use Rattle.quoting_unit.specs.Interface.{lentFigures}
 use Rattle.quoting_unit.specs.Unit.{price}
-use Rattle.quoting_unit.specs.UnitBuffers.{figures-short, figures-long}
+use Rattle.quoting_unit.specs.Theorems.UnitBuffers.{figures-short, figures-long}
 use Rattle.quoting_unit.proofs.fikrem_price.Statement.{statement}
 use Rattle.quoting_unit.proofs.fikrem_price.Tie as tie
 

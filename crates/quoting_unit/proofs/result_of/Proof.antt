@@ -21,8 +21,8 @@ mul-low-2 c = search needs
 add-low-2 : tie.Need-add-low-2
 add-low-2 c = search needs
 
-place-told-requires : tie.Need-place-told-requires
-place-told-requires c κs = search needs
+place-in-result-requires : tie.Need-place-in-result-requires
+place-in-result-requires c κs = search needs
 
 mul-result : tie.Need-mul-result
 mul-result c = search needs
@@ -31,8 +31,8 @@ add-result : tie.Need-add-result
 add-result c = search needs
 
 returns : tie.Need-returns
-returns c = rw (c .place-told .ensures .0)
+returns c = rw (c .place-in-result .ensures .0)
 
 pub result-of-spec : {M : Type 1} → statement M
 result-of-spec =
-    tie.close (tie.spec cast-number cast-file mul-low add-low mul-low-2 add-low-2 place-told-requires mul-result add-result returns)
+    tie.close (tie.spec cast-number cast-file mul-low add-low mul-low-2 add-low-2 place-in-result-requires mul-result add-result returns)

@@ -9,15 +9,16 @@ use lib.ListN.{length, getD}
 use Rattle.slip_text.proofs.Copying.{copied, copy-one-more, copied-whole}
 use native.Mathlib.Omega.{arith}
 use borrow.Author.Needs.{needs}
+use Rattle.quoting_unit.specs.Interface.{figurePlaces}
 use Rattle.quoting_unit.proofs.write_figures.Statement.{statement}
 use Rattle.quoting_unit.proofs.write_figures.Tie as tie
 
 abbrev Inv-loop : tie.InvT-loop
 Inv-loop figures₀ places i₀ figures i =
-    (figures ≡ copied figures₀ places i) × (length figures ≡ length figures₀) × (i ≤ 21)
+    (figures ≡ copied figures₀ places i) × (length figures ≡ length figures₀) × (i ≤ figurePlaces)
 
 abbrev μ-loop : tie.MeasureT-loop
-μ-loop figures₀ places i₀ figures i = 21 - i
+μ-loop figures₀ places i₀ figures i = figurePlaces - i
 
 figure-places-requires : tie.Need-figure-places-requires Inv-loop μ-loop
 figure-places-requires c κs = search needs
@@ -49,7 +50,7 @@ loop-again c =
     let i = head .loop .i in
     let places = head .before .figure-places .result in
     let before = head .before .before .args .figures .now in
-    let long : length places ≡ 21 = search needs in
+    let long : length places ≡ figurePlaces = search needs in
     let fits : SFits w64 (getD places i (pos 0)) = search needs in (
       rw (toZ-ofZ w64 (getD places i (pos 0)) fits)
           (copy-one-more before places i (pos 0) (head .loop .inv .0) (omega arith) (omega arith)),
@@ -64,10 +65,10 @@ returns : tie.Need-returns Inv-loop μ-loop
 returns c =
     let end = c .before in
     let places = end .before .figure-places .result in
-    let long : length places ≡ 21 = search needs in
-    let all : end .loop .i ≡ 21 = omega arith in
+    let long : length places ≡ figurePlaces = search needs in
+    let all : end .loop .i ≡ figurePlaces = omega arith in
     let before = end .before .before .args .figures .now in
-    rw (end .before .figure-places .ensures) at (copied-whole before places 21 (rw all at (end .loop .inv .0)) long)
+    rw (end .before .figure-places .ensures) at (copied-whole before places figurePlaces (rw all at (end .loop .inv .0)) long)
 
 pub write-figures-spec : {M : Type 1} → statement M
 write-figures-spec =

@@ -5,15 +5,16 @@ use lib.ListN.{length}
 use Rattle.slip_text.proofs.Copying.{copied, copy-one-more, copied-whole}
 use native.Mathlib.Omega.{arith}
 use borrow.Author.Needs.{needs}
+use Rattle.quoting_unit.specs.Interface.{answerPlaces}
 use Rattle.quoting_unit.proofs.write_places.Statement.{statement}
 use Rattle.quoting_unit.proofs.write_places.Tie as tie
 
 abbrev Inv-loop : tie.InvT-loop
 Inv-loop answer₀ told i₀ answer i =
-    (answer ≡ copied answer₀ told i) × (length answer ≡ length answer₀) × (i ≤ 4)
+    (answer ≡ copied answer₀ told i) × (length answer ≡ length answer₀) × (i ≤ answerPlaces)
 
 abbrev μ-loop : tie.MeasureT-loop
-μ-loop answer₀ told i₀ answer i = 4 - i
+μ-loop answer₀ told i₀ answer i = answerPlaces - i
 
 loop-holds : tie.Need-loop-holds Inv-loop μ-loop
 loop-holds c = search needs
@@ -43,7 +44,7 @@ loop-again c =
     let args = head .before .args in
     let told = args .t1 in
     let before = args .answer .now in
-    let long : length told ≡ 4 = search needs in (
+    let long : length told ≡ answerPlaces = search needs in (
       copy-one-more before told i 0 (head .loop .inv .0) (omega arith) (omega arith),
       search needs,
       omega arith,
@@ -57,9 +58,9 @@ returns c =
     let end = c .before in
     let args = end .before .args in
     let told = args .t1 in
-    let long : length told ≡ 4 = search needs in
-    let all : end .loop .i ≡ 4 = omega arith in
-    copied-whole (args .answer .now) told 4 (rw all at (end .loop .inv .0)) long
+    let long : length told ≡ answerPlaces = search needs in
+    let all : end .loop .i ≡ answerPlaces = omega arith in
+    copied-whole (args .answer .now) told answerPlaces (rw all at (end .loop .inv .0)) long
 
 pub write-places-spec : {M : Type 1} → statement M
 write-places-spec =

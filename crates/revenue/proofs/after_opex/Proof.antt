@@ -1,7 +1,7 @@
 -- By the contract of `scaled`; scaling is monotone, so the limits of revenue and opex factor give at most 1,000,000,000.
 use native.Mathlib.Omega.{arith}
 use borrow.Author.Needs.{needs}
-use Rattle.revenue.specs.RevenueLaws.{scaled-monotone}
+use Rattle.revenue.specs.Theorems.Revenue.{scaled-monotone}
 use Rattle.revenue.proofs.after_opex.Statement.{statement}
 use Rattle.revenue.proofs.after_opex.Tie as tie
 

@@ -5,13 +5,14 @@ use native.Mathlib.Numerals.{add-one}
 use native.Mathlib.Omega.{arith}
 use borrow.Author.Needs.{needs}
 use Rattle.revenue.specs.Revenue.{discount, incrementalRevenue}
-use Rattle.revenue.specs.RevenueLaws.{years-at-most}
+use Rattle.revenue.specs.RevenueLimits.{highestDiscount}
+use Rattle.revenue.specs.Theorems.Revenue.{years-at-most}
 use Rattle.revenue.proofs.incremental_revenue.Statement.{statement}
 use Rattle.revenue.proofs.incremental_revenue.Tie as tie
 
 abbrev Inv-loop : tie.InvT-loop
 Inv-loop distribution transmission b life sum₀ f₀ n₀ sum f n =
-    (n ≤ life + 1) × (f ≡ discount b n) × (f ≤ 100000000) × (sum ≡ incrementalRevenue distribution transmission b n)
+    (n ≤ life + 1) × (f ≡ discount b n) × (f ≤ highestDiscount) × (sum ≡ incrementalRevenue distribution transmission b n)
 
 abbrev μ-loop : tie.MeasureT-loop
 μ-loop distribution transmission b life sum₀ f₀ n₀ sum f n = (life + 1) - n

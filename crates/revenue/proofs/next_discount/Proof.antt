@@ -1,7 +1,7 @@
 -- The quotient is the definition's step from F(n) to F(n+1), and no discount factor is above 100,000,000.
 use Prim.Native.Nat.{suc}
 use Rattle.revenue.specs.Revenue.{discount}
-use Rattle.revenue.specs.RevenueLaws.{discount-at-most}
+use Rattle.revenue.specs.Theorems.Revenue.{discount-at-most}
 use borrow.Author.Needs.{needs}
 use Rattle.revenue.proofs.next_discount.Statement.{statement}
 use Rattle.revenue.proofs.next_discount.Tie as tie

@@ -1,6 +1,6 @@
 -- The formula is the definition's; the factor is at most 10,000, so 16 bits hold it.
 use mathlib.Core.Path.{refl}
-use Rattle.revenue.specs.RevenueLaws.{opex-factor-at-most}
+use Rattle.revenue.specs.Theorems.Revenue.{opex-factor-at-most}
 use native.Mathlib.Omega.{arith}
 use borrow.Author.Needs.{needs}
 use Rattle.revenue.proofs.opex_factor.Statement.{statement}

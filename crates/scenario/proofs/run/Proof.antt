@@ -1,5 +1,4 @@
 -- The length of what is left falls each turn, since `tail` returns less than it is given; no call requires anything.
-use Prim.Native.Nat.{_≤_, _-_}
 use lib.ListN.{length}
 use borrow.Author.Needs.{needs}
 use Rattle.scenario.proofs.run.Statement.{statement}

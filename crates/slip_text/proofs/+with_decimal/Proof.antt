@@ -6,7 +6,7 @@ use mathlib.Core.List.{append-assoc}
 use Prim.Native.Nat.{ℕ, _+_, _/_, _^_, _<_}
 use lib.ListN.{length}
 use Rattle.slip_text.specs.Slip.{decimal}
-use Rattle.slip_text.specs.SlipFacts.{decimal-end, decimal-on, decimal-length-on}
+use Rattle.slip_text.specs.Theorems.Slip.{decimal-end, decimal-on, decimal-length-on}
 use borrow.Fn.Kinds.{In}
 use borrow.Fn.PlainCycle.{Measures, is, falls, and}
 use Rattle.slip_text.proofs.with_decimal.Reads as with-decimal

@@ -5,7 +5,7 @@ use borrow.Author.Needs.{needs}
 use mir.ValLaws.{toZ-ofZ}
 use mir.Val.{SFits}
 use mir.Syntax.{w64}
-use Rattle.slip_text.specs.SlipFacts.{decimal-short}
+use Rattle.slip_text.specs.Theorems.Slip.{decimal-short}
 use Rattle.slip_text.specs.Slip.{textOf}
 use Rattle.slip_text.proofs.Lines.{appended-twice}
 use Rattle.slip_text.proofs.with_figure.Statement.{statement}

@@ -6,7 +6,7 @@ use borrow.Author.Needs.{needs}
 use lib.IntN.{natAbs}
 use mir.ValLaws.{toZ-ofZ}
 use mir.Syntax.{w64}
-use Rattle.slip_text.specs.SlipFacts.{decimal-short}
+use Rattle.slip_text.specs.Theorems.Slip.{decimal-short}
 use Rattle.slip_text.specs.Slip.{textOf, decimal}
 use Rattle.slip_text.proofs.Signs.{negative-decimal, nonnegative-decimal}
 use Rattle.slip_text.proofs.Lines.{appended-twice}

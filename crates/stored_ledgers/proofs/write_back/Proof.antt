@@ -3,7 +3,7 @@ use Prim.Native.Nat.{_≤_}
 use mathlib.Core.Path.{sym, _∙_}
 use lib.ListN.{length}
 use lib.Seq.{length-take-le}
-use Rattle.stored.specs.WritingLaws.{written-within}
+use Rattle.stored.specs.Theorems.Writing.{written-within}
 use native.Mathlib.Omega.{arith}
 use borrow.Author.Needs.{needs}
 use Rattle.stored_ledgers.proofs.write_back.Statement.{statement}

@@ -2,10 +2,10 @@
 use mathlib.Core.Path.{sym, ap, _∙_}
 use borrow.Author.Needs.{needs}
 use Rattle.tagged.specs.File.{fieldsPart}
-use Rattle.tagged.specs.FileLaws.{stands-means}
-use Rattle.stored.specs.Rows.{storedRows}
+use Rattle.tagged.specs.Theorems.File.{stands-means}
+use Rattle.stored.specs.StoredRows.{storedRows}
 use Rattle.stored.specs.Reading.{fieldsAnswer, readBy}
-use Rattle.stored.specs.ReadingLaws.{read-refused-file, read-standing}
+use Rattle.stored.specs.Theorems.Reading.{read-refused-file, read-standing}
 use Rattle.stored_reading.proofs.read.Statement.{statement}
 use Rattle.stored_reading.proofs.read.Tie as tie
 

@@ -8,32 +8,33 @@ use lib.ListN.{length}
 use borrow.Author.Needs.{needs}
 use Rattle.field_walk.specs.Walk.{FieldsWalk}
 use Rattle.tagged.specs.Find.{fieldsOf, valuePlace, partOf}
+use Rattle.ledger.specs.Limits.{mostEntries}
 use Rattle.ledger.specs.Records.{noParties}
-use Rattle.ledger.specs.TableLaws.{length-no-parties}
-use Rattle.stored.specs.Rows.{storedRows}
-use Rattle.stored.specs.Form.{partyOf, eachWith, entriesIn}
-use Rattle.stored.specs.StoredFields.{party-sized, few-entries}
+use Rattle.ledger.specs.Theorems.Table.{length-no-parties}
+use Rattle.stored.specs.StoredRows.{storedRows}
+use Rattle.stored.specs.Form.{partyOfBytes, eachWith, storedEntries}
+use Rattle.stored.specs.Theorems.StoredFields.{party-sized, few-entries}
 use Rattle.stored_reading.proofs.Collecting.{Collected, collect-starts, collect-ends, collect-shorter, collect-passes, collect-sized, collect-room, collect-one-more}
 use Rattle.stored_reading.proofs.read_entries.Statement.{statement}
 use Rattle.stored_reading.proofs.read_entries.Tie as tie
 
 abbrev Inv-loop : tie.InvT-loop
-Inv-loop fields parties₀ count₀ rest₀ parties count rest = Collected partyOf 4 30 fields noParties parties count rest
+Inv-loop fields parties₀ count₀ rest₀ parties count rest = Collected partyOfBytes 4 30 fields noParties parties count rest
 
 abbrev μ-loop : tie.MeasureT-loop
 μ-loop fields parties₀ count₀ rest₀ parties count rest = length rest
 
 -- there are places for all of them
-places : (s : List ℕ) → FieldsWalk storedRows s → length (eachWith partyOf 4 s (fieldsOf s)) ≤ length noParties
-unfolding entriesIn
+places : (s : List ℕ) → FieldsWalk storedRows s → length (eachWith partyOfBytes 4 s (fieldsOf s)) ≤ length noParties
+unfolding storedEntries
 places s walks = omega (arith, few-entries s walks, length-no-parties)
 
 -- the rest starts with one of them: its value's length, and its place
 sized : (c : tie.Then1 Inv-loop μ-loop) → let rest = c .before .before .before .loop .rest .now in length (partOf (valuePlace rest) rest) ≡ 30
 sized c = collect-sized (c .before .before .before .loop .inv) (c .before .before .loop-test .taken) (c .if1 .taken)
 
-room : (c : tie.Then1 Inv-loop μ-loop) → c .before .before .before .loop .count < 512
-unfolding entriesIn
+room : (c : tie.Then1 Inv-loop μ-loop) → c .before .before .before .loop .count < mostEntries
+unfolding storedEntries
 room c =
     let start = c .before .before .before .before .before .before in
     omega (
@@ -88,7 +89,7 @@ loop-again c =
     (c .before .if1 .came)
 
 returns : tie.Need-returns Inv-loop μ-loop
-unfolding entriesIn
+unfolding storedEntries
 returns c =
     let ended = collect-ends (c .before .loop .inv) (c .loop-test .left) in
     let start = c .before .before .before .before in

@@ -2,7 +2,7 @@
 use mathlib.Core.Path.{sym, ap, _∙_}
 use borrow.Author.Needs.{needs}
 use Rattle.stored.specs.Reading.{readBy}
-use Rattle.stored.specs.ReadingLaws.{read-refused-3, read-lettered}
+use Rattle.stored.specs.Theorems.Reading.{read-refused-3, read-lettered}
 use Rattle.stored_reading.proofs.read_fields.Statement.{statement}
 use Rattle.stored_reading.proofs.read_fields.Tie as tie
 

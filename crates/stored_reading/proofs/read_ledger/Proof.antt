@@ -6,7 +6,7 @@ use borrow.Author.Needs.{needs}
 use Rattle.numbers.specs.BigEndian.{numberAt}
 use Rattle.stored.specs.Layout.{valuesAt}
 use Rattle.stored.specs.Form.{storedLedger}
-use Rattle.stored.specs.StoredFields.{head-sized}
+use Rattle.stored.specs.Theorems.StoredFields.{head-sized}
 use Rattle.stored_reading.proofs.read_ledger.Statement.{statement}
 use Rattle.stored_reading.proofs.read_ledger.Tie as tie
 

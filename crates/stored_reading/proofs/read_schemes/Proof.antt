@@ -8,31 +8,32 @@ use lib.ListN.{length, length-replicate}
 use borrow.Author.Needs.{needs}
 use Rattle.field_walk.specs.Walk.{FieldsWalk}
 use Rattle.tagged.specs.Find.{fieldsOf, valuePlace, partOf}
+use Rattle.ledger.specs.Limits.{mostSchemes}
 use Rattle.ledger.specs.Records.{noScheme}
-use Rattle.stored.specs.Rows.{storedRows}
-use Rattle.stored.specs.Form.{schemeOf, eachWith, schemesIn, noSchemes}
-use Rattle.stored.specs.StoredFields.{scheme-sized, few-schemes}
+use Rattle.stored.specs.StoredRows.{storedRows}
+use Rattle.stored.specs.Form.{schemeOfBytes, eachWith, storedSchemes, noSchemes}
+use Rattle.stored.specs.Theorems.StoredFields.{scheme-sized, few-schemes}
 use Rattle.stored_reading.proofs.Collecting.{Collected, collect-starts, collect-ends, collect-shorter, collect-passes, collect-sized, collect-room, collect-one-more}
 use Rattle.stored_reading.proofs.read_schemes.Statement.{statement}
 use Rattle.stored_reading.proofs.read_schemes.Tie as tie
 
 abbrev Inv-loop : tie.InvT-loop
-Inv-loop fields schemes₀ count₀ rest₀ schemes count rest = Collected schemeOf 3 24 fields noSchemes schemes count rest
+Inv-loop fields schemes₀ count₀ rest₀ schemes count rest = Collected schemeOfBytes 3 24 fields noSchemes schemes count rest
 
 abbrev μ-loop : tie.MeasureT-loop
 μ-loop fields schemes₀ count₀ rest₀ schemes count rest = length rest
 
 -- there are places for all of them
-places : (s : List ℕ) → FieldsWalk storedRows s → length (eachWith schemeOf 3 s (fieldsOf s)) ≤ length noSchemes
-unfolding schemesIn noSchemes
-places s walks = omega (arith, few-schemes s walks, length-replicate 64 noScheme)
+places : (s : List ℕ) → FieldsWalk storedRows s → length (eachWith schemeOfBytes 3 s (fieldsOf s)) ≤ length noSchemes
+unfolding storedSchemes noSchemes
+places s walks = omega (arith, few-schemes s walks, length-replicate mostSchemes noScheme)
 
 -- the rest starts with one of them: its value's length, and its place
 sized : (c : tie.Then1 Inv-loop μ-loop) → let rest = c .before .before .before .loop .rest .now in length (partOf (valuePlace rest) rest) ≡ 24
 sized c = collect-sized (c .before .before .before .loop .inv) (c .before .before .loop-test .taken) (c .if1 .taken)
 
-room : (c : tie.Then1 Inv-loop μ-loop) → c .before .before .before .loop .count < 64
-unfolding schemesIn
+room : (c : tie.Then1 Inv-loop μ-loop) → c .before .before .before .loop .count < mostSchemes
+unfolding storedSchemes
 room c =
     let start = c .before .before .before .before .before .before in
     omega (
@@ -87,7 +88,7 @@ loop-again c =
     (c .before .if1 .came)
 
 returns : tie.Need-returns Inv-loop μ-loop
-unfolding schemesIn
+unfolding storedSchemes
 returns c =
     let ended = collect-ends (c .before .loop .inv) (c .loop-test .left) in
     let start = c .before .before .before .before in

@@ -5,12 +5,12 @@ use native.Mathlib.Omega.{arith}
 use lib.ListN.{length}
 use borrow.Author.Tests.{not-true, not-false}
 use borrow.Author.Needs.{needs}
-use Rattle.tagged.specs.declared.file.Standing.the-variants.{Stands}
+use Rattle.tagged.specs.declared.file.FileAnswer.the-variants.{Stands}
 use Rattle.ledger.specs.Records.{noParties}
 use Rattle.ledger.specs.Sound.{sound}
-use Rattle.stored.specs.Form.{entriesIn, storedLedger}
+use Rattle.stored.specs.Form.{storedEntries, storedLedger}
 use Rattle.stored.specs.Reading.{readBy}
-use Rattle.stored.specs.ReadingLaws.{sound-placed, read-refused-9, read-refused-13, read-done}
+use Rattle.stored.specs.Theorems.Reading.{sound-placed, read-refused-9, read-refused-13, read-done}
 use Rattle.stored_reading.proofs.read_values.Statement.{statement}
 use Rattle.stored_reading.proofs.read_values.Tie as tie
 
@@ -25,7 +25,7 @@ returns c =
     let entries = c .before .before .before .before in
     let args = entries .before .before .args in
     let s = args .fields .now in
-    let short : args .room < length (entriesIn s) = omega (arith, entries .read-entries .ensures .1, c .before .if1 .taken) in
+    let short : args .room < length (storedEntries s) = omega (arith, entries .read-entries .ensures .1, c .before .if1 .taken) in
     c .refused .ensures ∙ ap (λ answer. readBy answer (args .ledger) s) (sym (read-refused-9 (args .room) s short))
 
 read-ledger-requires : tie.Need-read-ledger-requires
@@ -38,8 +38,8 @@ sound-requires c κs = search needs
 tested : (c : tie.After-sound) →
     let entries = c .before .before .before .before .before in
     let args = entries .before .before .args in
-    (c .sound .result ≡ sound (storedLedger (args .fields .now)) (entriesIn (args .fields .now)) (args .room)) ×
-    (length (entriesIn (args .fields .now)) ≤ args .room)
+    (c .sound .result ≡ sound (storedLedger (args .fields .now)) (storedEntries (args .fields .now)) (args .room)) ×
+    (length (storedEntries (args .fields .now)) ≤ args .room)
 tested c =
     let entries = c .before .before .before .before .before in
     let args = entries .before .before .args in

@@ -1,6 +1,6 @@
 -- By the definition; the parties are those of no_parties.
 use borrow.Author.Needs.{needs}
-use Rattle.tagged.specs.declared.file.Standing.the-variants.{Refused}
+use Rattle.tagged.specs.declared.file.FileAnswer.the-variants.{Refused}
 use Rattle.stored_reading.proofs.refused.Statement.{statement}
 use Rattle.stored_reading.proofs.refused.Tie as tie
 

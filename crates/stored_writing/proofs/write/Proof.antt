@@ -1,9 +1,9 @@
 -- 13 with the output as it was, and then the form; soundness bounds schemes and entries, as write_form requires.
 use mathlib.Core.Path.{sym, ap, _∙_}
 use borrow.Author.Needs.{needs}
-use Rattle.ledger.specs.SoundFacts.{sound-means}
-use Rattle.ledger.proofs.Tests.{passes, fails}
-use Rattle.stored.specs.WritingLaws.{write-refused-13, write-sound, output-refused}
+use Rattle.ledger.specs.Theorems.Sound.{sound-means}
+use Rattle.tagged.specs.Theorems.TestedAnswers.{passes, fails}
+use Rattle.stored.specs.Theorems.Writing.{write-refused-13, write-sound, output-refused}
 use Rattle.stored.specs.Writing.{outputBy}
 use Rattle.stored.specs.Form.{storedForm}
 use Rattle.stored_writing.proofs.write.Statement.{statement}

@@ -4,11 +4,11 @@ use mathlib.Core.Path.{_≡_, refl, sym, _∙_}
 use mathlib.Core.List.{flatMap, map}
 use lib.ListN.{length, take}
 use Rattle.numbers.specs.BigEndian.{written}
-use Rattle.tagged.specs.WalkFinds.{joined}
+use Rattle.tagged.specs.Encoded.{encodedParts}
 use Rattle.ledger.specs.Records.{noParty}
-use Rattle.stored.specs.LayoutLaws.{written-none}
+use Rattle.stored.specs.Theorems.Layout.{written-none}
 use Rattle.stored.specs.Form.{partyPart}
-use Rattle.stored.specs.FormLaws.{party-size}
+use Rattle.stored.specs.Theorems.Form.{party-size}
 use Rattle.stored_writing.proofs.Fields.{one-more}
 use native.Mathlib.Omega.{arith}
 use borrow.Author.Needs.{needs}
@@ -16,7 +16,7 @@ use Rattle.stored_writing.proofs.write_entries.Statement.{statement}
 use Rattle.stored_writing.proofs.write_entries.Tie as tie
 
 abbrev Inv-loop : tie.InvT-loop
-Inv-loop out₀ at entries parties i₀ out i = (out ≡ written out₀ at (joined (map partyPart (take i parties)))) × (length out ≡ length out₀) × (i ≤ entries)
+Inv-loop out₀ at entries parties i₀ out i = (out ≡ written out₀ at (encodedParts (map partyPart (take i parties)))) × (length out ≡ length out₀) × (i ≤ entries)
 
 abbrev μ-loop : tie.MeasureT-loop
 μ-loop out₀ at entries parties i₀ out i = entries - i

@@ -2,6 +2,7 @@
 use mathlib.Core.Path.{_≡_}
 use lib.ListN.{length}
 use Rattle.ledger.proofs.Places.{schemes-places}
+use Rattle.ledger.specs.Limits.{mostSchemes}
 use Rattle.stored_writing.proofs.Fields.{written-stored}
 use native.Mathlib.Omega.{arith}
 use borrow.Author.Needs.{needs}
@@ -42,7 +43,7 @@ returns c =
     let head = schemes .before .before .before .before in
     let letters = head .before .before .before .before in
     let start = letters .before .before .before .before .before in
-    let places : length (start .args .ledger .schemes) ≡ 64 = schemes-places (start .args .ledger) _ (start .good .1 .0) in
+    let places : length (start .args .ledger .schemes) ≡ mostSchemes = schemes-places (start .args .ledger) _ (start .good .1 .0) in
     rw (entries .write-entries .ensures, schemes .write-schemes .ensures, head .write-head .ensures, letters .write-letters .ensures)
     (written-stored (start .args .ledger) (start .args .parties) (start .args .out .now) (omega (arith, start .pre)) (search needs) (omega arith))
 

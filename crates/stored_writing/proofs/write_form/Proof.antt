@@ -5,22 +5,23 @@ use mathlib.Core.List.{List}
 use native.Mathlib.Omega.{arith}
 use lib.ListN.{length}
 use borrow.Author.Needs.{needs}
-use Rattle.tagged.specs.WalkFinds.{joined}
+use Rattle.tagged.specs.Encoded.{encodedParts}
+use Rattle.ledger.specs.Limits.{mostSchemes, mostEntries}
 use Rattle.ledger.specs.declared.records.Party.{Party}
 use Rattle.ledger.specs.declared.records.Ledger.{Ledger}
 use Rattle.ledger.proofs.Places.{schemes-places}
 use Rattle.stored.specs.Form.{storedParts, storedForm, formLength}
 use Rattle.stored.specs.Writing.{outputBy}
-use Rattle.stored.specs.WritingLaws.{form-refused-14, form-done}
-use Rattle.stored.specs.FormLaws.{length-fields, length-form}
+use Rattle.stored.specs.Theorems.Writing.{form-refused-14, form-done}
+use Rattle.stored.specs.Theorems.Form.{length-fields, length-form}
 use Rattle.stored.specs.declared.writing.Written.the-variants.{Length}
 use Rattle.stored_writing.proofs.Fields.{written-closed}
 use Rattle.stored_writing.proofs.write_form.Statement.{statement}
 use Rattle.stored_writing.proofs.write_form.Tie as tie
 
 -- how long the fields and the form are
-sizes : (ledger : Ledger) (parties : List Party) → length (ledger .schemes) ≡ 64 → length parties ≡ 512 → ledger .count ≤ 64 → ledger .entries ≤ 512 →
-    (length (joined (storedParts ledger parties)) + 5 ≡ formLength (ledger .count) (ledger .entries))
+sizes : (ledger : Ledger) (parties : List Party) → length (ledger .schemes) ≡ mostSchemes → length parties ≡ mostEntries → ledger .count ≤ mostSchemes → ledger .entries ≤ mostEntries →
+    (length (encodedParts (storedParts ledger parties)) + 5 ≡ formLength (ledger .count) (ledger .entries))
     × (length (storedForm ledger parties) ≡ formLength (ledger .count) (ledger .entries))
 sizes ledger parties places records schemes entries =
     (length-fields ledger parties (omega arith) (omega arith), length-form ledger parties (omega arith) (omega arith))

@@ -3,7 +3,7 @@ use mathlib.Core.Path.{refl}
 use mathlib.Core.List.{[], _∷_}
 use Rattle.numbers.specs.BigEndian.{bytesOf}
 use Rattle.stored.specs.Layout.{recordBytes}
-use Rattle.stored.specs.LayoutLaws.{writtenEach}
+use Rattle.stored.specs.Theorems.Layout.{writtenEach}
 use Rattle.stored.specs.Form.{letters}
 use Rattle.stored_writing.proofs.Fields.{written-field}
 use native.Mathlib.Omega.{arith}

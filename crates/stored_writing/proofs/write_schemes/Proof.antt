@@ -4,11 +4,11 @@ use mathlib.Core.Path.{_≡_, refl, sym, _∙_}
 use mathlib.Core.List.{flatMap, map}
 use lib.ListN.{length, take}
 use Rattle.numbers.specs.BigEndian.{written}
-use Rattle.tagged.specs.WalkFinds.{joined}
+use Rattle.tagged.specs.Encoded.{encodedParts}
 use Rattle.ledger.specs.Records.{noScheme}
-use Rattle.stored.specs.LayoutLaws.{written-none}
+use Rattle.stored.specs.Theorems.Layout.{written-none}
 use Rattle.stored.specs.Form.{schemePart}
-use Rattle.stored.specs.FormLaws.{scheme-size}
+use Rattle.stored.specs.Theorems.Form.{scheme-size}
 use Rattle.stored_writing.proofs.Fields.{one-more}
 use native.Mathlib.Omega.{arith}
 use borrow.Author.Needs.{needs}
@@ -16,7 +16,7 @@ use Rattle.stored_writing.proofs.write_schemes.Statement.{statement}
 use Rattle.stored_writing.proofs.write_schemes.Tie as tie
 
 abbrev Inv-loop : tie.InvT-loop
-Inv-loop out₀ at count schemes i₀ out i = (out ≡ written out₀ at (joined (map schemePart (take i schemes)))) × (length out ≡ length out₀) × (i ≤ count)
+Inv-loop out₀ at count schemes i₀ out i = (out ≡ written out₀ at (encodedParts (map schemePart (take i schemes)))) × (length out ≡ length out₀) × (i ≤ count)
 
 abbrev μ-loop : tie.MeasureT-loop
 μ-loop out₀ at count schemes i₀ out i = count - i

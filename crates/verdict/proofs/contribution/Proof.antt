@@ -3,7 +3,7 @@ use Prim.Native.Nat.{_≤_}
 use native.Mathlib.Nat.{mul-le-mul}
 use native.Mathlib.Omega.{arith}
 use borrow.Author.Needs.{needs}
-use Rattle.calls.specs.CreditColumnsLaws.{contribution-le-cost}
+use Rattle.calls.specs.Theorems.CreditColumns.{contribution-le-cost}
 use Rattle.verdict.proofs.contribution.Statement.{statement}
 use Rattle.verdict.proofs.contribution.Tie as tie
 

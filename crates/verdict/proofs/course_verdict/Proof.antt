@@ -1,7 +1,7 @@
 -- Each return is one case of the definition, in its order; count, entries and room are those of the books (Counted).
 use mathlib.Core.Path.{sym, _∙_}
 use borrow.Author.Needs.{needs}
-use Rattle.calls.specs.VerdictLaws.{course-refused-8, course-refused-9, course-accepted}
+use Rattle.calls.specs.Theorems.Verdict.{course-refused-8, course-refused-9, course-accepted}
 use Rattle.verdict.proofs.course_verdict.Statement.{statement}
 use Rattle.verdict.proofs.course_verdict.Tie as tie
 

@@ -1,4 +1,4 @@
--- The tests are the definition's, in its order; at most 512 entries and 2 more are no sum that overflows.
+-- The tests are the definition's, in its order; the most entries and 2 more are no sum that overflows.
 use borrow.Author.Tests.{eq-eqb, ne-eqb, lt-ltb, le-ltb}
 use borrow.Author.Needs.{needs}
 use Rattle.verdict.proofs.entries_lacking.Statement.{statement}

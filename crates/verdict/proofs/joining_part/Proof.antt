@@ -5,9 +5,9 @@ use native.Mathlib.Omega.{arith}
 use lib.ListN.{length}
 use borrow.Author.Needs.{needs}
 use borrow.Author.Tests.{eq-eqb, ne-eqb}
-use Rattle.ledger.specs.LookupLaws.{scheme-placed}
+use Rattle.ledger.specs.Theorems.Lookup.{scheme-placed}
 use Rattle.ledger.proofs.Places.{schemes-places}
-use Rattle.calls.specs.ByPlace.{scheme-by-place, capacity-by-place}
+use Rattle.calls.specs.Theorems.ByPlace.{scheme-by-place, capacity-by-place}
 use Rattle.verdict.specs.Snapshot.{snapshotBooks}
 use Rattle.verdict.proofs.joining_part.Statement.{statement}
 use Rattle.verdict.proofs.joining_part.Tie as tie

@@ -4,18 +4,20 @@ use mathlib.Core.Path.{_≡_, sym, ap₂, _∙_}
 use native.Mathlib.Omega.{arith}
 use lib.ListN.{length}
 use borrow.Author.Needs.{needs}
-use Rattle.ledger.specs.SoundFacts.{sound-means}
+use Rattle.ledger.specs.Limits.{mostEntries}
+use Rattle.ledger.specs.Theorems.Sound.{sound-means}
 use Rattle.ledger.proofs.Places.{schemes-places}
 use Rattle.calls.specs.Verdict.{courseVerdict}
-use Rattle.calls.specs.VerdictLaws.{verdict-refused-10, verdict-refused-7, verdict-refused-6, verdict-course}
-use Rattle.verdict.specs.Snapshot.{snapshotBooks, Counted, snapshot-counted}
+use Rattle.calls.specs.Theorems.Verdict.{verdict-refused-10, verdict-refused-7, verdict-refused-6, verdict-course}
+use Rattle.verdict.specs.Snapshot.{snapshotBooks, Counted}
+use Rattle.verdict.specs.Theorems.Snapshot.{snapshot-counted}
 use Rattle.verdict.proofs.verdict_of.Statement.{statement}
 use Rattle.verdict.proofs.verdict_of.Tie as tie
 
 counted : (start : tie.Start) → Counted (snapshotBooks (start .args .ledger) (start .args .parties) (start .args .room)) (start .args .ledger .count) (start .args .ledger .entries) (start .args .room)
 counted start =
     let stands = sound-means _ _ _ (start .pre .0) in
-    let records : length (start .args .parties) ≡ 512 = search needs in
+    let records : length (start .args .parties) ≡ mostEntries = search needs in
     snapshot-counted (start .args .ledger) (start .args .parties) (start .args .room)
     (omega (arith, stands .schemes, schemes-places (start .args .ledger) _ (start .good .0))) (omega (arith, stands .entries))
 

@@ -1,14 +1,15 @@
--- The loop keeps k at most 131, so that each figure asked for exists; 131 less k falls each turn.
+-- The loop keeps k at most the number of figures, so that each figure asked for exists; what is left to it falls each turn.
 use Prim.Native.Nat.{_≤_, _-_}
 use borrow.Author.Needs.{needs}
+use Rattle.printed_figures.specs.Printed.{figureCount}
 use Rattle.worked_examples.proofs.held_figures.Statement.{statement}
 use Rattle.worked_examples.proofs.held_figures.Tie as tie
 
 abbrev Inv-loop : tie.InvT-loop
-Inv-loop pricing r bounds fitted sum₀ k₀ sum k = k ≤ 131
+Inv-loop pricing r bounds fitted sum₀ k₀ sum k = k ≤ figureCount
 
 abbrev μ-loop : tie.MeasureT-loop
-μ-loop pricing r bounds fitted sum₀ k₀ sum k = 131 - k
+μ-loop pricing r bounds fitted sum₀ k₀ sum k = figureCount - k
 
 loop-holds : tie.Need-loop-holds Inv-loop μ-loop
 loop-holds c = search needs

@@ -1,14 +1,15 @@
--- The loop keeps the pricing's number at most 23; 23 less that number falls each turn.
+-- The loop keeps the pricing's number at most the number of pricings; what is left to it falls each turn.
 use Prim.Native.Nat.{_≤_, _-_}
 use borrow.Author.Needs.{needs}
+use Rattle.printed_figures.specs.Printed.{pricingCount}
 use Rattle.worked_examples.proofs.held_pricings.Statement.{statement}
 use Rattle.worked_examples.proofs.held_pricings.Tie as tie
 
 abbrev Inv-loop : tie.InvT-loop
-Inv-loop tally₀ pricing₀ tally pricing = pricing ≤ 23
+Inv-loop tally₀ pricing₀ tally pricing = pricing ≤ pricingCount
 
 abbrev μ-loop : tie.MeasureT-loop
-μ-loop tally₀ pricing₀ tally pricing = 23 - pricing
+μ-loop tally₀ pricing₀ tally pricing = pricingCount - pricing
 
 loop-holds : tie.Need-loop-holds Inv-loop μ-loop
 loop-holds c = search needs

@@ -20,7 +20,7 @@ fn cases(count: u64) -> u64 {
 
 fn main() {
     let mut tally = Tally::default();
-    tally.section("books and requests as listed", pricing::random_pairs);
+    tally.section("books and requests within their limits", pricing::random_pairs);
     tally.section("values past their limits", pricing::past_limits);
     tally.section("every byte altered", alterations::every_byte);
     tally.section("damaged books and requests", damage::books_and_requests);

@@ -1,8 +1,8 @@
 -- 13, and then the plan without it.
 use mathlib.Core.Path.{sym, _∙_}
 use borrow.Author.Needs.{needs}
-use Rattle.ledger.proofs.Tests.{passes, fails}
-use Rattle.acceptance.specs.PlanLaws.{plan-refused-13}
+use Rattle.tagged.specs.Theorems.TestedAnswers.{passes, fails}
+use Rattle.acceptance.specs.Theorems.Plan.{plan-refused-13}
 use Rattle.acceptance.proofs.accept.accept.Statement.{statement}
 use Rattle.acceptance.proofs.accept.accept.Tie as tie
 

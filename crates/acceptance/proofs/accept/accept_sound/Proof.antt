@@ -3,8 +3,8 @@ use mathlib.Core.Path.{sym, _∙_}
 use denote.Ref.{now}
 use borrow.Author.Needs.{needs}
 use Rattle.numbers.specs.BigEndian.{Bytes}
-use Rattle.charge.specs.PriceFacts.{priced-within}
-use Rattle.acceptance.specs.PlanLaws.{plan-priced}
+use Rattle.charge.specs.Theorems.Bill.{priced-within}
+use Rattle.acceptance.specs.Theorems.Plan.{plan-priced}
 use Rattle.acceptance.proofs.accept.accept_sound.Statement.{statement}
 use Rattle.acceptance.proofs.accept.accept_sound.Tie as tie
 

@@ -2,9 +2,10 @@
 use mathlib.Core.Path.{_≡_, sym, _∙_}
 use lib.ListN.{length}
 use borrow.Author.Needs.{needs}
+use Rattle.ledger.specs.Limits.{mostEntries}
 use Rattle.ledger.proofs.Places.{schemes-places}
-use Rattle.acceptance.specs.PlanNeeds.{course-due}
-use Rattle.acceptance.specs.PlanLaws.{bill-planned}
+use Rattle.acceptance.specs.Theorems.PlanNeeds.{course-due}
+use Rattle.acceptance.specs.Theorems.Plan.{bill-planned}
 use Rattle.acceptance.proofs.accept.bill_plan.Statement.{statement}
 use Rattle.acceptance.proofs.accept.bill_plan.Tie as tie
 
@@ -23,7 +24,7 @@ enum-known-course c = search needs
 course-plan-requires : tie.Need-course-plan-requires
 course-plan-requires c κs =
     let start = c .before .before .before .before in
-    let records : length (start .args .parties) ≡ 512 = search needs in
+    let records : length (start .args .parties) ≡ mostEntries = search needs in
     let told = sym (c .before .before .before .verdict-of .ensures) ∙ c .before .course .given .1 in
     course-due _ _ _ _ _ (start .pre .0) (schemes-places (start .args .ledger) _ (start .good .0)) records told (start .pre .1)
 

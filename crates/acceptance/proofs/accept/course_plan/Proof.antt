@@ -6,7 +6,7 @@ use native.Mathlib.Omega.{arith}
 use borrow.Author.Needs.{needs}
 use Rattle.verdict.specs.Snapshot.{snapshotBooks}
 use Rattle.acceptance.specs.Plan.{bookedLedger}
-use Rattle.acceptance.specs.PlanLaws.{joined-count, joined-entries, one-joiner}
+use Rattle.acceptance.specs.Theorems.Plan.{joined-count, joined-entries, one-joiner}
 use Rattle.acceptance.proofs.accept.course_plan.Statement.{statement}
 use Rattle.acceptance.proofs.accept.course_plan.Tie as tie
 

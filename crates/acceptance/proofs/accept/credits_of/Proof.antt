@@ -5,6 +5,7 @@ use mathlib.Core.Logic.{⊎-elim}
 use native.Mathlib.Omega.{arith}
 use lib.ListN.{length, getD}
 use borrow.Author.Needs.{needs}
+use Rattle.ledger.specs.Limits.{mostEntries}
 use Rattle.ledger.specs.Records.{noParty}
 use Rattle.acceptance.specs.Plan.{padded}
 use Rattle.acceptance.proofs.Booking.{product-fits, sharesUpTo, Credited, credited-none, credited-own, running-at-most, credited-other, together-rises}
@@ -46,7 +47,7 @@ loop-again c =
     let start = c .before .before .before .before .before in
     let loop = c .before .before .before .before .loop in
     let within : loop .i < length (start .args .t1) = search needs in
-    let room : loop .i < 512 = search needs in (
+    let room : loop .i < mostEntries = search needs in (
       search needs,
       ⊎-elim
           (λ w. rw (w .2, w .3, w .4) (credited-own (loop .inv .1) noParty within (w .0 .taken) room))

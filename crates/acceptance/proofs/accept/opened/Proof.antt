@@ -1,4 +1,4 @@
--- By the two cases of opens; where one opens there are under 64 schemes and under 512 entries, so its place exists and both counts fit.
+-- By the two cases of opens; where one opens there are fewer schemes and entries than the most, so its place exists and both counts fit.
 use native.Mathlib.Omega.{arith}
 use borrow.Author.Tests.{not-true, not-false}
 use borrow.Author.Needs.{needs}

@@ -8,6 +8,7 @@ use lib.ListN.{take, drop, length, getD}
 use borrow.Author.Tests.{lt-leb, le-leb}
 use borrow.Author.Needs.{needs}
 use Rattle.field_values.specs.declared.judged.Judged.the-variants.{Passes}
+use Rattle.field_values.specs.Limits.{tierCount}
 use Rattle.field_values.specs.Judged.{inOrder}
 use Rattle.book_zones.specs.Zones.{judgeRows}
 use Rattle.book_zones.proofs.Scanning.{judgeTiers, rows-on, rows-end, tier-on, tier-end}
@@ -16,13 +17,13 @@ use Rattle.book_zones.proofs.zones.first_rate_over.Tie as tie
 
 abbrev Inv-loop : tie.InvT-loop
 Inv-loop zones first rates judged₀ zone tier₀ judged tier =
-    (tier ≤ 5) × (judged ≡ Passes) × (
+    (tier ≤ tierCount) × (judged ≡ Passes) × (
     judgeRows (first + 24 * zone) (drop zone (take zones rates))
     ≡ inOrder (judgeTiers (first + 24 * zone) (getD rates zone []) tier) (judgeRows (first + 24 * (zone + 1)) (drop (zone + 1) (take zones rates)))
     )
 
 abbrev μ-loop : tie.MeasureT-loop
-μ-loop zones first rates judged₀ zone tier₀ judged tier = 5 - tier
+μ-loop zones first rates judged₀ zone tier₀ judged tier = tierCount - tier
 
 abbrev Inv-zones : tie.InvT-zones
 Inv-zones zones first rates judged₀ zone₀ judged zone =

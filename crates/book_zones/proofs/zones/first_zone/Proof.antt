@@ -3,7 +3,7 @@ use mathlib.Core.Path.{ap, _∙_}
 use native.Mathlib.Omega.{arith}
 use borrow.Author.Needs.{needs}
 use Rattle.tagged.specs.Find.{startOf}
-use Rattle.book_zones.specs.ZonesStand.{zones-stand}
+use Rattle.book_zones.specs.Theorems.ZoneFields.{zones-stand}
 use Rattle.book_zones.proofs.zones.first_zone.Statement.{statement}
 use Rattle.book_zones.proofs.zones.first_zone.Tie as tie
 

@@ -1,7 +1,7 @@
 -- The lower place of the two scans is the first in byte order (judge-zones-by-scans), since the zones stand 24 bytes apart.
 use borrow.Author.Needs.{needs}
-use Rattle.book_zones.specs.ZonesLaws.{judge-zones-by-scans}
-use Rattle.book_zones.specs.ZonesStand.{zones-stand}
+use Rattle.book_zones.specs.Theorems.Zones.{judge-zones-by-scans}
+use Rattle.book_zones.specs.Theorems.ZoneFields.{zones-stand}
 use Rattle.book_zones.proofs.zones.judge_zones.Statement.{statement}
 use Rattle.book_zones.proofs.zones.judge_zones.Tie as tie
 

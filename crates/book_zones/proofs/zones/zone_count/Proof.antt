@@ -1,7 +1,7 @@
 -- The zones, at most 8, take 24 bytes each up to the end of the fields (zones-stand), so the division is exact.
 use native.Mathlib.Omega.{arith}
 use borrow.Author.Needs.{needs}
-use Rattle.book_zones.specs.ZonesStand.{zones-stand}
+use Rattle.book_zones.specs.Theorems.ZoneFields.{zones-stand}
 use Rattle.book_zones.proofs.zones.zone_count.Statement.{statement}
 use Rattle.book_zones.proofs.zones.zone_count.Tie as tie
 

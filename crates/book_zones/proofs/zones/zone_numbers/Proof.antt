@@ -4,7 +4,7 @@ use mathlib.Core.Path.{_≡_, refl, _∙_}
 use native.Mathlib.Omega.{arith}
 use borrow.Author.Needs.{needs}
 use Rattle.numbers.specs.BigEndian.{numberAt}
-use Rattle.book_zones.specs.ZonesStand.{zones-stand}
+use Rattle.book_zones.specs.Theorems.ZoneFields.{zones-stand}
 use Rattle.book_zones.proofs.Filling.{filledTo, filled-more, filled-all}
 use Rattle.book_zones.proofs.zones.zone_numbers.Statement.{statement}
 use Rattle.book_zones.proofs.zones.zone_numbers.Tie as tie

@@ -4,14 +4,15 @@ use mathlib.Core.Path.{_≡_, refl, _∙_}
 use native.Mathlib.Omega.{arith}
 use lib.ListN.{replicate}
 use borrow.Author.Needs.{needs}
+use Rattle.field_values.specs.Limits.{tierCount}
 use Rattle.book_zones.specs.Zones.{rateRow}
-use Rattle.book_zones.specs.ZonesStand.{zones-stand}
+use Rattle.book_zones.specs.Theorems.ZoneFields.{zones-stand}
 use Rattle.book_zones.proofs.Filling.{filledTo, filled-more, filled-all}
 use Rattle.book_zones.proofs.zones.zone_rates.Statement.{statement}
 use Rattle.book_zones.proofs.zones.zone_rates.Tie as tie
 
 abbrev Inv-loop : tie.InvT-loop
-Inv-loop fields first count rates₀ zone₀ rates zone = (zone ≤ count) × (rates ≡ filledTo (replicate 5 0) (rateRow fields) fields zone)
+Inv-loop fields first count rates₀ zone₀ rates zone = (zone ≤ count) × (rates ≡ filledTo (replicate tierCount 0) (rateRow fields) fields zone)
 
 abbrev μ-loop : tie.MeasureT-loop
 μ-loop fields first count rates₀ zone₀ rates zone = count - zone
@@ -53,7 +54,7 @@ loop-again c =
     let s = entry .args .fields .now in (
       omega arith,
       rw (turn .loop .inv .1, c .rate-row .ensures, turn .before .before .first-zone .ensures .0)
-          (filled-more (replicate 5 0) (rateRow s) s (zones-stand s (entry .pre)) (turn .loop .zone) (omega arith)),
+          (filled-more (replicate tierCount 0) (rateRow s) s (zones-stand s (entry .pre)) (turn .loop .zone) (omega arith)),
     )
 
 returns : tie.Need-returns Inv-loop μ-loop
@@ -61,7 +62,7 @@ returns c =
     let turn = c .before in
     let entry = turn .before .before .before .before in
     let s = entry .args .fields .now in
-    turn .loop .inv .1 ∙ filled-all (replicate 5 0) (rateRow s) s (zones-stand s (entry .pre)) (turn .loop .zone) (omega arith)
+    turn .loop .inv .1 ∙ filled-all (replicate tierCount 0) (rateRow s) s (zones-stand s (entry .pre)) (turn .loop .zone) (omega arith)
 
 pub zone-rates-spec : {M : Type 1} → statement M
 zone-rates-spec =

@@ -1,7 +1,8 @@
 -- The loop keeps that the places from its own on decide.
+use Rattle.ledger.specs.Limits.{mostSchemes}
 use Rattle.ledger.specs.Records.{noScheme}
 use Rattle.ledger.proofs.Rest.{zeros-from, zeros-end}
-use Rattle.ledger.proofs.Tests.{passes, fails}
+use Rattle.tagged.specs.Theorems.TestedAnswers.{passes, fails}
 use Rattle.ledger.specs.Sound.{allZero}
 use lib.ListN.{length, drop}
 use mathlib.Core.Path.{_≡_}
@@ -11,10 +12,10 @@ use Rattle.ledger.proofs.sound.rest_zero.Statement.{statement}
 use Rattle.ledger.proofs.sound.rest_zero.Tie as tie
 
 abbrev Inv-loop : tie.InvT-loop
-Inv-loop count schemes i₀ i = (count ≤ i) × (i ≤ 64) × (allZero (drop count schemes) ≡ allZero (drop i schemes))
+Inv-loop count schemes i₀ i = (count ≤ i) × (i ≤ mostSchemes) × (allZero (drop count schemes) ≡ allZero (drop i schemes))
 
 abbrev μ-loop : tie.MeasureT-loop
-μ-loop count schemes i₀ i = 64 - i
+μ-loop count schemes i₀ i = mostSchemes - i
 
 loop-holds : tie.Need-loop-holds Inv-loop μ-loop
 loop-holds c = search needs

@@ -3,6 +3,7 @@ use Prim.Native.Nat.{suc, _-_, _<_, _≤_}
 use mathlib.Core.Path.{_≡_, refl, sym, _∙_}
 use mathlib.Core.List.{List}
 use lib.ListN.{length, take, drop}
+use Rattle.ledger.specs.Limits.{mostSchemes}
 use Rattle.ledger.specs.Sound.{schemesSound}
 use Rattle.ledger.specs.Tallied.{Tallied}
 use Rattle.ledger.specs.declared.records.Party.{Party}
@@ -37,7 +38,7 @@ array-copy-out-scheme-sound-2 : tie.Need-array-copy-out-scheme-sound-2 Inv-loop 
 array-copy-out-scheme-sound-2 c = search needs
 
 scheme-sound-requires : tie.Need-scheme-sound-requires Inv-loop μ-loop
-scheme-sound-requires c κs = let below : c .before .before .before .loop .i < 64 = search needs in c .before .before .before .before .pre .1 (c .before .before .before .loop .i) below
+scheme-sound-requires c κs = let below : c .before .before .before .loop .i < mostSchemes = search needs in c .before .before .before .before .pre .1 (c .before .before .before .loop .i) below
 
 returns : tie.Need-returns Inv-loop μ-loop
 returns c =

@@ -1,7 +1,8 @@
 -- Each test that fails makes the whole false, and the last one is the whole where the others hold.
 use lib.ListN.{take}
 use Rattle.ledger.proofs.Tallying.{counts-bounds}
-use Rattle.ledger.proofs.Tests.{passes, fails, last-holds}
+use Rattle.tagged.specs.Theorems.TestedAnswers.{passes, fails}
+use Rattle.ledger.proofs.Tests.{last-holds}
 use Rattle.ledger.specs.Sound.{sound}
 use borrow.Author.Tests.{not-false}
 use mathlib.Core.Path.{_∙_}

@@ -6,12 +6,14 @@ use lib.ListN.{length, take, drop, getD}
 use borrow.Author.Tests.{leb-true}
 use Rattle.ledger.specs.declared.records.Party.{Party}
 use Rattle.ledger.specs.declared.lookup.SchemeAt.the-variants as SchemeAt
+use Rattle.ledger.specs.Limits.{mostSchemes, mostEntries}
 use Rattle.ledger.specs.Records.{noParty}
-use Rattle.ledger.specs.SoundFacts.{held}
+use Rattle.ledger.specs.Theorems.Sound.{held}
 use Rattle.ledger.specs.Sound.{allHold, figuresWithin, partySound, partiesSound}
-use Rattle.ledger.specs.LookupLaws.{scheme-placed}
+use Rattle.ledger.specs.Theorems.Lookup.{scheme-placed}
 use Rattle.ledger.specs.Lookup.{schemePlace}
-use Rattle.ledger.proofs.Tests.{passes, fails, stops, goes-on}
+use Rattle.tagged.specs.Theorems.TestedAnswers.{passes, fails}
+use Rattle.ledger.proofs.Tests.{stops, goes-on}
 use Rattle.ledger.proofs.Tallying.{Kept, kept-start, kept-more, kept-within, kept-end, parties-from, parties-end, never-opened, by-figures}
 use native.Mathlib.Omega.{arith}
 use borrow.Author.Needs.{needs}
@@ -33,7 +35,7 @@ entry c = getD (c .before .before .before .before .before .before .before .befor
 here : (c : tie.Else1 Inv-loop μ-loop) → schemePlace (c .before .before .before .before .before .before .before .before .before .before .args .count) (entry c .scheme) ≡ SchemeAt.Place (c .before .before .before .k .given .0 .0)
 here c = sym (c .before .before .before .before .before .scheme-at .ensures) ∙ c .before .before .before .k .given .1
 
-place : (c : tie.Else1 Inv-loop μ-loop) → c .before .before .before .k .given .0 .0 < 64
+place : (c : tie.Else1 Inv-loop μ-loop) → c .before .before .before .k .given .0 .0 < mostSchemes
 place c =
     let placed = scheme-placed (c .before .before .before .before .before .before .before .before .before .before .args .count) (entry c .scheme) (c .before .before .before .k .given .0 .0) (here c) in
     omega (arith, placed .kept, placed .next, c .before .before .before .before .before .before .before .before .before .before .pre .1)
@@ -103,7 +105,7 @@ array-copy-out-tally-with c = place c
 tally-with-requires : tie.Need-tally-with-requires Inv-loop μ-loop
 tally-with-requires c κs =
     let h : c .before .before .before .before .before .before .before .before .before .loop .i < c .before .before .before .before .before .before .before .before .before .before .before .args .entries = search needs in
-    (kept-within _ _ _ (c .before .before .before .before .before .before .before .before .before .loop .i) _ 511 (c .before .before .before .before .before .before .before .before .before .loop .inv .2) (place (c .before)) (search needs), leb-true _ _ (held (figuresWithin (entry (c .before))) (figures (c .before)) 3))
+    (kept-within _ _ _ (c .before .before .before .before .before .before .before .before .before .loop .i) _ (mostEntries - 1) (c .before .before .before .before .before .before .before .before .before .loop .inv .2) (place (c .before)) (search needs), leb-true _ _ (held (figuresWithin (entry (c .before))) (figures (c .before)) 3))
 
 mul-tallies : tie.Need-mul-tallies Inv-loop μ-loop
 mul-tallies c = omega (arith, place (c .before .before))

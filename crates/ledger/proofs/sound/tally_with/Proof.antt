@@ -1,4 +1,4 @@
--- What 511 entries come to leaves room for one more.
+-- What one entry fewer than the most comes to leaves room for one more.
 use borrow.Author.Needs.{needs}
 use Rattle.ledger.proofs.sound.tally_with.Statement.{statement}
 use Rattle.ledger.proofs.sound.tally_with.Tie as tie

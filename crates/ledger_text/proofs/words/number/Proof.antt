@@ -1,5 +1,5 @@
 -- Each place read is below the length by the loop's test; the length less the place falls each turn.
-use Prim.Native.Nat.{_≤_, _-_}
+use Prim.Native.Nat.{_-_}
 use lib.ListN.{length}
 use borrow.Author.Needs.{needs}
 use Rattle.ledger_text.proofs.words.number.Statement.{statement}

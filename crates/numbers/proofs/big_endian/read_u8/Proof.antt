@@ -1,6 +1,6 @@
 -- The number of one byte is that byte (numberAt-one).
 use mathlib.Core.Path.{sym}
-use Rattle.numbers.specs.BigEndianLaws.{numberAt-one}
+use Rattle.numbers.specs.Theorems.BigEndian.{numberAt-one}
 use native.Mathlib.Omega.{arith}
 use borrow.Author.Needs.{needs}
 use Rattle.numbers.proofs.big_endian.read_u8.Statement.{statement}

@@ -1,5 +1,5 @@
 -- A number's high half written, and then its low half, is the number written (written-add).
-use Rattle.numbers.specs.BigEndianLaws.{written-add}
+use Rattle.numbers.specs.Theorems.BigEndian.{written-add}
 use native.Mathlib.Omega.{arith}
 use borrow.Author.Needs.{needs}
 use Rattle.numbers.proofs.big_endian.write_u16.Statement.{statement}

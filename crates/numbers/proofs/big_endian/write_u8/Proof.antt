@@ -1,6 +1,6 @@
 -- To write a number as one byte is to store it (written-one).
 use mathlib.Core.Path.{sym}
-use Rattle.numbers.specs.BigEndianLaws.{written-one}
+use Rattle.numbers.specs.Theorems.BigEndian.{written-one}
 use native.Mathlib.Omega.{arith}
 use borrow.Author.Needs.{needs}
 use Rattle.numbers.proofs.big_endian.write_u8.Statement.{statement}

@@ -1,8 +1,8 @@
 -- A book that stands lies within document 01's limits (`book-within-limits`), which is what `request_bounds` requires.
 use mathlib.Core.Path.{_≡_}
-use Rattle.tagged.specs.declared.file.Standing.the-variants.{Stands}
+use Rattle.tagged.specs.declared.file.FileAnswer.the-variants.{Stands}
 use Rattle.rate_book.specs.Book.{bookOf}
-use Rattle.rate_book.specs.BookWithin.{book-within-limits}
+use Rattle.rate_book.specs.Theorems.BookLimits.{book-within-limits}
 use borrow.Author.Needs.{needs}
 use Rattle.printed_figures.proofs.tolerance.file_bounds.Statement.{statement}
 use Rattle.printed_figures.proofs.tolerance.file_bounds.Tie as tie

@@ -3,13 +3,14 @@ use Prim.Native.Nat.{_+_, _-_, _≤_}
 use mathlib.Core.Path.{_≡_, refl}
 use native.Mathlib.Numerals.{add-one}
 use Rattle.revenue.specs.Revenue.{discount}
+use Rattle.revenue.specs.RevenueLimits.{highestDiscount}
 use Rattle.printed_figures.specs.Tolerance.{NearWithin}
 use borrow.Author.Needs.{needs}
 use Rattle.printed_figures.proofs.tolerance.near_stream.Statement.{statement}
 use Rattle.printed_figures.proofs.tolerance.near_stream.Tie as tie
 
 abbrev Inv-loop : tie.InvT-loop
-Inv-loop stream offs b life sum₀ f₀ n₀ sum f n = (n ≤ life + 1) × (f ≡ discount b n) × (f ≤ 100000000) × NearWithin sum
+Inv-loop stream offs b life sum₀ f₀ n₀ sum f n = (n ≤ life + 1) × (f ≡ discount b n) × (f ≤ highestDiscount) × NearWithin sum
 
 abbrev μ-loop : tie.MeasureT-loop
 μ-loop stream offs b life sum₀ f₀ n₀ sum f n = (life + 1) - n

@@ -38,7 +38,7 @@ factor-of-requires-3 : tie.Need-factor-of-requires-3
 factor-of-requires-3 c κs = c .before .before .before .before .before .before .before .before .before .before .before .before .pre .0 .tariff-factors
 
 times-requires-4 : tie.Need-times-requires-4
-times-requires-4 c κs = (c .before .times3 .ensures, c .factor-of3 .ensures, c .before .before .before .before .before .before .before .before .before .before .before .before .before .pre .1 .tariff)
+times-requires-4 c κs = (c .before .times3 .ensures, c .factor-of3 .ensures .1, c .before .before .before .before .before .before .before .before .before .before .before .before .before .pre .1 .tariff)
 
 add-times : tie.Need-add-times
 add-times c = record { fits = omega (arith, c .before .before .before .before .before .before .before .before .before .before .before .before .before .before .pre .3) }

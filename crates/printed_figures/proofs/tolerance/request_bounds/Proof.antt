@@ -1,8 +1,8 @@
 -- A request that stands lies within document 01's limits (`request-within-limits`), which is what `bounds_of` requires.
 use mathlib.Core.Path.{_≡_}
-use Rattle.tagged.specs.declared.file.Standing.the-variants.{Stands}
+use Rattle.tagged.specs.declared.file.FileAnswer.the-variants.{Stands}
 use Rattle.request.specs.Request.{requestOf}
-use Rattle.request.specs.RequestWithin.{request-within-limits}
+use Rattle.request.specs.Theorems.RequestLimits.{request-within-limits}
 use borrow.Author.Needs.{needs}
 use Rattle.printed_figures.proofs.tolerance.request_bounds.Statement.{statement}
 use Rattle.printed_figures.proofs.tolerance.request_bounds.Tie as tie

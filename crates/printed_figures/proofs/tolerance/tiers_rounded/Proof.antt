@@ -3,14 +3,15 @@ use Prim.Native.Nat.{_≤_, _-_}
 use mathlib.Core.Logic.{⊎-elim}
 use native.Mathlib.Omega.{arith}
 use borrow.Author.Needs.{needs}
+use Rattle.field_values.specs.Limits.{tierCount}
 use Rattle.printed_figures.proofs.tolerance.tiers_rounded.Statement.{statement}
 use Rattle.printed_figures.proofs.tolerance.tiers_rounded.Tie as tie
 
 abbrev Inv-loop : tie.InvT-loop
-Inv-loop demands rounded₀ tier₀ rounded tier = (tier ≤ 5) × (rounded ≤ tier)
+Inv-loop demands rounded₀ tier₀ rounded tier = (tier ≤ tierCount) × (rounded ≤ tier)
 
 abbrev μ-loop : tie.MeasureT-loop
-μ-loop demands rounded₀ tier₀ rounded tier = 5 - tier
+μ-loop demands rounded₀ tier₀ rounded tier = tierCount - tier
 
 loop-holds : tie.Need-loop-holds Inv-loop μ-loop
 loop-holds c = search needs

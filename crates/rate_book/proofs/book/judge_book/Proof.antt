@@ -3,7 +3,7 @@ use mathlib.Core.Path.{refl}
 use borrow.Author.Needs.{needs}
 use Rattle.field_values.specs.Judged.{narrow}
 use Rattle.book_zones.specs.Zones.{judgeZones}
-use Rattle.field_values.specs.JudgedLaws.{in-order-end}
+use Rattle.field_values.specs.Theorems.Judged.{in-order-end}
 use Rattle.rate_book.proofs.book.judge_book.Statement.{statement}
 use Rattle.rate_book.proofs.book.judge_book.Tie as tie
 

@@ -1,7 +1,7 @@
 -- Each return is one case of the definition; the fields of a book that stands walk (book-walks), as the reading of its rates needs.
 use mathlib.Core.Path.{sym, _∙_}
 use borrow.Author.Needs.{needs}
-use Rattle.rate_book.specs.BookFacts.{book-refused, book-walks}
+use Rattle.rate_book.specs.Theorems.Book.{book-refused, book-walks}
 use Rattle.rate_book.proofs.book.read_book.Statement.{statement}
 use Rattle.rate_book.proofs.book.read_book.Tie as tie
 
@@ -20,8 +20,8 @@ zone-rates-requires c κs =
     let entry = told .before .before .before .before in
     rw (c .fields-part .ensures .0) (book-walks (entry .args .number) (entry .args .file .now) (sym (told .before .before .book-stands .ensures) ∙ told .enum-told .given .1))
 
-read-standing-book-requires : tie.Need-read-standing-book-requires
-read-standing-book-requires c κs =
+read-walked-book-requires : tie.Need-read-walked-book-requires
+read-walked-book-requires c κs =
     let told = c .before .before in
     (sym (told .before .before .book-stands .ensures) ∙ told .enum-told .given .1, rw (c .zone-rates .ensures, c .before .fields-part .ensures .0))
 
@@ -51,7 +51,7 @@ read-book-spec =
     enum-told
     fields-part-requires
     zone-rates-requires
-    read-standing-book-requires
+    read-walked-book-requires
     enum-known-standing
     refused-book-requires
     returns

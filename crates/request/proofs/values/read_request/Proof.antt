@@ -2,30 +2,32 @@
 use mathlib.Core.Path.{_≡_, sym, ap, _∙_}
 use borrow.Author.Needs.{needs}
 use Rattle.field_walk.specs.Walk.{walk}
-use Rattle.tagged.specs.File.{standing}
-use Rattle.tagged.specs.FileLaws.{stands-means}
-use Rattle.tagged.specs.declared.file.Standing.the-variants.{Stands}
+use Rattle.tagged.specs.File.{fileAnswer}
+use Rattle.tagged.specs.Theorems.File.{stands-means}
+use Rattle.tagged.specs.declared.file.FileAnswer.the-variants.{Stands}
+use Rattle.field_values.specs.Reading.{readingOf}
 use Rattle.field_values.specs.declared.judged.Judged.{Judged}
 use Rattle.field_values.specs.declared.judged.Judged.the-variants.{Passes, Fails}
-use Rattle.request.specs.Rows.{requestRows}
-use Rattle.request.specs.Request.{judgeRequest, requestValues, ofJudged, requestOf}
-use Rattle.request.specs.RequestFacts.{request-refused, request-judged}
+use Rattle.request.specs.RequestRows.{requestRows}
+use Rattle.request.specs.Request.{judgeRequest, requestValues, refusedRequest, acceptedRequest, requestOf}
+use Rattle.request.specs.Theorems.Request.{request-refused, request-judged}
 use Rattle.request.proofs.values.read_request.Statement.{statement}
 use Rattle.request.proofs.values.read_request.Tie as tie
 
 stands : (c : tie.After-fields-part) →
-    standing requestRows (c .before .before .before .before .before .args .number) (c .before .before .before .before .before .args .file .now) ≡ Stands
+    fileAnswer requestRows (c .before .before .before .before .before .args .number) (c .before .before .before .before .before .args .file .now) ≡ Stands
 stands c = sym (c .before .before .before .request-stands .ensures) ∙ c .before .enum-told .given .1
 
 -- the reading of a file that stands, by what was judged of its fields
 as-judged : (c : tie.After-judge-request) (judged : Judged) → c .judge-request .result ≡ judged →
     requestOf (c .before .before .before .before .before .before .args .number) (c .before .before .before .before .before .before .args .file .now)
-    ≡ ofJudged (c .before .before .before .before .before .before .args .number) judged (requestValues (c .before .fields-part .result .now))
+    ≡ readingOf refusedRequest (c .before .before .before .before .before .before .args .number) Stands judged
+    (acceptedRequest (requestValues (c .before .fields-part .result .now)))
 as-judged c judged e =
     let args = c .before .before .before .before .before .before .args in
     let part = sym (c .before .fields-part .ensures .0) in
     request-judged (args .number) (args .file .now) judged (stands (c .before)) (ap judgeRequest part ∙ sym (c .judge-request .ensures) ∙ e)
-    ∙ ap (λ s. ofJudged (args .number) judged (requestValues s)) part
+    ∙ ap (λ s. readingOf refusedRequest (args .number) Stands judged (acceptedRequest (requestValues s))) part
 
 request-stands-requires : tie.Need-request-stands-requires
 request-stands-requires c κs = search needs

@@ -7,19 +7,20 @@ use native.Mathlib.Omega.{arith}
 use borrow.Author.Needs.{needs}
 use borrow.Author.Tests.{not-true, not-false}
 use Rattle.field_walk.specs.Walk.{Walk, fields, stops, walk, walked}
-use Rattle.tagged.specs.File.{tailStands, checkStands, fieldsPart, refusal, ofWalk, standing}
-use Rattle.tagged.specs.FileLaws.{tail-size, walk-decides}
+use Rattle.tagged.specs.File.{tailStands, checkStands, fieldsPart, refusal, ofWalk, fileAnswer}
+use Rattle.tagged.specs.Refusals.{fileDoesNotWalk}
+use Rattle.tagged.specs.Theorems.File.{tail-size, walk-decides}
 use Rattle.field_walk.specs.declared.walk.Walked.{Walked}
 use Rattle.field_walk.specs.declared.walk.Walked.the-variants.{Walks, Stops}
-use Rattle.tagged.specs.declared.file.Standing.{Standing}
-use Rattle.tagged.specs.declared.file.Standing.the-variants.{Stands, Refused}
+use Rattle.tagged.specs.declared.file.FileAnswer.{FileAnswer}
+use Rattle.tagged.specs.declared.file.FileAnswer.the-variants.{Stands, Refused}
 use Rattle.tagged.proofs.file.file_stands.Statement.{statement}
 use Rattle.tagged.proofs.file.file_stands.Tie as tie
 
 -- what the walk's answer says of a file whose last five bytes and check stand
-abbrev ofWalked : ℕ → Walked → Standing
+abbrev ofWalked : ℕ → Walked → FileAnswer
 ofWalked file Walks = Stands
-ofWalked file (Stops at) = Refused (refusal 1 file at)
+ofWalked file (Stops at) = Refused (refusal fileDoesNotWalk file at)
 
 of-walked : (file : ℕ) (w : Walk) → ofWalk file w ≡ ofWalked file (walked w)
 of-walked file (fields fs) = refl
@@ -27,7 +28,7 @@ of-walked file (stops at) = refl
 
 stands-as-walked : (rows : List (List ℕ)) (file : ℕ) (s part : List ℕ) {tail right : Bool} {answer : Walked}
     → tail ≡ tailStands s → not tail ≡ false → right ≡ checkStands s → not right ≡ false
-    → part ≡ fieldsPart s → answer ≡ walked (walk rows part) → standing rows file s ≡ ofWalked file answer
+    → part ≡ fieldsPart s → answer ≡ walked (walk rows part) → fileAnswer rows file s ≡ ofWalked file answer
 stands-as-walked rows file s part t t′ k k′ p a =
     walk-decides rows file s (sym t ∙ not-false _ t′) (sym k ∙ not-false _ k′)
     ∙ ap (λ x. ofWalk file (walk rows x)) (sym p)

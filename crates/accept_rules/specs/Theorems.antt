@@ -1,0 +1,3 @@
+pub mod AcceptByPricing
+pub mod AcceptAnswers
+pub mod AlteredFiles

@@ -1,0 +1,5 @@
+pub mod Plan
+pub mod PlanNeeds
+pub mod PlanFits
+pub mod PlanIsCall
+pub mod PlanPromised

@@ -1,0 +1,3 @@
+pub mod ZoneFields
+pub mod Zones
+pub mod ZoneLimits

@@ -1,0 +1,3 @@
+pub mod Verdict
+pub mod Calls
+pub mod CallEnding

@@ -1,0 +1,3 @@
+pub mod MarkedFigures
+pub mod PriceEnding
+pub mod Price

@@ -1,0 +1,4 @@
+pub mod PriceRefusals
+pub mod PriceEnding
+pub mod Price
+pub mod Bill

@@ -1,0 +1,5 @@
+pub mod ChangePromised
+pub mod ChangedRecord
+pub mod EntryCalls
+pub mod ChangeIsCall
+pub mod EntryCallAnswers

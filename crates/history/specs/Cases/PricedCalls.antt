@@ -1,0 +1,26 @@
+-- What pricing answers of the books and requests of the computed histories, one equation each.
+use mathlib.Core.Path.{refl}
+use mathlib.Core.List.{flatMap}
+use Rattle.numbers.specs.BigEndian.{number, bytesOf}
+use Rattle.numbers.specs.Check.{checkFrom}
+use Rattle.field_walk.specs.Walk.{dueFrom, allHad, frontOf, walkFrom}
+use Rattle.tagged.specs.Find.{fieldsFrom, firstWith, fieldsWith}
+use Rattle.field_values.specs.Judged.{judgeNumbers, sameBytes}
+use Rattle.book_zones.specs.Zones.{judgeZonesFrom}
+use Rattle.rate_book.specs.Book.{bookOf}
+use Rattle.request.specs.Request.{requestOf}
+use Rattle.revenue.specs.Revenue.{discount, incrementalRevenue}
+use Rattle.charge.specs.Price.{zoneFound, valuesPriced, requestPriced, priceOf}
+use Rattle.charge.specs.Cases.MarkedFigures.{SchemeBilled}
+use Rattle.history.specs.Cases.CentsBook.{CentsBilled}
+
+pub record PricedRequests : Type 0 where
+  pub cents-opening : CentsBilled 10 19 0
+  pub cents-joining : CentsBilled 0 8 1
+  pub cents-last : CentsBilled 0 215 1
+  -- by the slip's book, M7's last joining in the last month of the term
+  pub marked-last : SchemeBilled 1039630 24398 5000 1
+
+pub priced-requests : PricedRequests
+unfolding checkFrom number bytesOf dueFrom allHad frontOf walkFrom fieldsFrom firstWith fieldsWith judgeNumbers sameBytes judgeZonesFrom bookOf requestOf discount incrementalRevenue zoneFound valuesPriced requestPriced priceOf flatMap
+priced-requests = record { cents-opening = refl; cents-joining = refl; cents-last = refl; marked-last = refl }

@@ -1,0 +1,13 @@
+pub mod Split
+pub mod Fair
+pub mod Chain
+pub mod CreditedGrows
+pub mod NeverUnsound
+pub mod Numbering
+pub mod SoundAccount
+pub mod SoundHistory
+pub mod Shows
+pub mod Terms
+pub mod CallSteps
+pub mod ShownState
+pub mod EveryListOfCalls

@@ -1,0 +1,7 @@
+pub mod RefusalPlaces
+pub mod UnitBuffers
+pub mod UnitFigures
+pub mod ResultParts
+pub mod UnitPlaces
+pub mod UnitRefusals
+pub mod UnitResults

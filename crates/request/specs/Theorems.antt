@@ -1,0 +1,3 @@
+pub mod Request
+pub mod RequestSizes
+pub mod RequestLimits

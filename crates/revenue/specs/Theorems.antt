@@ -1,0 +1,2 @@
+pub mod DiscountBounds
+pub mod Revenue

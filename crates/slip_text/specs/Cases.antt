@@ -1,0 +1,2 @@
+pub mod SlipEnding
+pub mod Slip

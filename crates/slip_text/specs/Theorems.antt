@@ -1,0 +1,3 @@
+pub mod AlteredFiles
+pub mod SlipEnding
+pub mod Slip

@@ -1,0 +1,4 @@
+pub mod StoredEnding
+pub mod Stored
+pub mod Form
+pub mod StoredRows

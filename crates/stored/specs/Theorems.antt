@@ -1,0 +1,12 @@
+pub mod Layout
+pub mod Form
+pub mod PartsWith
+pub mod StoredFields
+pub mod FormFields
+pub mod Reading
+pub mod StoredAccepted
+pub mod ReadLedger
+pub mod SameForm
+pub mod Writing
+pub mod RoundTrips
+pub mod StoredEnding

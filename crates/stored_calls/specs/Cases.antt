@@ -1,0 +1,3 @@
+pub mod StoredCallEnding
+pub mod StoredCallEnd
+pub mod StoredCalls

@@ -1,0 +1,5 @@
+pub mod FormFits
+pub mod StoredCalls
+pub mod StoredCallEnding
+pub mod StoredCallsRefusals
+pub mod StoredCallsReadBack

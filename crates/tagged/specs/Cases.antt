@@ -1,0 +1,3 @@
+pub mod AlteredFields
+pub mod File
+pub mod Find

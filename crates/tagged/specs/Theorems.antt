@@ -1,0 +1,10 @@
+pub mod File
+pub mod AlteredByte
+pub mod Walk
+pub mod FoundFields
+pub mod ClosedFiles
+pub mod Ending
+pub mod FieldsWith
+pub mod Impossible
+pub mod TestedAnswers
+pub mod WalkEncoded
