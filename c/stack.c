@@ -34,6 +34,11 @@ static void slip_text(void)
     result = fikrem_slip_text(book, book_size, request, request_size, text, sizeof text, answer, FIKREM_ANSWER);
 }
 
+static void page(void)
+{
+    result = fikrem_page(book, book_size, request, request_size, out, FIKREM_LEDGER_SIZE);
+}
+
 static void new_ledger(void)
 {
     result = fikrem_new_ledger(out, FIKREM_LEDGER_SIZE, answer, FIKREM_ANSWER);
@@ -120,6 +125,7 @@ int main(int count, char **names)
     request_size = read_file(names[2], request);
     tell("price", price, 4);
     tell("slip text", slip_text, 12);
+    tell("page", page, 4);
     tell("new ledger", new_ledger, 40);
     fill(511);
     tell("accept", accept, 128);

@@ -1,16 +1,17 @@
 /* Fikrem for the firmware of quoting units: connection charges and pioneer ledgers on lent buffers.
  *
- * Link target/staticlib/libquoting_unit.a (x86-64). It needs memcpy and memset, which every C library has, and nothing else. No
- * call allocates, keeps anything or writes past the sizes that it is handed. Every buffer is a pointer and its size in elements.
- * No pointer is NULL, also where its size is 0, and no two buffers of one call overlap where one of them is written.
+ * Link target/staticlib/libquoting_unit.a (x86-64), and libfikrem_page.a beside it for fikrem_page. They need memcpy and memset,
+ * which every C library has, and nothing else. No call allocates, keeps anything or writes past the sizes that it is handed. Every
+ * buffer is a pointer and its size in elements. No pointer is NULL, also where its size is 0, and no two buffers of one call overlap
+ * where one of them is written.
  *
  * docs/FORMAT.md has the bytes of a rate book, a request and a stored ledger with every limit; docs/RULES.md the rules: which bespoke
  * rates are allowed ('Charge and reconciliation'), when a scheme opens or is joined ('Accept'), which ledgers are sound ('Soundness').
  *
  * Money is in whole cents, capacity in hundredths of a kVA; a month is year * 12 + (month - 1), so that April 2026 is 24315.
  *
- * A call takes at most this much stack, in KiB, as c/stack.c measures it on a painted stack with the longest ledger: price 4, slip
- * text 12, new ledger 40, check 80, pay-out and hand-over 112, accept 128.
+ * A call takes at most this much stack, in KiB, as c/stack.c measures it on a painted stack with the longest ledger: price 4, page 4,
+ * slip text 12, new ledger 40, check 80, pay-out and hand-over 112, accept 128.
  */
 #ifndef FIKREM_H
 #define FIKREM_H
@@ -109,6 +110,9 @@ enum fikrem_figure {
 #define FIKREM_TEXT_SIZE 256
 #define FIKREM_LEDGER_SIZE 18661
 
+/* A page: 12 lines of 64 bytes. */
+#define FIKREM_PAGE_SIZE 768
+
 /* The longest party table. A call's table_size is the length of the unit's own in records; a longer one than this counts as this. */
 #define FIKREM_TABLE_SIZE 512
 
@@ -125,6 +129,12 @@ uint64_t fikrem_price(const uint8_t *book, size_t book_size, const uint8_t *requ
  * priced has a slip too, the line `REFUSED n file place`: then too the call is done. Refusals: 14. */
 uint64_t fikrem_slip_text(const uint8_t *book, size_t book_size, const uint8_t *request, size_t request_size,
                           uint8_t *text, size_t text_size, uint64_t *answer, size_t answer_places);
+
+/* The reconciliation as a page into out, FIKREM_PAGE_SIZE bytes, without a closing 0: the lines ME, MC, CE, CC2, TW, HR, OL, IC, IR,
+ * CC, NIC, NC, each a label of 32 bytes, an amount in dollars of 31 bytes, aligned to the right, and byte 0A. Refusals in turn: the
+ * book's 1 to 3, the request's 1 to 3; 4, 5; 14 for out. In libfikrem_page.a. */
+uint64_t fikrem_page(const uint8_t *book, size_t book_size, const uint8_t *request, size_t request_size,
+                     uint8_t *out, size_t out_size);
 
 /* The calls on a ledger take its stored form and write the ledger after them into out, FIKREM_LEDGER_SIZE bytes at most. After a
  * done call out holds the ledger: its first answer[FIKREM_WRITTEN] bytes are the next call's stored, and that number is its

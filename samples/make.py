@@ -176,6 +176,8 @@ def wanted():
     programs = {
         "list_fields": listed_files(),
         "slip": slip_files(),
+        "page": slip_files(),
+        "page_refusals": refused_slip_files(),
         "slip_refusals": refused_slip_files(),
         "stored_ledgers": ledgers.files(),
         "scenario": scenario_files(),

@@ -1,4 +1,4 @@
-//! Links libquoting_unit.a from the folder FIKREM_LIB, or from the repository's target/staticlib.
+//! Links libquoting_unit.a and libfikrem_page.a from the folder FIKREM_LIB, or from the repository's target/staticlib.
 
 use std::env;
 use std::path::PathBuf;
@@ -12,9 +12,11 @@ fn main() {
     };
     // cargo runs this in the package's folder and the linker in another, so that a relative folder would be two
     assert!(folder.is_absolute(), "FIKREM_LIB is {}: name the folder from the root on", folder.display());
-    let library = folder.join("libquoting_unit.a");
-    println!("cargo:rerun-if-changed={}", library.display());
-    assert!(library.exists(), "there is no {}: build it by 'rt staticlib quoting_unit'", library.display());
     println!("cargo:rustc-link-search=native={}", folder.display());
-    println!("cargo:rustc-link-lib=static:-bundle=quoting_unit");
+    for name in ["quoting_unit", "fikrem_page"] {
+        let library = folder.join(format!("lib{name}.a"));
+        println!("cargo:rerun-if-changed={}", library.display());
+        assert!(library.exists(), "there is no {}: build it by 'rt staticlib {name}'", library.display());
+        println!("cargo:rustc-link-lib=static:-bundle={name}");
+    }
 }

@@ -12,10 +12,10 @@ const COUNTED_SIZE: usize = 4_096;
 
 // How many bytes are read of a file: more than count, so that `counted` and not the reading leaves
 // the rest out.
-const READ_SIZE: usize = 8_192;
+pub const READ_SIZE: usize = 8_192;
 
 // What counts of a file.
-fn counted<'a>(file: &'a [u8]) -> &'a [u8]
+pub fn counted<'a>(file: &'a [u8]) -> &'a [u8]
     ensures { λ r. ⌜ (now r ≡ counted (now (file .entry))) × (r .ptr ≡ (file .entry) .ptr) ⌝ }
 {
     if file.len() < COUNTED_SIZE {

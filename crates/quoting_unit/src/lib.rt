@@ -64,7 +64,7 @@ fn place_in_result(place: usize) -> u64
 
 // A refusal in one number: its number in the lowest four bits, its file in the next two, whether it is of the stored ledger itself in
 // the next one, and its place from bit 8 on. The remainders take nothing from any refusal; by them every sum fits.
-fn result_of(refusal: Refusal, of_ledger: u8) -> u64
+pub fn result_of(refusal: Refusal, of_ledger: u8) -> u64
     ensures { λ r. ⌜ r ≡ resultOf refusal «of_ledger» ⌝ }
 {
     let number = refusal.number as u64;

@@ -18,10 +18,10 @@ abbrev pub belowZero : ℤ → Bool
 belowZero n = ltZ (toZ w64 (ofZ w64 n)) (pos 0)
 
 -- a number below 0 is no pos, and any other is no negsuc
-not-pos : (k : ℕ) → SFits w64 (pos k) → belowZero (pos k) ≡ true → ⊥
+pub not-pos : (k : ℕ) → SFits w64 (pos k) → belowZero (pos k) ≡ true → ⊥
 not-pos k f t = not-suc-le-zero (ltb-true k 0 (rw (toZ-ofZ w64 (pos k) f) at t))
 
-not-negsuc : (k : ℕ) → SFits w64 (negsuc k) → belowZero (negsuc k) ≡ false → ⊥
+pub not-negsuc : (k : ℕ) → SFits w64 (negsuc k) → belowZero (negsuc k) ≡ false → ⊥
 not-negsuc k f t = true≢false (rw (toZ-ofZ w64 (negsuc k) f) at t)
 
 -- -1 - n is one less than the size of a negative n, and fits

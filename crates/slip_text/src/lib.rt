@@ -80,7 +80,7 @@ fn with_decimal(text: Text, n: u64) -> Text
 
 // A figure without its sign. 0 - n does not fit where n is the lowest i64; -1 - n always does, and
 // is one less.
-fn size(n: i64) -> u64
+pub fn size(n: i64) -> u64
     ensures { λ r. ⌜ r ≡ natAbs n ⌝ }
 {
     if n < 0 {

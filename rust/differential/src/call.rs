@@ -1,7 +1,7 @@
 //! A call of the library and the buffers that it writes.
 
 use fikrem::raw::{self, ANSWER, FIGURES};
-use fikrem::LONGEST_FORM;
+use fikrem::{Refusal, LONGEST_FORM};
 use generate::Call;
 
 /// A call of the library.
@@ -9,6 +9,7 @@ use generate::Call;
 pub enum LibraryCall<'a> {
     Price { book: &'a [u8], request: &'a [u8] },
     SlipText { book: &'a [u8], request: &'a [u8] },
+    Page { book: &'a [u8], request: &'a [u8] },
     NewLedger,
     Accept { stored: &'a [u8], table_size: usize, book: &'a [u8], request: &'a [u8] },
     PayOut { stored: &'a [u8], table_size: usize, entry: u32, amount: u64 },
@@ -26,12 +27,16 @@ impl<'a> LibraryCall<'a> {
         }
     }
 
-    /// Makes the call of the library; a slip's text is written to `out`.
+    /// Makes the call of the library; a slip's text and a page are written to `out`.
     pub fn run(&self, buffers: &mut Buffers) -> u64 {
         let Buffers { out, figures, answer } = buffers;
         match *self {
             LibraryCall::Price { book, request } => raw::price(book, request, figures),
             LibraryCall::SlipText { book, request } => raw::slip_text(book, request, out, answer),
+            LibraryCall::Page { book, request } => match fikrem::page_into(book, request, out) {
+                Ok(()) => raw::DONE,
+                Err(Refusal { number, file, place }) => refused(number, file, false, place),
+            },
             LibraryCall::NewLedger => raw::new_ledger(out, answer),
             LibraryCall::Accept { stored, table_size, book, request } => {
                 raw::accept(stored, table_size, book, request, out, figures, answer)
@@ -50,6 +55,7 @@ impl<'a> LibraryCall<'a> {
         match self {
             LibraryCall::Price { .. } => "price",
             LibraryCall::SlipText { .. } => "slip text",
+            LibraryCall::Page { .. } => "page",
             LibraryCall::NewLedger => "new ledger",
             LibraryCall::Accept { .. } => "accept",
             LibraryCall::PayOut { .. } => "pay-out",
@@ -57,6 +63,11 @@ impl<'a> LibraryCall<'a> {
             LibraryCall::CheckLedger { .. } => "check ledger",
         }
     }
+}
+
+/// A refusal as the library's result: number + 16 × file + 64 × whether it is of the stored ledger + 256 × place.
+pub fn refused(number: u8, file: u8, stored: bool, place: usize) -> u64 {
+    u64::from(number) + 16 * u64::from(file) + 64 * u64::from(stored) + 256 * place as u64
 }
 
 /// The buffers that a call writes. They start with marks, so that whatever a call must leave alone shows.

@@ -1,10 +1,10 @@
 //! What a call of the library must come to, by the reference implementation.
 
-use crate::call::{Buffers, LibraryCall};
+use crate::call::{refused, Buffers, LibraryCall};
 use fikrem::raw::{ANSWER, FIGURES};
 use generate::{Call, Outcome};
 use reference::ledger::MOST_ENTRIES;
-use reference::{price, read_ledger, slip, write_ledger, Answer, Bill, Ledger, Party, Refusal};
+use reference::{page, price, read_ledger, slip, write_ledger, Answer, Bill, Ledger, Party, Refusal};
 
 const OUTPUT: Refusal = Refusal { number: 14, file: 0, place: 0 };
 
@@ -21,10 +21,9 @@ impl From<Refusal> for Refused {
 }
 
 impl Refused {
-    /// The refusal as the library's result: number + 16 × file + 64 × whether it is of the stored ledger + 256 × place.
     fn result(&self) -> u64 {
         let Refusal { number, file, place } = self.refusal;
-        u64::from(number) + 16 * u64::from(file) + 64 * u64::from(self.stored) + 256 * place as u64
+        refused(number, file, self.stored, place)
     }
 }
 
@@ -34,13 +33,13 @@ type Places = [u64; ANSWER];
 /// Makes the call by the reference implementation; the result and what stands in the buffers after it. A refusal
 /// changes none of them.
 pub fn run(call: &LibraryCall, buffers: &mut Buffers) -> u64 {
-    let priced = matches!(call, LibraryCall::Price { .. });
-    let figures_written = priced || matches!(call, LibraryCall::Accept { .. });
-    if (!priced && buffers.answer.len() < ANSWER) || (figures_written && buffers.figures.len() < FIGURES) {
+    let answered = !matches!(call, LibraryCall::Price { .. } | LibraryCall::Page { .. });
+    let figures_written = matches!(call, LibraryCall::Price { .. } | LibraryCall::Accept { .. });
+    if (answered && buffers.answer.len() < ANSWER) || (figures_written && buffers.figures.len() < FIGURES) {
         return Refused::from(OUTPUT).result();
     }
     match places_of(call, &mut buffers.out, &mut buffers.figures) {
-        Ok(places) if !priced => buffers.answer[..ANSWER].copy_from_slice(&places),
+        Ok(places) if answered => buffers.answer[..ANSWER].copy_from_slice(&places),
         Ok(_) => {}
         Err(refused) => return refused.result(),
     }
@@ -57,6 +56,10 @@ fn places_of(call: &LibraryCall, out: &mut [u8], figures: &mut [i64]) -> Result<
             let text = slip(book, request);
             out.get_mut(..text.len()).ok_or(OUTPUT)?.copy_from_slice(&text);
             Ok([0, 0, 0, text.len() as u64])
+        }
+        LibraryCall::Page { book, request } => {
+            page(book, request, out)?;
+            Ok([0; 4])
         }
         LibraryCall::NewLedger => Ok([0, 0, 0, write_ledger(&Ledger::new(), &[], out)? as u64]),
         LibraryCall::Accept { stored, table_size, book, request } => {

@@ -1,10 +1,13 @@
-//! Pricing and the slip.
+//! Pricing, the slip and the page.
 
 use crate::raw::{self, ANSWER, FIGURES};
 use crate::refusal::Refusal;
 
 /// The most bytes that a slip has.
 pub const LONGEST_SLIP: usize = raw::TEXT_SIZE;
+
+/// The bytes of a page: 12 lines of 64.
+pub const PAGE: usize = raw::PAGE_SIZE;
 
 /// What pricing a request by a book comes to, in cents and whole percent.
 #[derive(Debug, Clone, Copy, PartialEq, Eq)]
@@ -98,6 +101,21 @@ pub fn slip_text_into(book: &[u8], request: &[u8], text: &mut [u8]) -> Result<us
     let mut answer = [0; ANSWER];
     match raw::slip_text(book, request, text, &mut answer) {
         raw::DONE => Ok(answer[raw::WRITTEN] as usize),
+        result => Err(Refusal::of(result)),
+    }
+}
+
+/// The reconciliation as a page: "12 lines of 64 bytes, byte 0A last on each".
+pub fn page(book: &[u8], request: &[u8]) -> Result<[u8; PAGE], Refusal> {
+    let mut page = [0; PAGE];
+    page_into(book, request, &mut page)?;
+    Ok(page)
+}
+
+/// Writes the page at the start of the output; refused by 14, after 5, where that is shorter.
+pub fn page_into(book: &[u8], request: &[u8], out: &mut [u8]) -> Result<(), Refusal> {
+    match raw::page(book, request, out) {
+        raw::DONE => Ok(()),
         result => Err(Refusal::of(result)),
     }
 }

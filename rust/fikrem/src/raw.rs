@@ -87,11 +87,13 @@ pub const HAS_NCRATIO: usize = 19;
 pub const NCRATIO: usize = 20;
 pub const FIGURES: usize = 21;
 
-// The most bytes of a book, a request, a slip and a stored ledger, and the records of the longest party table.
+// The most bytes of a book, a request, a slip and a stored ledger, the bytes of a page, and the records of the longest
+// party table.
 pub const BOOK_SIZE: usize = 313;
 pub const REQUEST_SIZE: usize = 205;
 pub const TEXT_SIZE: usize = 256;
 pub const LEDGER_SIZE: usize = 18_661;
+pub const PAGE_SIZE: usize = 768;
 pub const TABLE_SIZE: usize = 512;
 
 mod declared {
@@ -113,6 +115,14 @@ mod declared {
             text_size: usize,
             answer: *mut u64,
             answer_places: usize,
+        ) -> u64;
+        pub fn fikrem_page(
+            book: *const u8,
+            book_size: usize,
+            request: *const u8,
+            request_size: usize,
+            out: *mut u8,
+            out_size: usize,
         ) -> u64;
         pub fn fikrem_new_ledger(out: *mut u8, out_size: usize, answer: *mut u64, answer_places: usize) -> u64;
         pub fn fikrem_accept(
@@ -190,6 +200,12 @@ pub fn slip_text(book: &[u8], request: &[u8], text: &mut [u8], answer: &mut [u64
             answer.as_mut_ptr(),
             answer.len(),
         )
+    }
+}
+
+pub fn page(book: &[u8], request: &[u8], out: &mut [u8]) -> u64 {
+    unsafe {
+        declared::fikrem_page(book.as_ptr(), book.len(), request.as_ptr(), request.len(), out.as_mut_ptr(), out.len())
     }
 }
 

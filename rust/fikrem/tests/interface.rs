@@ -1,4 +1,4 @@
-//! The three texts of the interface say the same: `include/fikrem.h`, `src/raw.rs` and the library's own code. Kinds are
+//! The three texts of the interface say the same: `include/fikrem.h`, `src/raw.rs` and the libraries' own code. Kinds are
 //! compared in `raw.rs`'s words.
 
 use fikrem::Refusal;
@@ -8,6 +8,7 @@ use std::{env, fs, path::Path};
 const HEADER: &str = "../../include/fikrem.h";
 const RAW: &str = "src/raw.rs";
 const LIBRARY: &str = "../../crates/quoting_unit/src/lib.rt";
+const PAGE_LIBRARY: &str = "../../crates/fikrem_page/src/lib.rt";
 
 /// A function's parameters, each with its kind, and the kind of its result.
 type Function = (Vec<(String, String)>, String);
@@ -96,7 +97,7 @@ fn as_pointer((name, kind): (String, String)) -> Vec<(String, String)> {
 }
 
 fn functions_of_library() -> BTreeMap<String, Function> {
-    let library = text(LIBRARY);
+    let library = text(LIBRARY) + &text(PAGE_LIBRARY);
     let exported = library.split("#[no_mangle]").skip(1).map(|part| split(part, "pub extern \"C\" fn ").1);
     exported
         .map(function_of_rust)
@@ -107,7 +108,7 @@ fn functions_of_library() -> BTreeMap<String, Function> {
 #[test]
 fn the_same_functions() {
     let (header, raw, library) = (functions_of_header(), functions_of_raw(), functions_of_library());
-    assert_eq!(library.len(), 7);
+    assert_eq!(library.len(), 8);
     let names = |functions: &BTreeMap<String, Function>| functions.keys().cloned().collect::<Vec<_>>();
     assert_eq!(names(&header), names(&library), "names of {HEADER} and {LIBRARY}");
     assert_eq!(names(&raw), names(&library), "names of {RAW} and {LIBRARY}");
@@ -149,6 +150,7 @@ fn the_same_numbers() {
         assert_eq!(library.get(name), header.get(name), "{name} of {LIBRARY} and {HEADER}");
     }
     assert_eq!(fikrem::LONGEST_SLIP.to_string(), header["TEXT_SIZE"]);
+    assert_eq!(fikrem::PAGE.to_string(), header["PAGE_SIZE"]);
     assert_eq!(fikrem::LONGEST_FORM.to_string(), header["LEDGER_SIZE"]);
     assert_eq!(fikrem::LONGEST_TABLE.to_string(), header["TABLE_SIZE"]);
 }

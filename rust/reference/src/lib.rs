@@ -1,4 +1,5 @@
-//! The connection charge and the pioneer ledger, written from document 01 alone, whose headings docs/RULES.md has.
+//! The connection charge and the pioneer ledger, written from document 01 alone, whose headings docs/RULES.md has, and
+//! the page of document 02, E1.
 //!
 //! Money is in whole cents, capacity in hundredths of a kVA, factors in ten-thousandths, months are
 //! year × 12 + (month − 1). Files are big endian. A refused call changes nothing.
@@ -7,6 +8,8 @@
 
 pub mod file;
 pub mod ledger;
+pub mod page;
+pub mod page_reader;
 pub mod pricing;
 pub mod rate_book;
 pub mod refusal;
@@ -15,6 +18,7 @@ pub mod slip;
 pub mod stored;
 
 pub use ledger::{accept, hand_over, pay_out, Answer, Ledger, Party, Scheme};
+pub use page::page;
 pub use pricing::{price, Bill, Reconciliation};
 pub use refusal::Refusal;
 pub use slip::slip;

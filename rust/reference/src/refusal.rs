@@ -34,7 +34,7 @@ pub const NO_ENTRY: u8 = 11;
 pub const STANDING_CREDIT: u8 = 12;
 /// "ledger unsound, or table shorter than its entries"
 pub const UNSOUND: u8 = 13;
-/// "output shorter than the stored form"
+/// "output shorter than the stored form"; of a page, "An output under 768 bytes"
 pub const OUTPUT: u8 = 14;
 
 /// The refusals in words that stand by themselves, from number 1 on.
@@ -52,7 +52,7 @@ const WORDS: [&str; 14] = [
     "no such entry",
     "pay-out above standing credit",
     "ledger unsound, or table shorter than its entries",
-    "output shorter than the stored form",
+    "output shorter than the stored form or the page",
 ];
 
 /// A refusal: its number, 1 to 14, the file it is about and the place in it.

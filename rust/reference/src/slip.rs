@@ -41,6 +41,7 @@ impl fmt::Display for Percentage {
     }
 }
 
-fn refused(refusal: &Refusal) -> String {
+/// "A refusal is the one line `REFUSED n file place`."
+pub(crate) fn refused(refusal: &Refusal) -> String {
     format!("REFUSED {} {} {}\n", refusal.number, refusal.file, refusal.place)
 }

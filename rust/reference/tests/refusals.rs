@@ -35,7 +35,8 @@ fn opening() -> Request {
 #[test]
 fn words_for_every_number() {
     let words: Vec<_> = (1..=14).map(|number| call(number).words()).collect();
-    assert_eq!((words[0], words[13]), ("file doesn't walk as tagged fields", "output shorter than the stored form"));
+    assert_eq!(words[0], "file doesn't walk as tagged fields");
+    assert_eq!(words[13], "output shorter than the stored form or the page");
     assert!(words.iter().enumerate().all(|(index, word)| !words[..index].contains(word)));
     assert_eq!([0, 15, 255].map(|number| call(number).words()), ["no refusal"; 3]);
 }

@@ -7,7 +7,7 @@ use generate::ledgers::table_size;
 use generate::{Book, Random, Request};
 
 /// A file that is refused by 1, 2 or 3.
-fn faulty(random: &mut Random, file: &[u8]) -> Vec<u8> {
+pub fn faulty(random: &mut Random, file: &[u8]) -> Vec<u8> {
     match random.within(0, 2) {
         0 => file[..file.len() - 1].to_vec(),
         1 => alter_byte(file, 5, file[5] ^ 1),

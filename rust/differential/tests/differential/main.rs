@@ -6,6 +6,7 @@ mod damage;
 mod faults;
 mod ledgers;
 mod lists;
+mod page;
 mod pricing;
 mod tables;
 mod wrapper;
@@ -36,5 +37,12 @@ fn main() {
     tally.section("stored ledgers read with tables of every length", tables::every_length);
     tally.section("buffers of every length", buffers::every_length);
     tally.section("the safe wrapper", wrapper::wrapper);
+    tally.section("pages of books and requests within their limits", page::random_pairs);
+    tally.section("pages of every small amount", page::small_amounts);
+    tally.section("pages of amounts about the powers of ten", page::powers_of_ten);
+    tally.section("pages of damaged books and requests", page::damaged_files);
+    tally.section("pages of values past their limits", page::past_limits);
+    tally.section("pages with several faults at once", page::faults_at_once);
+    tally.section("pages on outputs of every length", page::every_length);
     tally.finish();
 }

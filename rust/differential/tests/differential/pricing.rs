@@ -12,22 +12,27 @@ fn both(tally: &mut Tally, book: &[u8], request: &[u8]) -> u64 {
 }
 
 /// Over all limits and edges; some of a zone that isn't in the book, some of a bespoke rate that isn't allowed.
+pub fn random_pair(random: &mut Random) -> (Book, Request) {
+    let (book, mut request) = pair(random);
+    match random.within(0, 9) {
+        0 => request.zone = book.missing_zone(random),
+        1 => {
+            let tier = random.index(5);
+            let posted = book.rates(request.zone).map_or(0, |rates| rates[tier]);
+            request.tiers[tier].mode = 2;
+            request.tiers[tier].bespoke_rate = refused_bespoke_rate(random, posted);
+        }
+        2 => request = Request { zone: request.zone, ..Request::loose(random) },
+        _ => {}
+    }
+    (book, request)
+}
+
 pub fn random_pairs(tally: &mut Tally) {
     let mut random = Random::new(100);
     assert_eq!(both(tally, &Book::slip().encode(), &Request::slip().encode()), 0);
     for _ in 0..cases(40_000) {
-        let (book, mut request) = pair(&mut random);
-        match random.within(0, 9) {
-            0 => request.zone = book.missing_zone(&mut random),
-            1 => {
-                let tier = random.index(5);
-                let posted = book.rates(request.zone).map_or(0, |rates| rates[tier]);
-                request.tiers[tier].mode = 2;
-                request.tiers[tier].bespoke_rate = refused_bespoke_rate(&mut random, posted);
-            }
-            2 => request = Request { zone: request.zone, ..Request::loose(&mut random) },
-            _ => {}
-        }
+        let (book, request) = random_pair(&mut random);
         both(tally, &book.encode(), &request.encode());
     }
 }

@@ -1,0 +1,4 @@
+pub mod Amounts
+pub mod Page
+pub mod Pages
+pub mod PageEnding

@@ -1,0 +1,4 @@
+pub mod Page
+pub mod ReadBack
+pub mod PageShape
+pub mod PageEnding
