@@ -8,6 +8,7 @@ use native.Mathlib.Omega.{arith}
 use lib.ListN.{length, take, drop, length-take}
 use lib.Dec.{ltb}
 use borrow.Author.Tests.{ltb-false}
+use Rattle.tagged.specs.Theorems.Impossible.{impossible}
 use Rattle.tagged.specs.Refusals.{ledgerUnsound}
 use Rattle.charge.specs.Price.{priceOf}
 use Rattle.ledger.specs.Limits.{mostSchemes, mostEntries}
@@ -38,7 +39,7 @@ use Rattle.calls_by_value.specs.declared.ChangedTable.{ChangedTable}
 
 -- ---- the place of an entry that is changed
 none-done : {n : ℕ} {change : EntryChange} {number : ℕ} → change ≡ refusedChange number → PlaceIfDone n change
-none-done e done = let z : _≡_ {A = ℕ} 0 1 = cc in absurd (omega arith)
+none-done e done = impossible cc
 
 changed-at-place : (entries : List Party) (change : Party → Party) (n e : ℕ) → PlaceIfDone n (changedAt entries change (entryPlace n e))
 unfolding entryPlace
@@ -52,7 +53,7 @@ changed-within : (entries : List Party) (decision : Decision) → PlaceIfDone (l
 changed-within entries (accepted bill course credits) = none-done refl
 changed-within entries (paidOut s e amount) = changed-at-place entries _ (length entries) e
 changed-within entries (handedOver e person) = changed-at-place entries _ (length entries) e
-changed-within entries (refused r) = λ done. let z : _≡_ {A = ℕ} 0 1 = cc in absurd (omega arith)
+changed-within entries (refused r) = λ done. impossible cc
 
 module _ (ledger : Ledger) (parties : List Party) (room : ℕ) where
   abbrev table : List Party

@@ -9,6 +9,7 @@ use native.Mathlib.Omega.{arith}
 use lib.ListN.{length, getD, set}
 use lib.Dec.{eqb}
 use lib.IntN.{pos, _-ℤ_}
+use Rattle.tagged.specs.Theorems.Impossible.{impossible}
 use Rattle.numbers.specs.BigEndian.{Bytes}
 use Rattle.tagged.specs.File.{fieldsPart, refusal}
 use Rattle.tagged.specs.Refusals.{fileDoesNotWalk, checkDiffers}
@@ -53,7 +54,7 @@ no-bill e = let z : _≡_ {A = ℕ} 0 1 = cc in omega arith
 -- a zone that is found is one of the book's
 zone-found-below : (k zones : ℕ) (numbers : List ℕ) (number zone : ℕ) → zoneFound k zones numbers number ≡ At zone → zone < k + zones
 unfolding zoneFound
-zone-found-below k zero numbers number zone e = let z : _≡_ {A = ℕ} 0 1 = cc in absurd (omega arith)
+zone-found-below k zero numbers number zone e = impossible cc
 zone-found-below k (suc zones) numbers number zone e = by (eqb (getD numbers k 0) number) e (zone-found-below (k + 1) zones numbers number zone)
   where
     by : (test : Bool) → cond test (At k) (zoneFound (k + 1) zones numbers number) ≡ At zone →

@@ -1,9 +1,9 @@
 -- Two reconciliations with the same figures are the same.
 use Prim.Native.Nat.{ℕ}
 use mathlib.Core.Path.{_≡_, refl, ap}
-use native.Mathlib.Omega.{arith}
 use lib.IntN.{pos, natAbs}
 use lib.ListN.{getD}
+use Rattle.tagged.specs.Theorems.Impossible.{impossible}
 use Rattle.reconciliation.specs.Figures.{figureValues, percentIsThere, percentFigure}
 use Rattle.reconciliation.specs.declared.Reconciliation.{Reconciliation}
 use Rattle.reconciliation.specs.declared.Percent.{Percent}
@@ -11,8 +11,8 @@ use Rattle.reconciliation.specs.declared.Percent.the-variants.{Whole, No
 
 percent-told : (p q : Percent) → percentIsThere p ≡ percentIsThere q → percentFigure p ≡ percentFigure q → p ≡ q
 percent-told (Whole m) (Whole n) told figure = ap Whole figure
-percent-told (Whole m) None told figure = let z : _≡_ {A = ℕ} 1 0 = cc in absurd (omega arith)
-percent-told None (Whole n) told figure = let z : _≡_ {A = ℕ} 0 1 = cc in absurd (omega arith)
+percent-told (Whole m) None told figure = impossible cc
+percent-told None (Whole n) told figure = impossible cc
 percent-told None None told figure = refl
 
 pub reconciliation-by-figures : (r s : Reconciliation) → figureValues r ≡ figureValues s → r ≡ s

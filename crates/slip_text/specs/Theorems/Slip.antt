@@ -10,6 +10,7 @@ use borrow.Author.Tests.{lt-ltb, le-ltb, ltb-true, ltb-false, ne-eqb}
 use lib.Dec.{ltb}
 use lib.IntN.{ℤ, pos, negsuc, natAbs}
 use lib.ListN.{length, getD, drop, length-append, List·getD-append}
+use Rattle.tagged.specs.Theorems.Impossible.{impossible}
 use Rattle.tagged.specs.File.{refusal}
 use Rattle.tagged.specs.Refusals.{outputTooShort}
 use Rattle.tagged.specs.declared.file.Refusal.{Refusal}
@@ -150,7 +151,7 @@ refused-slip-changes-nothing pricing out r = by (ltb (length out) (length (slipO
   where
     by : (t : Bool) → cond t (Refused (refusal outputTooShort 0 0)) (Written (length (slipOf pricing))) ≡ Refused r → cond t out (slipOf pricing ++ drop (length (slipOf pricing)) out) ≡ out
     by true e = refl
-    by false e = let z : _≡_ {A = ℕ} 0 1 = cc in absurd (omega arith)
+    by false e = impossible cc
 
 -- document 01, 'The slip': its eight lines, from the bytes of its book and request on
 pub slip-of-document-01 :
@@ -164,5 +165,5 @@ written-within pricing out size e = by (ltb (length out) (length (slipOf pricing
   where
     by : (short : Bool) → ltb (length out) (length (slipOf pricing)) ≡ short →
         cond short (Refused (refusal outputTooShort 0 0)) (Written (length (slipOf pricing))) ≡ Written size → size ≤ length out
-    by true t p = let z : _≡_ {A = ℕ} 0 1 = cc in absurd (omega arith)
+    by true t p = impossible cc
     by false t p = let same : length (slipOf pricing) ≡ size = cc in omega (arith, ltb-false (length out) (length (slipOf pricing)) t)

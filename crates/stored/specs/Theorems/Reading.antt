@@ -4,11 +4,11 @@ use mathlib.Core.Path.{_≡_, refl, ap}
 use mathlib.Core.List.{List}
 use mathlib.Core.Bool.{Bool, true, false, cond}
 use native.Mathlib.Nat.{le-refl}
-use native.Mathlib.Omega.{arith}
 use lib.ListN.{length}
 use lib.Seq.{take-all}
 use lib.Dec.{leb}
 use borrow.Author.Tests.{le-leb, lt-leb}
+use Rattle.tagged.specs.Theorems.Impossible.{impossible}
 use Rattle.tagged.specs.File.{fileAnswer, fieldsPart, refusal}
 use Rattle.tagged.specs.Theorems.File.{RefusesTo, file-refusal-numbers}
 use Rattle.tagged.specs.Refusals.{checkDiffers, valueNotListed, noEntryLeft, ledgerUnsound}
@@ -71,7 +71,7 @@ refused-read-changes-nothing ledger table file r e = by-answer (readAnswer (leng
   where
     by-answer : (answer : FileAnswer) → tableBy answer ledger table (fieldsPart file) .answer ≡ Refused r →
         (tableBy answer ledger table (fieldsPart file) .ledger ≡ ledger) × (tableBy answer ledger table (fieldsPart file) .table ≡ table)
-    by-answer Stands e = let z : _≡_ {A = ℕ} 0 1 = cc in absurd (omega arith)
+    by-answer Stands e = impossible cc
     by-answer (Refused other) e = (refl, refl)
 
 in-turn-refuses : (first second : FileAnswer) → ReadRefuses first → ReadRefuses second → ReadRefuses (inTurn first second)

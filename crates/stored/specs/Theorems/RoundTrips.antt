@@ -10,6 +10,7 @@ use lib.ListN.{length, getD, take, drop, replicate, length-drop, length-replicat
 use lib.Seq.{length-take-le, take-take, getD-drop, ext-getD}
 use lib.Dec.{leb}
 use borrow.Author.Tests.{leb-true, leb-false}
+use Rattle.tagged.specs.Theorems.Impossible.{impossible}
 use Rattle.numbers.specs.BigEndian.{Bytes}
 use Rattle.tagged.specs.Find.{fieldStart, fieldValue}
 use Rattle.tagged.specs.Encoded.{encodedParts}
@@ -47,7 +48,7 @@ use Rattle.stored.specs.declared.writing.Written.the-variants as Written
 
 -- a refusal is no length
 refused-no-length : {A : Type 0} {r : Refusal} {size : ℕ} → Written.Refused r ≡ Length size → A
-refused-no-length e = let z : _≡_ {A = ℕ} 0 1 = cc in absurd (omega arith)
+refused-no-length e = impossible cc
 
 -- a write that answers a length was of a sound ledger, and the length is the form's
 module _ (ledger : Ledger) (parties : List Party) (room : ℕ) (out : List ℕ) (size : ℕ)

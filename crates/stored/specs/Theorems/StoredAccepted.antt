@@ -9,6 +9,7 @@ use native.Mathlib.Omega.{arith}
 use lib.ListN.{length, drop, length-take, length-drop}
 use lib.Dec.{leb, eqb}
 use borrow.Author.Tests.{leb-true, leb-false, eq-eqb, ne-eqb}
+use Rattle.tagged.specs.Theorems.Impossible.{impossible}
 use Rattle.numbers.specs.BigEndian.{Bytes}
 use Rattle.numbers.specs.Theorems.BigEndian.{Bytes-take, Bytes-drop}
 use Rattle.field_walk.specs.Walk.{FieldAt, valueOf, FieldsWalk}
@@ -40,7 +41,7 @@ use Rattle.stored.specs.StoredAccepted.{StoredAccepted}
 
 -- a refusal is another answer
 refused-not-stands : {A : Type 0} {r : Refusal} → Refused r ≡ Stands → A
-refused-not-stands e = let z : _≡_ {A = ℕ} 0 1 = cc in absurd (omega arith)
+refused-not-stands e = impossible cc
 
 pub in-turn-stands : (first second : FileAnswer) → inTurn first second ≡ Stands → (first ≡ Stands) × (second ≡ Stands)
 in-turn-stands Stands second e = (refl, e)

@@ -7,6 +7,7 @@ use native.Mathlib.Omega.{arith}
 use lib.Dec.{leb}
 use lib.ListN.{length}
 use borrow.Author.Tests.{leb-true, le-leb, lt-leb}
+use Rattle.tagged.specs.Theorems.Impossible.{impossible}
 use Rattle.tagged.specs.File.{refusal}
 use Rattle.tagged.specs.Refusals.{ledgerUnsound, outputTooShort}
 use Rattle.tagged.specs.declared.file.Refusal.{Refusal}
@@ -54,8 +55,8 @@ module _ (ledger : Ledger) (parties : List Party) (room : ℕ) (out : List ℕ) 
       by {size} true true t e =
           let same : length (storedForm ledger parties) ≡ size = cc in
           omega (arith, leb-true (length (storedForm ledger parties)) (length out) t)
-      by true false t e = let z : _≡_ {A = ℕ} 0 1 = cc in absurd (omega arith)
-      by false fits t e = let z : _≡_ {A = ℕ} 0 1 = cc in absurd (omega arith)
+      by true false t e = impossible cc
+      by false fits t e = impossible cc
 
   -- the output, by the answer
   pub output-refused : {r : Refusal} → writtenAnswer ledger parties room out ≡ Refused r → writtenOutput ledger parties room out ≡ out

@@ -9,6 +9,7 @@ use native.Mathlib.Omega.{arith}
 use lib.ListN.{length}
 use lib.Dec.{ltb}
 use borrow.Author.Tests.{ltb-false}
+use Rattle.tagged.specs.Theorems.Impossible.{impossible}
 use Rattle.field_walk.specs.Walk.{Walk, fields, stops, walk}
 use Rattle.tagged.specs.File.{tailStands, checkStands, fieldsPart, refusal, ofWalk, fileAnswer, FileStands, RefusalTo}
 use Rattle.tagged.specs.Refusals.{fileDoesNotWalk, checkDiffers}
@@ -34,7 +35,7 @@ pub stands-means : (rows : List (List ℕ)) (file : ℕ) (s : List ℕ) → file
 stands-means rows file s e = ⊎-elim (λ tail. no (bad-tail rows file s tail)) by-check (dichotomy (tailStands s))
   where
     no : {r : Refusal} → fileAnswer rows file s ≡ Refused r → FileStands rows s
-    no p = let z : _≡_ {A = ℕ} 0 1 = cc in absurd (omega arith)
+    no p = impossible cc
 
     by-walk : tailStands s ≡ true → checkStands s ≡ true → (w : Walk) → walk rows (fieldsPart s) ≡ w → FileStands rows s
     by-walk tail checked (fields fs) p = record { size = tail-size s tail; tail = tail; right-check = checked; field-list = fs; walks = p }
