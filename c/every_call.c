@@ -199,6 +199,14 @@ static void try_check_ledger(void)
     tell("check, 3 places of the answer", check_ledger(FIKREM_ANSWER - 1));
 }
 
+/* The check of the bytes before the stored ledger's last two, which hold it, and of none. */
+static void try_check(void)
+{
+    uint32_t kept = 256u * lent.stored[stored_size - 2] + lent.stored[stored_size - 1];
+    printf("check of bytes: %" PRIu32 ", kept %" PRIu32 "; of none: %" PRIu32 "\n", fikrem_check(lent.stored, stored_size - 2),
+           kept, fikrem_check(lent.stored, 0));
+}
+
 /* Each call on a stored ledger that is refused itself. */
 static void try_unread_ledger(void)
 {
@@ -223,6 +231,7 @@ int main(int count, char **names)
     try_pay_out();
     try_hand_over();
     try_check_ledger();
+    try_check();
 
     puts("a table of one record, two entries stored");
     table_size = 1;

@@ -65,6 +65,12 @@ static void check_ledger(void)
     result = fikrem_check_ledger(stored, stored_size, FIKREM_TABLE_SIZE, answer, FIKREM_ANSWER);
 }
 
+static void check(void)
+{
+    uint32_t kept = 256u * stored[stored_size - 2] + stored[stored_size - 1];
+    result = fikrem_check(stored, stored_size - 2) == kept ? FIKREM_DONE : FIKREM_CHECK;
+}
+
 /* Bytes of the painted stack that a call has written. */
 static size_t written_by(void (*call)(void))
 {
@@ -133,5 +139,6 @@ int main(int count, char **names)
     tell("pay-out", pay_out, 112);
     tell("hand-over", hand_over, 112);
     tell("check", check_ledger, 80);
+    tell("check of bytes", check, 1);
     return 0;
 }

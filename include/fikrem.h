@@ -11,7 +11,7 @@
  * Money is in whole cents, capacity in hundredths of a kVA; a month is year * 12 + (month - 1), so that April 2026 is 24315.
  *
  * A call takes at most this much stack, in KiB, as c/stack.c measures it on a painted stack with the longest ledger: price 4, page 4,
- * slip text 12, new ledger 40, check 80, pay-out and hand-over 112, accept 128.
+ * slip text 12, new ledger 40, check of a ledger 80, pay-out and hand-over 112, accept 128, check of bytes 1.
  */
 #ifndef FIKREM_H
 #define FIKREM_H
@@ -22,8 +22,8 @@
 /* The version of this interface. */
 #define FIKREM_VERSION 2
 
-/* Each result is FIKREM_DONE, or a refusal: its number, its file, whether it is of the stored ledger itself, and its place, which
- * these take out of it. A refused call has written nothing: every byte of every buffer is as it was.
+/* Each result but that of fikrem_check is FIKREM_DONE, or a refusal: its number, its file, whether it is of the stored ledger
+ * itself, and its place, which these take out of it. A refused call has written nothing: every byte of every buffer is as it was.
  *
  * File: 1 the book, or the stored ledger where that is refused itself; 2 the request, and for 4 and 5; 0 from number 6 on.
  * Of ledger: 1 where the stored ledger itself is refused, so that file 1 is not mistaken for the book; otherwise 0.
@@ -163,6 +163,10 @@ uint64_t fikrem_hand_over(const uint8_t *stored, size_t stored_size, size_t tabl
  * 3, 9, 13. */
 uint64_t fikrem_check_ledger(const uint8_t *stored, size_t stored_size, size_t table_size,
                              uint64_t *answer, size_t answer_places);
+
+/* The check of these bytes, 0 to 65520, for whoever writes a book or a request: of all its bytes before the last two, which are
+ * the check, high byte first. No refusals. */
+uint32_t fikrem_check(const uint8_t *bytes, size_t bytes_size);
 
 #ifdef __cplusplus
 }

@@ -28,5 +28,5 @@ fi
 if cargo clippy --version >/dev/null 2>&1; then
   cargo clippy --offline --locked --quiet -p fikrem -j "$jobs"
 fi
-# This builds every library, program, example and test, and runs the tests; the benchmarks are built and not run.
+# This builds every library, program, example and test, and runs the tests; the benchmarks are built and not run, but for their test.
 cargo test --offline --locked --workspace -j "$jobs"

@@ -1,4 +1,5 @@
 pub mod BigEndian
 pub mod Check
+pub mod CheckWords
 pub mod Cases
 pub mod Theorems

@@ -1,2 +1,3 @@
 pub mod BigEndian
 pub mod Check
+pub mod CheckWords

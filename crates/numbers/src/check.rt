@@ -1,50 +1,72 @@
-// The check of a file: the number in its last two bytes.
+// The check of a file: the number in its last two bytes. It is taken a word of eight bytes at a time, since the division costs the most.
 ghost use mathlib.Core.Path.{_≡_};
-ghost use Prim.Native.Nat.{_*_, _<_, _≤_};
-ghost use lib.ListN.{length, drop};
+ghost use Prim.Native.Nat.{_+_, _*_, _<_, _≤_};
+ghost use lib.ListN.{length, take, drop};
 ghost use Rattle.numbers.specs.Check.{check, checkStep, checkFrom};
+ghost use Rattle.numbers.specs.CheckWords.{firstFour, lastFour};
 
-fn wide(byte: u8) -> u64
+fn wide(byte: u8) -> u32
     ensures { λ r. ⌜ (r ≡ byte) × (r < 256) ⌝ }
 {
-    byte as u64
+    byte as u32
 }
 
 // The check h after one more byte.
-fn after_one(h: u64, byte: u8) -> u64
+fn after_one(h: u32, byte: u8) -> u32
     requires { ⌜ h < 65521 ⌝ }
     ensures { λ r. ⌜ (r ≡ checkStep h byte) × (r < 65521) ⌝ }
 {
     (h * 257 + wide(byte) + 1) % 65521
 }
 
-// The check h after four more bytes. They are taken at once, since the division costs the most: the factors are powers of 257, and
-// the last number is the sum of the lower four.
-fn after_four(h: u64, first: u8, second: u8, third: u8, fourth: u8) -> u64
-    requires { ⌜ h < 65521 ⌝ }
-    ensures { λ r. ⌜ (r ≡ checkStep (checkStep (checkStep (checkStep h first) second) third) fourth) × (r < 65521) ⌝ }
+// The first four bytes of the word at a place, times 257 to the seventh, sixth, fifth and fourth, each modulo 65,521.
+fn first_four(bytes: &[u8], at: usize) -> u32
+    requires { ⌜ at + 8 ≤ length (now bytes) ⌝ }
+    ensures { λ r. ⌜ (r ≡ firstFour (now (bytes .entry)) at) × (r ≤ 25860825) ⌝ }
 {
-    let bytes = wide(first) * 16_974_593 + wide(second) * 66_049 + wide(third) * 257 + wide(fourth);
-    (h * 4_362_470_401 + bytes + 17_040_900) % 65521
+    wide(bytes[at]) * 13_894
+        + wide(bytes[at + 1]) * 37_786
+        + wide(bytes[at + 2]) * 33_035
+        + wide(bytes[at + 3]) * 16_700
 }
 
-// The check after so many fours of bytes: with those after them it comes to the check of all.
-fn check_fours(h: u64, bytes: &[u8], fours: usize) -> u64
-    requires { ⌜ (h < 65521) × (4 * fours ≤ length (now bytes)) ⌝ }
-    ensures { λ r. ⌜ (checkFrom r (drop (4 * fours) (now (bytes .entry))) ≡ checkFrom h (now (bytes .entry))) × (r < 65521) ⌝ }
+// Its last four bytes, times 257 to the third, second, first and 1.
+fn last_four(bytes: &[u8], at: usize) -> u32
+    requires { ⌜ at + 8 ≤ length (now bytes) ⌝ }
+    ensures { λ r. ⌜ (r ≡ lastFour (now (bytes .entry)) at) × (r ≤ 1387200) ⌝ }
 {
-    let mut sum = h;
+    wide(bytes[at + 4]) * 4_654
+        + wide(bytes[at + 5]) * 528
+        + wide(bytes[at + 6]) * 257
+        + wide(bytes[at + 7])
+}
+
+// The check h after the word of eight bytes at a place. h is multiplied by 257 to the eighth, modulo 65,521, and the 1 that comes with
+// each byte makes the eight powers' sum. The highest sum is 2,164,879,360.
+fn after_word(h: u32, bytes: &[u8], at: usize) -> u32
+    requires { ⌜ (h < 65521) × (at + 8 ≤ length (now bytes)) ⌝ }
+    ensures { λ r. ⌜ (r ≡ checkFrom h (take 8 (drop at (now (bytes .entry))))) × (r < 65521) ⌝ }
+{
+    let word = first_four(bytes, at) + last_four(bytes, at);
+    (h * 32_624 + word + 106_855) % 65521
+}
+
+// The check of so many words.
+fn check_words(bytes: &[u8], words: usize) -> u32
+    requires { ⌜ 8 * words ≤ length (now bytes) ⌝ }
+    ensures { λ r. ⌜ (r ≡ check (take (8 * words) (now (bytes .entry)))) × (r < 65521) ⌝ }
+{
+    let mut sum: u32 = 0;
     let mut i: usize = 0;
-    while i < fours {
-        let at = 4 * i;
-        sum = after_four(sum, bytes[at], bytes[at + 1], bytes[at + 2], bytes[at + 3]);
+    while i < words {
+        sum = after_word(sum, bytes, 8 * i);
         i += 1;
     }
     sum
 }
 
 // The check of bytes one by one, going on from h.
-fn check_each(h: u64, bytes: &[u8]) -> u64
+fn check_each(h: u32, bytes: &[u8]) -> u32
     requires { ⌜ h < 65521 ⌝ }
     ensures { λ r. ⌜ (r ≡ checkFrom h (now (bytes .entry))) × (r < 65521) ⌝ }
 {
@@ -60,7 +82,7 @@ fn check_each(h: u64, bytes: &[u8]) -> u64
 pub fn check(bytes: &[u8]) -> u32
     ensures { λ r. ⌜ (r ≡ check (now (bytes .entry))) × (r < 65521) ⌝ }
 {
-    let fours = bytes.len() / 4;
-    let whole = check_fours(0, bytes, fours);
-    check_each(whole, &bytes[4 * fours..]) as u32
+    let words = bytes.len() / 8;
+    let whole = check_words(bytes, words);
+    check_each(whole, &bytes[8 * words..])
 }

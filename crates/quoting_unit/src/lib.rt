@@ -18,6 +18,7 @@ ghost use mathlib.Core.Path.{_≡_};
 ghost use Prim.Native.Nat.{_≤_};
 ghost use mathlib.Core.List.{_++_};
 ghost use lib.ListN.{length, drop};
+ghost use Rattle.numbers.specs.Check.{check};
 ghost use Rattle.reconciliation.specs.Figures.{percentIsThere, percentFigure, figureValues};
 ghost use Rattle.reconciliation.specs.FigureLimits.{FiguresWithin};
 ghost use Rattle.calls.specs.Decision.{accept, payOut, handOver};
@@ -396,4 +397,12 @@ pub extern "C" fn fikrem_check_ledger(stored: &[u8], table_size: usize, answer: 
     }
     let check = stored_calls::check_stored(stored, table_size);
     write_answer(check_outcome(check), answer)
+}
+
+// The check of a file's bytes before its last two, which are to hold it: for whoever writes a rate book or a request.
+#[no_mangle]
+pub extern "C" fn fikrem_check(bytes: &[u8]) -> u32
+    ensures { λ r. ⌜ r ≡ check (now (bytes .entry)) ⌝ }
+{
+    numbers::check::check(bytes)
 }

@@ -87,6 +87,11 @@ impl Times {
     }
 }
 
+/// "h starts at 0, and each byte makes it (h × 257 + byte + 1) mod 65,521": one byte and one remainder a step.
+fn byte_by_byte(bytes: &[u8]) -> u32 {
+    bytes.iter().fold(0, |h, &byte| (h * 257 + u32::from(byte) + 1) % 65_521)
+}
+
 /// A stored ledger, the calls that are measured on it, and the buffers.
 struct Bench {
     stored: Vec<u8>,
@@ -154,6 +159,15 @@ impl Bench {
         measure(library, &mut reference)
     }
 
+    /// The check alone, beside byte by byte.
+    fn check_of_bytes(&self) -> Times {
+        let (bytes, kept) = self.stored.split_at(self.stored.len() - 2);
+        let kept = 256 * u32::from(kept[0]) + u32::from(kept[1]);
+        let mut library = || assert_eq!(raw::check(black_box(bytes)), kept);
+        let mut each = || assert_eq!(byte_by_byte(black_box(bytes)), kept);
+        measure(&mut library, &mut each)
+    }
+
     fn check(&self) -> Times {
         let mut answer = [0; ANSWER];
         let mut library = || {
@@ -178,6 +192,7 @@ fn beside() {
     Bench::of(1, 511).joining().print("accept: the 512th party joins its scheme, stored in and out");
     Bench::of(64, 512).check().print("check of a stored ledger of 64 schemes, 512 entries");
     Bench::of(64, 512).hand_over().print("read, hand-over and write of the same");
+    Bench::of(64, 512).check_of_bytes().print("the check alone of the same, beside byte by byte");
 }
 
 /// From 2 to 512 entries of one scheme; where the cost is linear, one more entry costs about the same all along.
@@ -209,4 +224,14 @@ fn growth() {
 fn main() {
     beside();
     growth();
+}
+
+/// Document 02, E2: "a test shows the check of a full ledger at least twice as fast as byte by byte".
+#[test]
+fn check_twice_as_fast_as_byte_by_byte() {
+    let full = Bench::of(64, 512);
+    assert_eq!(full.stored.len(), LONGEST_FORM);
+    let [library, each] = full.check_of_bytes().lowest();
+    println!("the check of a full ledger: {library:.0} ns, byte by byte {each:.0} ns, {:.2} times", each / library);
+    assert!(each >= 2.0 * library, "the check takes {library:.0} ns, byte by byte {each:.0} ns");
 }

@@ -9,11 +9,13 @@
 #![deny(unsafe_code)]
 #![deny(clippy::expect_used, clippy::panic, clippy::unreachable, clippy::unwrap_used)]
 
+pub mod file;
 pub mod ledger;
 pub mod pricing;
 pub mod raw;
 pub mod refusal;
 
+pub use file::check;
 pub use ledger::{accept, check_ledger, hand_over, new_ledger, pay_out, Accepted, Answer, Holdings};
 pub use ledger::{accept_into, hand_over_into, new_ledger_into, pay_out_into, LONGEST_FORM, LONGEST_TABLE};
 pub use pricing::{page, page_into, price, slip_text, slip_text_into, Bill, LONGEST_SLIP, PAGE};

@@ -1,5 +1,5 @@
-//! `include/fikrem.h` in Rust: its numbers under its names, and its functions on slices. Every result is `DONE` or a
-//! refusal, which has written nothing.
+//! `include/fikrem.h` in Rust: its numbers under its names, and its functions on slices. Every result but `check`'s is
+//! `DONE` or a refusal, which has written nothing.
 
 #![allow(unsafe_code)]
 
@@ -169,6 +169,7 @@ mod declared {
             answer: *mut u64,
             answer_places: usize,
         ) -> u64;
+        pub fn fikrem_check(bytes: *const u8, bytes_size: usize) -> u32;
     }
 }
 
@@ -277,4 +278,8 @@ pub fn check_ledger(stored: &[u8], table_size: usize, answer: &mut [u64]) -> u64
     unsafe {
         declared::fikrem_check_ledger(stored.as_ptr(), stored.len(), table_size, answer.as_mut_ptr(), answer.len())
     }
+}
+
+pub fn check(bytes: &[u8]) -> u32 {
+    unsafe { declared::fikrem_check(bytes.as_ptr(), bytes.len()) }
 }

@@ -108,7 +108,7 @@ fn functions_of_library() -> BTreeMap<String, Function> {
 #[test]
 fn the_same_functions() {
     let (header, raw, library) = (functions_of_header(), functions_of_raw(), functions_of_library());
-    assert_eq!(library.len(), 8);
+    assert_eq!(library.len(), 9);
     let names = |functions: &BTreeMap<String, Function>| functions.keys().cloned().collect::<Vec<_>>();
     assert_eq!(names(&header), names(&library), "names of {HEADER} and {LIBRARY}");
     assert_eq!(names(&raw), names(&library), "names of {RAW} and {LIBRARY}");

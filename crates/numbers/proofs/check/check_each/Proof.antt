@@ -1,7 +1,8 @@
 -- The loop keeps that its sum, going on over the bytes from its place on, comes to the check of all; past the last it is the sum.
-use Prim.Native.Nat.{_-_, _<_}
+use Prim.Native.Nat.{_-_, _<_, _≤_}
 use mathlib.Core.Path.{_≡_, refl, sym, _∙_}
 use native.Mathlib.Numerals.{add-one}
+use native.Mathlib.Omega.{arith}
 use lib.ListN.{length, drop}
 use borrow.Author.Needs.{needs}
 use Rattle.numbers.specs.Check.{checkFrom}
@@ -32,11 +33,15 @@ loop-less c = search needs
 
 loop-again : tie.Need-loop-again Inv-loop μ-loop
 loop-again c =
-    let turn = c .before .before in
-    (c .after-one .ensures .1, turn .before .loop .inv .1 ∙ check-on _ _ _ _ (turn .loop-test .taken) (add-one _) ∙ simp (← c .after-one .ensures .0))
+    let turn = c .before .before .before in
+    let within : turn .loop .i < length (turn .before .before .args .bytes .now) = omega arith in
+    (c .after-one .ensures .1, turn .loop .inv .1 ∙ check-on _ _ _ _ within (add-one _) ∙ simp (← c .after-one .ensures .0))
 
 returns : tie.Need-returns Inv-loop μ-loop
-returns c = (sym (c .before .loop .inv .1 ∙ check-end _ _ _ (c .loop-test .left)), c .before .loop .inv .0)
+returns c =
+    let turn = c .before in
+    let past : length (turn .before .before .args .bytes .now) ≤ turn .loop .i = omega arith in
+    (sym (turn .loop .inv .1 ∙ check-end _ _ _ past), turn .loop .inv .0)
 
 pub check-each-spec : {M : Type 1} → statement M
 check-each-spec = tie.close (tie.spec Inv-loop μ-loop loop-holds shared-slice-read-after-one after-one-requires add-i loop-less loop-again returns)
