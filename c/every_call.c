@@ -26,6 +26,15 @@ static void join_scheme(uint8_t scheme)
     set_check(lent.request, request_size);
 }
 
+/* A request of this class with an operating loading of so many cents, below 65,536. */
+static void set_class(uint8_t class_number, uint16_t loading)
+{
+    value_of(lent.request, 0x03)[0] = class_number;
+    value_of(lent.request, 0x05)[22] = (uint8_t)(loading / 256);
+    value_of(lent.request, 0x05)[23] = (uint8_t)(loading % 256);
+    set_check(lent.request, request_size);
+}
+
 /* The calls. Before each, what it may write holds marks, and everything lent is kept for the comparison. */
 
 static void mark(void)
@@ -132,6 +141,29 @@ static void try_price(void)
     tell("price, 20 figures", price(FIKREM_FIGURES - 1));
 }
 
+/* The book's opex takes a fifth of the revenue from every class but special pricing, which alone may have an operating loading. */
+static void try_classes(void)
+{
+    value_of(lent.book, 0x03)[3] = 1;
+    set_check(lent.book, book_size);
+    if (price(FIKREM_FIGURES) == FIKREM_DONE) {
+        puts("price by a book with opex: done");
+    }
+    tell_figures();
+    set_class(1, 1);
+    tell("price, non-residential with an operating loading", price(FIKREM_FIGURES));
+    set_class(3, 1);
+    tell("price, no such class", price(FIKREM_FIGURES));
+    set_class(2, 50000);
+    if (price(FIKREM_FIGURES) == FIKREM_DONE) {
+        puts("price, special pricing with an operating loading: done");
+    }
+    tell_figures();
+    set_class(1, 0);
+    value_of(lent.book, 0x03)[3] = 0;
+    set_check(lent.book, book_size);
+}
+
 static void try_slip_text(void)
 {
     tell("slip text", slip_text(sizeof lent.text, FIKREM_ANSWER));
@@ -225,6 +257,7 @@ int main(int count, char **names)
     book_size = read_file(names[1], lent.book);
     request_size = read_file(names[2], lent.request);
     try_price();
+    try_classes();
     try_slip_text();
     try_new_ledger();
     try_accept();

@@ -84,7 +84,7 @@ enum fikrem_figure {
     FIKREM_CC2 = 3,            /* capacity of the customer's enhancement: its added demands at the same rates */
     FIKREM_TW = 4,             /* transmission works */
     FIKREM_HR = 5,             /* historical cost recovery */
-    FIKREM_OL = 6,             /* operating loading */
+    FIKREM_OL = 6,             /* operating loading; 0 but for special pricing, class 2 */
     FIKREM_IC = 7,             /* incremental cost: the seven above */
     FIKREM_IR = 8,             /* incremental revenue: the lines charges of the years to come, discounted */
     FIKREM_CC = 9,             /* connection charge */

@@ -17,11 +17,11 @@ from fields import altered, closed, field, number, numbers
 ROOT = Path(__file__).resolve().parent.parent
 
 
-def slip_book(term=84, charged=1):
+def slip_book(term=84, charged=1, pair=(0, 1)):
     return [
         field(0x01, b"RATE"),
         field(0x02, number(2, 0)),
-        field(0x03, numbers(4, [0, 1] * 5)),
+        field(0x03, numbers(4, pair * 5)),
         field(0x04, number(2, 10_000)),
         field(0x05, number(2, 10_000)),
         field(0x06, numbers(4, [5_000_000, 20_000, 20_000]) + number(2, term)),
@@ -33,13 +33,13 @@ def slip_book(term=84, charged=1):
 POSTED_TIERS = [(0, 400, 0), (0, 400, 0), (0, 200, 0), (0, 200, 0), (0, 150, 0)]
 
 
-def slip_request(zone=1, extension=1_598_500, tiers=POSTED_TIERS, revenue=57_320, capacity=15_000):
+def slip_request(class_=1, zone=1, extension=1_598_500, loading=0, tiers=POSTED_TIERS, revenue=57_320, capacity=15_000):
     return [
         field(0x01, b"CONN"),
         field(0x02, number(4, 4_711)),
-        field(0x03, number(1, 1)),
+        field(0x03, number(1, class_)),
         field(0x04, number(1, zone)),
-        field(0x05, numbers(4, [extension, 0, 0, 0, 0, 0])),
+        field(0x05, numbers(4, [extension, 0, 0, 0, 0, loading])),
         field(0x06, b"".join(number(1, mode) + numbers(4, [demand, rate]) for mode, demand, rate in tiers)),
         field(0x07, numbers(4, [0] * 5)),
         field(0x08, numbers(4, [revenue, 0])),
@@ -101,6 +101,10 @@ def refused_slip_files():
         "altered_job.bin": altered(job, 30, 1),
         "rates_term_83.bin": closed(slip_book(term=83)),
         "rates_not_charged.bin": closed(slip_book(charged=0)),
+        "rates_with_opex.bin": closed(slip_book(pair=(19_300, 153_800))),
+        "job_class_3.bin": closed(slip_request(class_=3)),
+        "job_loading_in_class_1.bin": closed(slip_request(loading=1)),
+        "job_special_pricing.bin": closed(slip_request(class_=2, loading=50_000)),
         "job_capacity_0.bin": closed(slip_request(capacity=0)),
         "job_zone_2.bin": closed(slip_request(zone=2)),
         "job_at_150_percent.bin": closed(slip_request(tiers=bespoke)),

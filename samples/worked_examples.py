@@ -11,19 +11,19 @@ RATES = {
     RURAL: [0, 0, 8_500, 38_000, 10_000],
     REMOTE: [17_000, 53_000, 8_500, 38_000, 10_000],
 }
-RESIDENTIAL, OTHER = 0, 1
+RESIDENTIAL, NON_RESIDENTIAL, SPECIAL_PRICING = 0, 1, 2
 POSTED, EXTENSION_LIKE, BESPOKE = 0, 1, 2
 
 
-def book(charged, share, opex=19_300, recast_rate=None):
-    """The distributor's book. With special pricing there is no opex scaling (note 27): opex 0."""
+def book(charged, share, recast_rate=None):
+    """The distributor's book."""
     rates = dict(RATES)
     if recast_rate is not None:
         rates[RECAST] = [recast_rate, 0, 0, 0, 0]
     return closed([
         field(0x01, b"RATE"),
         field(0x02, number(2, 463)),
-        field(0x03, numbers(4, [opex, 153_800] * 5)),
+        field(0x03, numbers(4, [19_300, 153_800] * 5)),
         field(0x04, numbers(2, [10_000, 11_000, 12_000, 13_200, 14_400])),
         field(0x05, numbers(2, [10_000, 11_500, 11_600, 11_900, 12_100, 12_400, 12_000])),
         field(0x06, numbers(4, [5_000_000, 25_000, 125_000]) + number(2, 84)),
@@ -44,7 +44,7 @@ def request(r):
     return closed([
         field(0x01, b"CONN"),
         field(0x02, number(4, 4_711)),
-        field(0x03, number(1, r["life"])),
+        field(0x03, number(1, r["class_"])),
         field(0x04, number(1, r["zone"])),
         field(0x05, numbers(4, [r["me"], r["ce"], 0, r["tw"], r["hr"], r["ol"]])),
         field(0x06, b"".join(number(1, mode) + numbers(4, [demand, rate]) for mode, demand, rate in tiers)),
@@ -65,17 +65,17 @@ RISING = [10_000, 10_309, 10_638, 11_111, 11_494, 11_905]
 
 # year-one revenue: 64.5% of $131.2m and 61% of $58.8m, each over 159,201 connections
 EXAMPLE_1A = NOTHING | dict(
-    life=RESIDENTIAL, zone=URBAN, me=190_000, demands=[500, 250, 250, 200, 150], distribution=53_155, transmission=22_530,
+    class_=RESIDENTIAL, zone=URBAN, me=190_000, demands=[500, 250, 250, 200, 150], distribution=53_155, transmission=22_530,
     part_year=HALF_YEAR, transmission_tariff=FALLING, capacity=1_500,
 )
 EXAMPLE_1B = EXAMPLE_1A | dict(ce=100_000, added=[300, 50, 50, 50, 50], capacity=3_000)
 EXAMPLE_1D = NOTHING | dict(
-    life=RESIDENTIAL, zone=URBAN, me=140_000, demands=[300, 50, 50, 50, 50], part_year=HALF_YEAR,
+    class_=RESIDENTIAL, zone=URBAN, me=140_000, demands=[300, 50, 50, 50, 50], part_year=HALF_YEAR,
     transmission_tariff=FALLING, capacity=3_000,
 )
 # year-one revenue: $1.86m and $1.30m, each over 5,171 connections
 EXAMPLE_1E = NOTHING | dict(
-    life=OTHER, zone=RURAL, me=1_598_500, demands=[400, 400, 200, 200, 150], distribution=35_970, transmission=25_140,
+    class_=NON_RESIDENTIAL, zone=RURAL, me=1_598_500, demands=[400, 400, 200, 200, 150], distribution=35_970, transmission=25_140,
     part_year=HALF_YEAR, transmission_tariff=RISING, capacity=1_500,
 )
 # the connection joins a pioneer scheme; its contribution is no part of the charge (5.123)
@@ -84,7 +84,7 @@ EXAMPLE_1G = EXAMPLE_1E | dict(hr=2_000_000)
 # Year-one revenue: 365 × $8.6226 + 295,650 kWh × $0.014, and 365 × $13.5051. From year 2 on the energy doubles, so
 # distribution revenue is 1.568062 times that; document 01 has one part-year list, so the tariff list takes it.
 EXAMPLE_2A = NOTHING | dict(
-    life=OTHER, zone=REMOTE, me=14_520_000, modes=[EXTENSION_LIKE, EXTENSION_LIKE, BESPOKE, POSTED, POSTED],
+    class_=NON_RESIDENTIAL, zone=REMOTE, me=14_520_000, modes=[EXTENSION_LIKE, EXTENSION_LIKE, BESPOKE, POSTED, POSTED],
     demands=[0, 0, 10_000, 8_000, 6_000], bespoke=[0, 0, 15_300, 0, 0], distribution=728_635, transmission=492_936,
     part_year=QUARTER_YEAR, distribution_tariff=[10_000, 10_000, 15_681], transmission_tariff=RISING, capacity=22_500,
 )
@@ -93,7 +93,7 @@ EXAMPLE_2B = EXAMPLE_2A | dict(
 )
 # the year's charge: $200,000, 60% of it distribution, which also holds the loading of $10,200 a year
 EXAMPLE_3A = NOTHING | dict(
-    life=OTHER, zone=URBAN, me=20_400_000, demands=[0, 0, 0, 400_000, 300_000], ol=11_112_100, distribution=13_020_000,
+    class_=SPECIAL_PRICING, zone=URBAN, me=20_400_000, demands=[0, 0, 0, 400_000, 300_000], ol=11_112_100, distribution=13_020_000,
     transmission=8_000_000, part_year=QUARTER_YEAR, capacity=500_000,
 )
 # the transmission tariff list blends the charge with the yearly transmission costs of Figure 7.4
@@ -112,8 +112,8 @@ def recast(example, me, demand, **others):
 
 
 POSTED_CHARGE = book(charged=0, share=393)
-SPECIAL = book(charged=1, share=0, opex=0)
-LOADING_NOT_CHARGED = book(charged=0, share=0, opex=0, recast_rate=1_111_210)
+NO_CREDIT = book(charged=1, share=0)
+LOADING_NOT_CHARGED = book(charged=0, share=0, recast_rate=1_111_210)
 EXAMPLES = {
     "1a": (POSTED_CHARGE, EXAMPLE_1A),
     "1b": (POSTED_CHARGE, EXAMPLE_1B),
@@ -124,13 +124,13 @@ EXAMPLES = {
     "1g": (book(charged=1, share=6_500), EXAMPLE_1G),
     "2a": (book(charged=1, share=1_500), EXAMPLE_2A),
     "2b": (book(charged=1, share=1_500), EXAMPLE_2B),
-    "3a": (SPECIAL, EXAMPLE_3A),
-    "3b": (SPECIAL, EXAMPLE_3B),
-    "3c": (SPECIAL, EXAMPLE_3C),
-    "3d": (SPECIAL, EXAMPLE_3D),
+    "3a": (NO_CREDIT, EXAMPLE_3A),
+    "3b": (NO_CREDIT, EXAMPLE_3B),
+    "3c": (NO_CREDIT, EXAMPLE_3C),
+    "3d": (NO_CREDIT, EXAMPLE_3D),
     "3a_recast": (LOADING_NOT_CHARGED, recast(EXAMPLE_3A, 214_400_000, 1_000)),
     "3b_recast": (
-        book(charged=0, share=0, opex=0, recast_rate=3_330_486),
+        book(charged=0, share=0, recast_rate=3_330_486),
         recast(EXAMPLE_3B, 305_040_000, 10_000, tw=23_893_700),
     ),
     "3c_recast": (LOADING_NOT_CHARGED, recast(EXAMPLE_3C, 188_400_000, 1_000)),

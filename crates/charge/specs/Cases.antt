@@ -1,3 +1,4 @@
 pub mod MarkedFigures
+pub mod Classes
 pub mod PriceEnding
 pub mod Price

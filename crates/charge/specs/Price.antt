@@ -13,7 +13,7 @@ use Rattle.book_zones.specs.Zones.{zoneRates}
 use Rattle.rate_book.specs.declared.book.Book.{Book}
 use Rattle.request.specs.Request.{requestOf}
 use Rattle.request.specs.declared.values.Request.{Request}
-use Rattle.revenue.specs.Revenue.{opexFactor, transmissionOpexFactor, lifeOf, incrementalRevenue}
+use Rattle.revenue.specs.Revenue.{transmissionOpexFactor, distributionOpexFactor, lifeOf, incrementalRevenue}
 use Rattle.revenue.specs.declared.Stream.{Stream}
 use Rattle.capacity.specs.Capacity.{firstNotAllowed, capacityCost}
 use Rattle.capacity.specs.declared.Tiers.{Tiers}
@@ -41,7 +41,7 @@ abbrev pub distributionOf : Book → Request → ℕ → Stream
 distributionOf book request revenue =
     record {
       revenue = revenue;
-      «opex_factor» = opexFactor (book .opex) (book .revenue);
+      «opex_factor» = distributionOpexFactor (request .class) (book .opex) (book .revenue);
       «part_year» = request .«part_year»;
       «revenue_factors» = book .distribution;
       «tariff_factors» = request .«distribution_tariff»;

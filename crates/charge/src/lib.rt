@@ -100,7 +100,7 @@ pub fn incremental_revenue_of(
     let transmission_tariff = request.transmission_tariff;
     let distributed = Stream {
         revenue: distribution,
-        opex_factor: revenue::opex_factor(book.opex, book.revenue),
+        opex_factor: revenue::distribution_opex_factor(request.class, book.opex, book.revenue),
         part_year,
         revenue_factors: distribution_factors,
         tariff_factors: distribution_tariff,

@@ -59,9 +59,12 @@ lowestCapacity = 1
 abbrev pub highestCapacity : ℕ
 highestCapacity = 1000000
 
--- "0 residential, life 30; 1 non-residential, life 15"
+-- "0 residential, life 30; 1 non-residential, life 15"; document 02, E3: "Request field 03 gets the value 2: special pricing"
 abbrev pub highestClass : ℕ
-highestClass = 1
+highestClass = 2
+
+abbrev pub specialPricing : ℕ
+specialPricing = 2
 
 -- "a mode (0 posted, 1 extension-like, 2 bespoke)"
 abbrev pub highestMode : ℕ

@@ -40,8 +40,10 @@ pub const LOWEST_CAPACITY: u32 = 1;
 
 pub const HIGHEST_CAPACITY: u32 = 1_000_000;
 
-// 0 residential, 1 non-residential
-pub const HIGHEST_CLASS: u32 = 1;
+// 0 residential, 1 non-residential, 2 special pricing
+pub const HIGHEST_CLASS: u32 = 2;
+
+pub const SPECIAL_PRICING: u8 = 2;
 
 // 0 posted, 1 extension-like, 2 bespoke
 pub const HIGHEST_MODE: u32 = 2;

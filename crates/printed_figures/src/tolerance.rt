@@ -201,7 +201,7 @@ fn near_distribution(book: Book, request: Request, units: InputUnits) -> Near
     requires { ⌜ BookWithin book × RequestWithin request × UnitsWithin units ⌝ }
     ensures { λ r. ⌜ NearWithin r ⌝ }
 {
-    let o = revenue::opex_factor(book.opex, book.revenue);
+    let o = revenue::distribution_opex_factor(request.class, book.opex, book.revenue);
     let part_year = request.part_year;
     let revenue_factors = book.distribution;
     let tariff_factors = request.distribution_tariff;

@@ -1,10 +1,12 @@
 -- Document 01, 'Request': the fields one by one, each with the limits on its values and what it says. The three lists of factors have theirs in field_values.
 use Prim.Native.Nat.{ℕ, _+_, _*_}
+use mathlib.Core.Bool.{cond}
 use mathlib.Core.List.{List, [], _∷_, _++_}
 use lib.ListN.{replicate}
+use lib.Dec.{eqb}
 use Rattle.numbers.specs.BigEndian.{numberAt}
 use Rattle.tagged.specs.Find.{fieldValue}
-use Rattle.field_values.specs.Limits.{tierCount, highestClass, highestAmount, highestMode, highestDemand, highestRate, highestRevenue, lowestCapacity, highestCapacity, highestMark, highestOfTwoBytes}
+use Rattle.field_values.specs.Limits.{tierCount, highestClass, specialPricing, highestAmount, highestMode, highestDemand, highestRate, highestRevenue, lowestCapacity, highestCapacity, highestMark, highestOfTwoBytes}
 use Rattle.request.specs.declared.fields.Amounts.{Amounts}
 use Rattle.request.specs.declared.fields.Tiers.{Tiers}
 use Rattle.request.specs.declared.fields.Revenues.{Revenues}
@@ -14,7 +16,7 @@ use Rattle.request.specs.declared.fields.Connection.{Connection}
 abbrev pub personIn : List ℕ → ℕ
 personIn s = numberAt (fieldValue 2 s) 0 4
 
--- 03, "0 residential, life 30; 1 non-residential, life 15"
+-- 03, "0 residential, life 30; 1 non-residential, life 15"; document 02, E3: "Request field 03 gets the value 2: special pricing"
 abbrev pub classLimits : List (List ℕ)
 classLimits = (1 ∷ 0 ∷ highestClass ∷ []) ∷ []
 
@@ -27,8 +29,13 @@ zoneIn s = numberAt (fieldValue 4 s) 0 1
 
 -- 05, "six 4-byte amounts, each at most 1,000,000,000: minimum scheme extension ME, customer enhancement extension CE, distributor enhancement DE,
 -- transmission works TW, historical cost recovery HR, operating loading OL"
-abbrev pub amountLimits : List (List ℕ)
-amountLimits = replicate 6 (4 ∷ 0 ∷ highestAmount ∷ [])
+--
+-- Document 02, E3: "Classes 0 and 1 must now have OL 0." "OL above 0 in class 0 or 1 is 3, at OL's first byte, in its turn among the values."
+abbrev pub highestLoading : ℕ → ℕ
+highestLoading class = cond (eqb class specialPricing) highestAmount 0
+
+abbrev pub amountLimits : ℕ → List (List ℕ)
+amountLimits class = replicate 5 (4 ∷ 0 ∷ highestAmount ∷ []) ++ ((4 ∷ 0 ∷ highestLoading class ∷ []) ∷ [])
 
 abbrev pub amountsIn : List ℕ → Amounts
 amountsIn s =

@@ -19,9 +19,9 @@ use Rattle.request.specs.declared.values.RequestRead.{RequestRead}
 abbrev pub requestLetters : List ℕ
 requestLetters = 67 ∷ 79 ∷ 78 ∷ 78 ∷ []
 
--- the class and the six amounts
+-- the class, and the six amounts by it
 abbrev pub chargeJudgements : List ℕ → List Judged
-chargeJudgements s = judgeField classLimits 3 s ∷ judgeField amountLimits 5 s ∷ []
+chargeJudgements s = judgeField classLimits 3 s ∷ judgeField (amountLimits (classIn s)) 5 s ∷ []
 
 abbrev pub judgeCharges : List ℕ → Judged
 judgeCharges s = firstFailure (chargeJudgements s)

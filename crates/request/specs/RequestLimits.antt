@@ -4,6 +4,7 @@ use mathlib.Core.Path.{_≡_}
 use lib.ListN.{length, getD}
 use Rattle.field_values.specs.Limits.{tierCount, highestClass, highestAmount, highestMode, highestDemand, highestRate, highestRevenue, lowestCapacity, highestCapacity, highestMark}
 use Rattle.field_values.specs.FactorLimits.{FactorsWithin}
+use Rattle.request.specs.Fields.{highestLoading}
 use Rattle.request.specs.declared.values.Request.{Request}
 
 pub record RequestWithin (request : Request) : Type 0 where
@@ -16,6 +17,7 @@ pub record RequestWithin (request : Request) : Type 0 where
   pub tw : request .tw ≤ highestAmount
   pub hr : request .hr ≤ highestAmount
   pub ol : request .ol ≤ highestAmount
+  pub loading : request .ol ≤ highestLoading (request .class)
   pub five-modes : length (request .modes) ≡ tierCount
   pub five-demands : length (request .demands) ≡ tierCount
   pub five-bespoke-rates : length (request .«bespoke_rates») ≡ tierCount

@@ -57,7 +57,21 @@ pub struct Connection {
 
 pub const CLASS_LIMITS: [Limit; 1] = [[1, 0, HIGHEST_CLASS]];
 
-pub const AMOUNT_LIMITS: [Limit; 6] = [[4, 0, HIGHEST_AMOUNT]; 6];
+const AMOUNT_LIMIT: Limit = [4, 0, HIGHEST_AMOUNT];
+
+const NO_AMOUNT: Limit = [4, 0, 0];
+
+// The operating loading is the last amount: special pricing alone may have one.
+pub const AMOUNT_LIMITS: [Limit; 6] = [AMOUNT_LIMIT; 6];
+
+pub const AMOUNT_LIMITS_WITHOUT_LOADING: [Limit; 6] = [
+    AMOUNT_LIMIT,
+    AMOUNT_LIMIT,
+    AMOUNT_LIMIT,
+    AMOUNT_LIMIT,
+    AMOUNT_LIMIT,
+    NO_AMOUNT,
+];
 
 const MODE_LIMIT: Limit = [1, 0, HIGHEST_MODE];
 

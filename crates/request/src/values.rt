@@ -1,6 +1,7 @@
 // The values of a request, or its refusal.
 use crate::fields::ADDED_LIMITS;
 use crate::fields::AMOUNT_LIMITS;
+use crate::fields::AMOUNT_LIMITS_WITHOUT_LOADING;
 use crate::fields::CLASS_LIMITS;
 use crate::fields::CONNECTION_LIMITS;
 use crate::fields::REVENUE_LIMITS;
@@ -20,6 +21,7 @@ use field_values::factors::read_factors;
 use field_values::judged::Judged;
 use field_values::judged::in_order;
 use field_values::judged::judge_field;
+use field_values::limits::SPECIAL_PRICING;
 use field_values::limits::TIERS;
 use tagged::file::FileAnswer;
 use tagged::file::Refusal;
@@ -27,11 +29,13 @@ use tagged::refusals::VALUE_NOT_LISTED;
 ghost use mathlib.Core.Path.{_≡_};
 ghost use Rattle.field_walk.specs.Walk.{FieldsWalk};
 ghost use Rattle.request.specs.RequestRows.{requestRows};
+ghost use Rattle.field_values.specs.Judged.{judgeField};
+ghost use Rattle.request.specs.Fields.{amountLimits};
 ghost use Rattle.request.specs.Request.{judgeCharges, judgeRequest, requestValues, noRequest, refusedRequest, requestOf};
 
 pub struct Request {
     pub person: u32,
-    // 0 residential, 1 non-residential
+    // 0 residential, 1 non-residential, 2 special pricing
     pub class: u8,
     pub zone: u16,
     // minimum scheme extension, customer enhancement extension, distributor enhancement,
@@ -66,17 +70,30 @@ pub struct RequestRead {
     pub request: Request,
 }
 
-// The class and the six amounts.
+// The six amounts of a request of this class.
+fn judge_amounts(fields: &[u8], class: u8) -> Judged
+    ensures { λ r. ⌜ r ≡ judgeField (amountLimits class) 5 (now (fields .entry)) ⌝ }
+{
+    if class == SPECIAL_PRICING {
+        judge_field(fields, 5, &AMOUNT_LIMITS)
+    } else {
+        judge_field(fields, 5, &AMOUNT_LIMITS_WITHOUT_LOADING)
+    }
+}
+
+// The class, and the six amounts by it.
 fn judge_charges(fields: &[u8]) -> Judged
+    requires { ⌜ FieldsWalk requestRows (now fields) ⌝ }
     ensures { λ r. ⌜ r ≡ judgeCharges (now (fields .entry)) ⌝ }
 {
     let class = judge_field(fields, 3, &CLASS_LIMITS);
-    let amounts = judge_field(fields, 5, &AMOUNT_LIMITS);
+    let amounts = judge_amounts(fields, read_class(fields));
     in_order(class, amounts)
 }
 
 // The first value, in byte order, that isn't as document 01, 'Request', lists it.
 fn judge_request(fields: &[u8]) -> Judged
+    requires { ⌜ FieldsWalk requestRows (now fields) ⌝ }
     ensures { λ r. ⌜ r ≡ judgeRequest (now (fields .entry)) ⌝ }
 {
     let letters = field_values::judged::judge_letters(fields, b"CONN");

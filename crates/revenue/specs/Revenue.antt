@@ -5,7 +5,7 @@ use lib.ListN.{getD}
 use lib.Dec.{eqb}
 use Rattle.field_values.specs.declared.factors.Factors.{Factors}
 use Rattle.field_values.specs.FactorLimits.{FactorsWithin}
-use Rattle.field_values.specs.Limits.{highestRevenue}
+use Rattle.field_values.specs.Limits.{specialPricing, highestRevenue}
 use Rattle.revenue.specs.RevenueLimits.{highestOpexFactor}
 use Rattle.revenue.specs.declared.Stream.{Stream}
 
@@ -16,6 +16,10 @@ opexFactor opex revenue = 10000 * (revenue - opex) / revenue
 abbrev pub transmissionOpexFactor : ℕ
 transmissionOpexFactor = 10000
 
+-- Document 02, E3: "special pricing, life 15, O taken as 10,000 for distribution too"
+abbrev pub distributionOpexFactor : ℕ → ℕ → ℕ → ℕ
+distributionOpexFactor class opex revenue = cond (eqb class specialPricing) transmissionOpexFactor (opexFactor opex revenue)
+
 -- "F(0) = 100,000,000; F(n+1) = ⌊F(n) × 10,000 / (10,000 + b)⌋."
 unfoldable pub discount : ℕ → ℕ → ℕ
 discount b zero = 100000000
@@ -25,7 +29,7 @@ discount b (suc n) = discount b n * 10000 / (10000 + b)
 abbrev pub factorOf : Factors → ℕ → ℕ
 factorOf list n = getD (list .values) (min n (list .count - 1)) 0
 
--- "0 residential, life 30; 1 non-residential, life 15."
+-- "0 residential, life 30; 1 non-residential, life 15." Document 02, E3: "special pricing, life 15".
 abbrev pub lifeOf : ℕ → ℕ
 lifeOf class = cond (eqb class 0) 30 15
 

@@ -1,11 +1,12 @@
 // Incremental revenue: the lines charges of the years 0 to 30 at most, scaled and discounted year by year.
 use field_values::factors::Factors;
+use field_values::limits::SPECIAL_PRICING;
 ghost use mathlib.Core.Path.{_≡_};
 ghost use Prim.Native.Nat.{suc, _*_, _<_, _≤_, min};
 ghost use Rattle.field_values.specs.FactorLimits.{FactorsWithin};
 ghost use Rattle.field_values.specs.Limits.{highestFactor, highestRevenue, sumsBelow};
 ghost use Rattle.revenue.specs.RevenueLimits.{highestOpexFactor, highestDiscount, longestLife, highestYearRevenue, highestIncrementalRevenue};
-ghost use Rattle.revenue.specs.Revenue.{opexFactor, discount, factorOf, lifeOf, scaled, streamYear, incrementalRevenue, StreamWithin};
+ghost use Rattle.revenue.specs.Revenue.{opexFactor, distributionOpexFactor, discount, factorOf, lifeOf, scaled, streamYear, incrementalRevenue, StreamWithin};
 
 // "10,000 for transmission": no opex is taken from it.
 pub const TRANSMISSION_OPEX_FACTOR: u16 = 10_000;
@@ -20,12 +21,24 @@ pub struct Stream {
     pub tariff_factors: Factors,
 }
 
-// The opex factor O of distribution.
-pub fn opex_factor(opex: u64, revenue: u64) -> u16
+// The opex factor O of a rate book.
+fn opex_factor(opex: u64, revenue: u64) -> u16
     requires { ⌜ (opex ≤ revenue) × (0 < revenue) × (revenue < sumsBelow) ⌝ }
     ensures { λ r. ⌜ (r ≡ opexFactor opex revenue) × (r ≤ highestOpexFactor) ⌝ }
 {
     (10_000 * (revenue - opex) / revenue) as u16
+}
+
+// The opex factor of distribution, by the connection's class: special pricing has transmission's.
+pub fn distribution_opex_factor(class: u8, opex: u64, revenue: u64) -> u16
+    requires { ⌜ (opex ≤ revenue) × (0 < revenue) × (revenue < sumsBelow) ⌝ }
+    ensures { λ r. ⌜ (r ≡ distributionOpexFactor class opex revenue) × (r ≤ highestOpexFactor) ⌝ }
+{
+    if class == SPECIAL_PRICING {
+        TRANSMISSION_OPEX_FACTOR
+    } else {
+        opex_factor(opex, revenue)
+    }
 }
 
 // The discount factor of year n + 1 from that of year n.

@@ -1,5 +1,5 @@
-// Prints the slips of pairs of files that are refused, and of two whose percentages are none or
-// negative.
+// Prints the slips of pairs of files that are refused, of two whose percentages are none or negative,
+// and of special pricing by a book with opex.
 use print_slip::print_slip;
 
 fn unreadable() {
@@ -14,6 +14,8 @@ fn refused() {
     print_slip(b"rates.bin", b"altered_job.bin");
     print_slip(b"rates.bin", b"rates.bin");
     print_slip(b"rates_term_83.bin", b"job.bin");
+    print_slip(b"rates.bin", b"job_class_3.bin");
+    print_slip(b"rates.bin", b"job_loading_in_class_1.bin");
     print_slip(b"rates.bin", b"job_capacity_0.bin");
     print_slip(b"rates.bin", b"job_zone_2.bin");
     print_slip(b"rates.bin", b"job_at_150_percent.bin");
@@ -24,4 +26,5 @@ fn main() {
     refused();
     print_slip(b"rates.bin", b"job_of_nothing.bin");
     print_slip(b"rates_not_charged.bin", b"job_no_revenue.bin");
+    print_slip(b"rates_with_opex.bin", b"job_special_pricing.bin");
 }

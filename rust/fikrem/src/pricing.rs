@@ -24,7 +24,7 @@ pub struct Bill {
     pub tw: u64,
     /// historical cost recovery HR
     pub hr: u64,
-    /// operating loading OL
+    /// operating loading OL, 0 but for special pricing
     pub ol: u64,
     /// IC = ME + MC + CE + CC2 + TW + HR + OL
     pub ic: u64,

@@ -121,6 +121,10 @@ impl Maker<'_> {
             request.tiers[tier].mode = 2;
             request.tiers[tier].bespoke_rate = refused_bespoke_rate(self.random, posted);
         }
+        if self.random.once_in(40) {
+            // refused but for special pricing
+            request.ol = self.random.edge_u32(1, 1_000_000_000);
+        }
         if self.random.once_in(2) {
             (request.distribution_revenue, request.transmission_revenue) = (0, 0);
         }

@@ -3,7 +3,7 @@
 use crate::book::Book;
 use crate::fields::{closed, parts};
 use crate::random::Random;
-use crate::request::Request;
+use crate::request::{highest_loading, Request};
 use reference::file::{check, HEAD_SIZE, TAIL_SIZE};
 
 /// Sets the last two bytes to the check of those before them, if there are so many.
@@ -194,8 +194,15 @@ pub fn book_past_limits(book: &Book) -> Vec<PastLimit> {
 pub fn request_past_limits(request: &Request) -> Vec<PastLimit> {
     let mut limits = Limits::of(request.encode());
     limits.letters();
-    limits.u8_above(2, 0, 1);
-    limits.u32s_above(4, 0, 6, 1_000_000_000);
+    limits.u8_above(2, 0, 2);
+    limits.u32s_above(4, 0, 5, 1_000_000_000);
+    limits.u32_above(4, 20, highest_loading(request.class));
+    if request.ol > 0 {
+        // another class is refused at the operating loading
+        let (class, loading) = (limits.values[2], limits.values[4] + 20);
+        limits.bytes_refused_at(class, loading, &[0]);
+        limits.bytes_refused_at(class, loading, &[1]);
+    }
     for tier in 0..5 {
         limits.u8_above(5, 9 * tier, 2);
         limits.u32_above(5, 9 * tier + 1, 1_000_000);

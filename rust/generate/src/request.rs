@@ -4,11 +4,14 @@ use crate::book::Book;
 use crate::fields::File;
 use crate::random::Random;
 
+/// The class that may have an operating loading.
+pub const SPECIAL_PRICING: u8 = 2;
+
 /// The values of a request; any, also such as are refused.
 #[derive(Debug, Clone, PartialEq, Eq)]
 pub struct Request {
     pub person: u32,
-    /// 0 residential, 1 non-residential.
+    /// 0 residential, 1 non-residential, 2 special pricing.
     pub class: u8,
     pub zone: u8,
     pub me: u32,
@@ -86,10 +89,12 @@ impl Request {
 
     /// A request whose values are within their limits; the zone may be missing in a book and bespoke rates not allowed.
     pub fn loose(random: &mut Random) -> Request {
-        let [me, ce, de, tw, hr, ol] = [(); 6].map(|_| random.edge_u32(0, 1_000_000_000));
+        let class = random.edge_u8(0, 2);
+        let [me, ce, de, tw, hr] = [(); 5].map(|_| random.edge_u32(0, 1_000_000_000));
+        let ol = random.edge_u32(0, highest_loading(class));
         Request {
             person: random.edge_u32(0, u32::MAX),
-            class: random.edge_u8(0, 1),
+            class,
             zone: random.edge_u8(0, u8::MAX),
             me,
             ce,
@@ -128,6 +133,15 @@ impl Request {
         file = file.field(9).u16s(&self.part_year);
         file = file.field(10).u16s(&self.distribution_tariffs).field(11).u16s(&self.transmission_tariffs);
         file.field(12).u16(self.month).u32(self.capacity).u16(self.scheme).u8(self.mark).close()
+    }
+}
+
+/// The highest operating loading of a class.
+pub fn highest_loading(class: u8) -> u32 {
+    if class == SPECIAL_PRICING {
+        1_000_000_000
+    } else {
+        0
     }
 }
 

@@ -39,7 +39,8 @@ fn pairs_cover_their_edges() {
     assert_eq!(seen(&|book, _| vec![book.zones.len() as u64]), (1..=8).collect());
     assert_eq!(seen(&|book, _| vec![book.distribution_factors.len() as u64]), (1..=8).collect());
     assert_eq!(seen(&|_, request| request.tiers.map(|tier| tier.mode.into()).to_vec()), (0..=2).collect());
-    assert_eq!(seen(&|_, request| vec![request.class.into(), request.mark.into()]), (0..=2).collect());
+    assert_eq!(seen(&|_, request| vec![request.class.into()]), (0..=2).collect());
+    assert_eq!(seen(&|_, request| vec![request.mark.into()]), (0..=2).collect());
     assert_eq!(seen(&|book, _| vec![book.capacity_charged.into()]), (0..=1).collect());
     let edges = |values: &dyn Fn(&Book, &Request) -> u64| {
         let seen = seen(&|book, request| vec![values(book, request)]);

@@ -1,5 +1,5 @@
-//! The connection charge and the pioneer ledger, written from document 01 alone, whose headings docs/RULES.md has, and
-//! the page of document 02, E1.
+//! The connection charge and the pioneer ledger, written from documents 01 and 02 alone; docs/RULES.md has document 01's
+//! headings.
 //!
 //! Money is in whole cents, capacity in hundredths of a kVA, factors in ten-thousandths, months are
 //! year × 12 + (month − 1). Files are big endian. A refused call changes nothing.

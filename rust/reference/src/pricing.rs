@@ -2,7 +2,7 @@
 
 use crate::rate_book::{RateBook, ONE, TIERS};
 use crate::refusal::{self, Refusal};
-use crate::request::{Mode, Request, Tier};
+use crate::request::{Class, Mode, Request, Tier};
 
 /// A factor of one.
 const WHOLE: u64 = ONE as u64;
@@ -109,6 +109,15 @@ pub fn opex_factor(opex_sum: u64, revenue_sum: u64) -> u64 {
     WHOLE * (revenue_sum - opex_sum) / revenue_sum
 }
 
+/// The opex factor of distribution revenue; document 02, E3, for special pricing: "O taken as 10,000 for distribution
+/// too".
+fn distribution_opex_factor(book: &RateBook, class: Class) -> u64 {
+    match class {
+        Class::Residential | Class::NonResidential => opex_factor(book.opex_sum, book.revenue_sum),
+        Class::SpecialPricing => WHOLE,
+    }
+}
+
 /// F(n+1) = ⌊F(n) × 10,000 / (10,000 + b)⌋
 pub fn next_discount_factor(factor: u64, discount_rate: u16) -> u64 {
     factor * WHOLE / (WHOLE + u64::from(discount_rate))
@@ -123,10 +132,10 @@ pub fn year_revenue(revenue: u32, factors: [u64; 4], discount_factor: u64) -> u6
 
 /// "IR sums all years, distribution and transmission", for n from 0 to life inclusive.
 pub fn incremental_revenue(book: &RateBook, request: &Request) -> u64 {
-    let opex_factor = opex_factor(book.opex_sum, book.revenue_sum);
+    let opex_factor = distribution_opex_factor(book, request.class);
     let mut discount_factor = DISCOUNT_ONE;
     let mut sum = 0;
-    for year in 0..=request.life {
+    for year in 0..=request.class.life() {
         let part_year = request.part_year_factors.of_year(year);
         let distribution = [
             opex_factor,

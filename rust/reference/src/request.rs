@@ -31,8 +31,7 @@ pub const ROWS: [Row; 12] = [
 #[derive(Debug, Clone, PartialEq, Eq)]
 pub struct Request {
     pub person: u32,
-    /// "0 residential, life 30; 1 non-residential, life 15"
-    pub life: usize,
+    pub class: Class,
     pub zone: u8,
     pub amounts: Amounts,
     pub tiers: [Tier; TIERS],
@@ -45,6 +44,15 @@ pub struct Request {
     pub distribution_tariff_factors: Factors,
     pub transmission_tariff_factors: Factors,
     pub joining: Joining,
+}
+
+/// Field 03: "0 residential, life 30; 1 non-residential, life 15"; document 02, E3: "the value 2: special pricing, life
+/// 15".
+#[derive(Debug, Clone, Copy, PartialEq, Eq)]
+pub enum Class {
+    Residential,
+    NonResidential,
+    SpecialPricing,
 }
 
 /// Field 05: "six 4-byte amounts".
@@ -97,9 +105,9 @@ impl Request {
         let mut fields = file::open(bytes, &ROWS, REQUEST)?;
         fields.due().letters(b"CONN")?;
         let person = fields.due().u32();
-        let life = if fields.due().u8_within(0..=1)? == 0 { 30 } else { 15 };
+        let class = Class::read(fields.due())?;
         let zone = fields.due().u8();
-        let amounts = Amounts::read(fields.due())?;
+        let amounts = Amounts::read(fields.due(), class)?;
         let tiers = tiers(fields.due())?;
         let mut added_demands = [0; TIERS];
         let mut added = fields.due();
@@ -109,7 +117,7 @@ impl Request {
         let mut revenue = fields.due();
         Ok(Request {
             person,
-            life,
+            class,
             zone,
             amounts,
             tiers,
@@ -124,10 +132,43 @@ impl Request {
     }
 }
 
+impl Class {
+    fn read(mut value: Value<'_>) -> Result<Class, Refusal> {
+        Ok(match value.u8_within(0..=2)? {
+            0 => Class::Residential,
+            1 => Class::NonResidential,
+            _ => Class::SpecialPricing,
+        })
+    }
+
+    /// The last of the years that revenue is counted for.
+    pub fn life(self) -> usize {
+        match self {
+            Class::Residential => 30,
+            Class::NonResidential | Class::SpecialPricing => 15,
+        }
+    }
+
+    /// "Classes 0 and 1 must now have OL 0."
+    fn highest_operating_loading(self) -> u32 {
+        match self {
+            Class::Residential | Class::NonResidential => 0,
+            Class::SpecialPricing => HIGHEST_AMOUNT,
+        }
+    }
+}
+
 impl Amounts {
-    fn read(mut value: Value<'_>) -> Result<Amounts, Refusal> {
-        let mut amount = || value.u32_within(0..=HIGHEST_AMOUNT);
-        Ok(Amounts { me: amount()?, ce: amount()?, de: amount()?, tw: amount()?, hr: amount()?, ol: amount()? })
+    fn read(mut value: Value<'_>, class: Class) -> Result<Amounts, Refusal> {
+        let mut amount = |highest| value.u32_within(0..=highest);
+        Ok(Amounts {
+            me: amount(HIGHEST_AMOUNT)?,
+            ce: amount(HIGHEST_AMOUNT)?,
+            de: amount(HIGHEST_AMOUNT)?,
+            tw: amount(HIGHEST_AMOUNT)?,
+            hr: amount(HIGHEST_AMOUNT)?,
+            ol: amount(class.highest_operating_loading())?,
+        })
     }
 }
 

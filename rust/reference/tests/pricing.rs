@@ -1,5 +1,5 @@
-//! Pricing held against the formulas of document 01, 'Charge and reconciliation', worked out from the plain values in
-//! 128 bits.
+//! Pricing held against the formulas of document 01, 'Charge and reconciliation', and document 02, E3, worked out from the
+//! plain values in 128 bits.
 
 use generate::request::pair;
 use generate::{Book, Random, Request};
@@ -14,13 +14,9 @@ fn incremental_revenue(book: &Book, request: &Request) -> i128 {
     let opex: i128 = book.pairs.iter().map(|pair| i128::from(pair.0)).sum();
     let revenue: i128 = book.pairs.iter().map(|pair| i128::from(pair.1)).sum();
     let life = if request.class == 0 { 30 } else { 15 };
+    let opex_factor = if request.class == 2 { 10_000 } else { 10_000 * (revenue - opex) / revenue };
     let kinds = [
-        (
-            request.distribution_revenue,
-            10_000 * (revenue - opex) / revenue,
-            &book.distribution_factors,
-            &request.distribution_tariffs,
-        ),
+        (request.distribution_revenue, opex_factor, &book.distribution_factors, &request.distribution_tariffs),
         (request.transmission_revenue, 10_000, &book.transmission_factors, &request.transmission_tariffs),
     ];
     let mut sum = 0;
@@ -95,6 +91,8 @@ fn compare(book: &Book, request: &Request) {
         [percent(cc, ic), percent(cc, cc + ir), percent(nc, cc + ir)]
     );
     assert_eq!(i128::from(bill.entered), cc + i128::from(bill.borne), "cost entered = charged + borne");
+    let sums = bill.reconciliation;
+    assert_eq!(i128::from(sums.cc) - i128::from(sums.nc), sums.nic.into(), "CC − NC = NIC");
     assert_eq!(
         (bill.threshold, bill.fee, bill.minimum, bill.term),
         (book.threshold, book.fee, book.minimum, book.term)
@@ -110,7 +108,10 @@ fn random_pairs() {
     let mut random = Random::new(1);
     for _ in 0..4_000 {
         let (book, request) = pair(&mut random);
-        compare(&book, &request);
+        for class in [0, 1, 2] {
+            let ol = if class == 2 { request.ol } else { 0 };
+            compare(&book, &Request { class, ol, ..request.clone() });
+        }
     }
 }
 
@@ -118,7 +119,10 @@ fn random_pairs() {
 #[test]
 fn highest_values() {
     let highest = vec![40_000; 8];
-    for (capacity_charged, class, credit_share) in [(0, 0, 0), (1, 0, 0), (0, 0, 10_000), (1, 1, 10_000)] {
+    let most = 1_000_000_000;
+    for (capacity_charged, class, ol, credit_share) in
+        [(0, 0, 0, 0), (1, 0, 0, 0), (0, 0, 0, 10_000), (1, 1, 0, 10_000), (1, 2, most, 10_000), (0, 2, most, 0)]
+    {
         let book = Book {
             pairs: [(0, u32::MAX); 5],
             distribution_factors: highest.clone(),
@@ -129,7 +133,6 @@ fn highest_values() {
             ..Book::slip()
         };
         let tier = generate::request::Tier { mode: 0, demand: 1_000_000, bespoke_rate: 10_000_000 };
-        let most = 1_000_000_000;
         let request = Request {
             class,
             zone: 255,
@@ -138,7 +141,7 @@ fn highest_values() {
             de: most,
             tw: most,
             hr: most,
-            ol: most,
+            ol,
             tiers: [tier; 5],
             added_demands: [1_000_000; 5],
             distribution_revenue: most,

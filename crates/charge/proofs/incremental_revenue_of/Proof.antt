@@ -3,8 +3,8 @@ use borrow.Author.Needs.{needs}
 use Rattle.charge.proofs.incremental_revenue_of.Statement.{statement}
 use Rattle.charge.proofs.incremental_revenue_of.Tie as tie
 
-opex-factor-requires : tie.Need-opex-factor-requires
-opex-factor-requires c κs = search needs
+distribution-opex-factor-requires : tie.Need-distribution-opex-factor-requires
+distribution-opex-factor-requires c κs = search needs
 
 life-of-requires : tie.Need-life-of-requires
 life-of-requires c κs = search needs
@@ -13,8 +13,8 @@ incremental-revenue-requires : tie.Need-incremental-revenue-requires
 incremental-revenue-requires c κs = search needs
 
 returns : tie.Need-returns
-returns c = (rw (← c .before .before .opex-factor .ensures .0, ← c .before .life-of .ensures .0) (c .incremental-revenue .ensures .0), c .incremental-revenue .ensures .1)
+returns c = (rw (← c .before .before .distribution-opex-factor .ensures .0, ← c .before .life-of .ensures .0) (c .incremental-revenue .ensures .0), c .incremental-revenue .ensures .1)
 
 pub incremental-revenue-of-spec : {M : Type 1} → statement M
 incremental-revenue-of-spec =
-    tie.close (tie.spec opex-factor-requires life-of-requires incremental-revenue-requires returns)
+    tie.close (tie.spec distribution-opex-factor-requires life-of-requires incremental-revenue-requires returns)

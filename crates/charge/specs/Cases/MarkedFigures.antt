@@ -26,18 +26,22 @@ use Rattle.charge.specs.declared.Pricing.{Pricing}
 use Rattle.charge.specs.declared.Pricing.the-variants.{Priced, NotPriced}
 
 -- The slip's book: "b 0, opex 0, revenue 1 in each pair, all factors 10,000, capacity charged, share 6,500, zone 1 at 0, 0, 8500, 38000, 10000."
-abbrev pub slipBook : List ℕ
-slipBook =
+-- with these for b, opex and revenue
+abbrev pub slipBookWith : ℕ → ℕ → ℕ → List ℕ
+slipBookWith rate opex revenue =
     closed
     ((1, bookLetters) ∷
-    (2, bytesOf 2 0) ∷
-    (3, flatMap (bytesOf 4) (0 ∷ 1 ∷ 0 ∷ 1 ∷ 0 ∷ 1 ∷ 0 ∷ 1 ∷ 0 ∷ 1 ∷ [])) ∷
+    (2, bytesOf 2 rate) ∷
+    (3, flatMap (λ pair. pair) (replicate 5 (bytesOf 4 opex ++ bytesOf 4 revenue))) ∷
     (4, bytesOf 2 10000) ∷
     (5, bytesOf 2 10000) ∷
     (6, flatMap (bytesOf 4) (5000000 ∷ 20000 ∷ 20000 ∷ []) ++ bytesOf 2 84) ∷
     (7, 1 ∷ bytesOf 2 6500) ∷
     (8, 1 ∷ flatMap (bytesOf 4) (0 ∷ 0 ∷ 8500 ∷ 38000 ∷ 10000 ∷ [])) ∷
     [])
+
+abbrev pub slipBook : List ℕ
+slipBook = slipBookWith 0 0 1
 
 -- a tier's mode, demand and bespoke rate
 abbrev pub tier : ℕ → ℕ → ℕ → List ℕ
@@ -47,14 +51,14 @@ tier mode demand bespoke = mode ∷ (bytesOf 4 demand ++ bytesOf 4 bespoke)
 abbrev pub connection : ℕ → ℕ → ℕ → ℕ → List ℕ
 connection month capacity scheme mark = bytesOf 2 month ++ (bytesOf 4 capacity ++ (bytesOf 2 scheme ++ (mark ∷ [])))
 
--- a request in a zone with these amounts, tiers and field 0C, otherwise the slip's: "non-residential, .. none added, revenue 57,320 and 0, part-year
--- 0 then 10,000, tariffs 10,000."
-abbrev pub requestBy : ℕ → List ℕ → List (List ℕ) → List ℕ → List ℕ
-requestBy zone amounts tiers asked =
+-- a request of this class in a zone with these amounts, tiers and field 0C, otherwise the slip's: "non-residential, .. none added, revenue 57,320 and 0,
+-- part-year 0 then 10,000, tariffs 10,000."
+abbrev pub requestOfClass : ℕ → ℕ → List ℕ → List (List ℕ) → List ℕ → List ℕ
+requestOfClass class zone amounts tiers asked =
     closed
     ((1, requestLetters) ∷
     (2, bytesOf 4 4711) ∷
-    (3, 1 ∷ []) ∷
+    (3, class ∷ []) ∷
     (4, zone ∷ []) ∷
     (5, flatMap (bytesOf 4) amounts) ∷
     (6, flatMap (λ t. t) tiers) ∷
@@ -65,6 +69,9 @@ requestBy zone amounts tiers asked =
     (11, bytesOf 2 10000) ∷
     (12, asked) ∷
     [])
+
+abbrev pub requestBy : ℕ → List ℕ → List (List ℕ) → List ℕ → List ℕ
+requestBy = requestOfClass 1
 
 -- "ME 1,598,500, other amounts 0"
 abbrev pub requestWith : ℕ → List (List ℕ) → List ℕ

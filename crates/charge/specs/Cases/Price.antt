@@ -1,5 +1,5 @@
 -- Pricings from the bytes on, with every figure written out. Book and request have values that all differ and none that is neutral: several factors in
--- every list, a residential class, two bespoke modes, and a zone that isn't the book's first.
+-- every list, all three classes, two bespoke modes, and a zone that isn't the book's first.
 use Prim.Native.Nat.{ℕ}
 use mathlib.Core.Path.{_≡_, refl}
 use mathlib.Core.List.{List, [], _∷_, _++_, flatMap}
@@ -16,7 +16,7 @@ use Rattle.book_zones.specs.Zones.{judgeZonesFrom}
 use Rattle.rate_book.specs.Book.{bookLetters, bookOf}
 use Rattle.request.specs.Request.{requestLetters, requestOf}
 use Rattle.revenue.specs.Revenue.{discount, incrementalRevenue}
-use Rattle.reconciliation.specs.Cases.Reconciliation.{figures, capacityCharged, capacityNotCharged, creditIsM, creditAboveM}
+use Rattle.reconciliation.specs.Cases.Reconciliation.{figures, capacityCharged, capacityNotCharged, withoutLoading, creditIsM, creditAboveM}
 use Rattle.reconciliation.specs.declared.Reconciliation.{Reconciliation}
 use Rattle.reconciliation.specs.declared.Percent.the-variants.{None}
 use Rattle.charge.specs.Price.{zoneFound, valuesPriced, requestPriced, priceOf}
@@ -40,13 +40,13 @@ variedBook charged share =
     (8, 9 ∷ flatMap (bytesOf 4) (4100 ∷ 3300 ∷ 2700 ∷ 1900 ∷ 700 ∷ [])) ∷
     [])
 
--- a request in a zone with these amounts, tiers, added demands and revenues
-abbrev variedBy : ℕ → List ℕ → List (List ℕ) → List ℕ → List ℕ → List ℕ
-variedBy zone amounts tiers added revenues =
+-- a request of this class in a zone with these amounts, tiers, added demands and revenues
+abbrev variedBy : ℕ → ℕ → List ℕ → List (List ℕ) → List ℕ → List ℕ → List ℕ
+variedBy class zone amounts tiers added revenues =
     closed
     ((1, requestLetters) ∷
     (2, bytesOf 4 90210) ∷
-    (3, 0 ∷ []) ∷
+    (3, class ∷ []) ∷
     (4, zone ∷ []) ∷
     (5, flatMap (bytesOf 4) amounts) ∷
     (6, flatMap (λ t. t) tiers) ∷
@@ -58,9 +58,9 @@ variedBy zone amounts tiers added revenues =
     (12, connection 24317 15100 2 1) ∷
     [])
 
-abbrev variedRequest : ℕ → ℕ → List ℕ
-variedRequest zone me =
-    variedBy zone (me ∷ 417300 ∷ 290100 ∷ 83700 ∷ 61900 ∷ 154400 ∷ [])
+abbrev variedRequest : ℕ → ℕ → ℕ → ℕ → List ℕ
+variedRequest class zone me ol =
+    variedBy class zone (me ∷ 417300 ∷ 290100 ∷ 83700 ∷ 61900 ∷ ol ∷ [])
     (tier 0 4103 7777 ∷ tier 2 4207 3452 ∷ tier 1 2311 9999 ∷ tier 2 2417 30399 ∷ tier 0 1509 555 ∷ [])
     (613 ∷ 727 ∷ 839 ∷ 947 ∷ 1051 ∷ []) (57321 ∷ 31207 ∷ [])
 
@@ -73,18 +73,21 @@ variedBill reconciliation =
     }
 
 pub record PricingCases : Type 0 where
-  pub charged : priceOf (variedBook 1 6300) (variedRequest 7 1598500) ≡ Priced (variedBill capacityCharged)
+  -- special pricing: the book's opex takes nothing from the revenue
+  pub charged : priceOf (variedBook 1 6300) (variedRequest 2 7 1598500 154400) ≡ Priced (variedBill capacityCharged)
   -- capacity isn't charged: IC still has it, and NC is below 0
-  pub not-charged : priceOf (variedBook 0 6300) (variedRequest 7 1598500) ≡ Priced (variedBill capacityNotCharged)
-  -- the credit is M, and one cent above it; X is CE
-  pub credit-is-m : priceOf (variedBook 1 8700) (variedRequest 7 138000) ≡ Priced (variedBill creditIsM)
-  pub credit-above-m : priceOf (variedBook 1 8700) (variedRequest 7 137999) ≡ Priced (variedBill creditAboveM)
+  pub not-charged : priceOf (variedBook 0 6300) (variedRequest 2 7 1598500 154400) ≡ Priced (variedBill capacityNotCharged)
+  -- non-residential: the same but for the opex and the loading
+  pub without-loading : priceOf (variedBook 1 6300) (variedRequest 1 7 1598500 0) ≡ Priced (variedBill withoutLoading)
+  -- residential: the credit is M, and one cent above it; X is CE
+  pub credit-is-m : priceOf (variedBook 1 8700) (variedRequest 0 7 138000 0) ≡ Priced (variedBill creditIsM)
+  pub credit-above-m : priceOf (variedBook 1 8700) (variedRequest 0 7 137999 0) ≡ Priced (variedBill creditAboveM)
   -- nothing is asked for: "none where the divisor is 0"
   pub nothing-asked :
-      priceOf (variedBook 1 6300) (variedBy 7 (replicate 6 0) (replicate 5 (tier 0 0 0)) (replicate 5 0) (replicate 2 0))
+      priceOf (variedBook 1 6300) (variedBy 0 7 (replicate 6 0) (replicate 5 (tier 0 0 0)) (replicate 5 0) (replicate 2 0))
       ≡ Priced (variedBill (figures 0 0 0 0 0 0 0 0 0 0 (pos 0) (pos 0) 0 0 0 None None None))
   -- zone 0 isn't in a book of three zones, though the places past them hold zeros
-  pub zone-0 : priceOf (variedBook 1 6300) (variedRequest 0 1598500) ≡ NotPriced (refusal 4 2 0)
+  pub zone-0 : priceOf (variedBook 1 6300) (variedRequest 2 0 1598500 154400) ≡ NotPriced (refusal 4 2 0)
 
 pub pricing-cases : PricingCases
 unfolding checkFrom number bytesOf dueFrom allHad frontOf walkFrom fieldsFrom firstWith fieldsWith judgeNumbers sameBytes judgeZonesFrom bookOf requestOf discount incrementalRevenue zoneFound valuesPriced requestPriced priceOf flatMap
@@ -92,6 +95,7 @@ pricing-cases =
     record {
       charged = refl;
       not-charged = refl;
+      without-loading = refl;
       credit-is-m = refl;
       credit-above-m = refl;
       nothing-asked = refl;

@@ -31,7 +31,7 @@ use Rattle.request.specs.Theorems.RequestLimits.{request-within-limits}
 use Rattle.request.specs.declared.values.Request.{Request}
 use Rattle.revenue.specs.Revenue.{StreamWithin, lifeOf}
 use Rattle.revenue.specs.RevenueLimits.{longestLife}
-use Rattle.revenue.specs.Theorems.Revenue.{opex-factor-at-most, incremental-revenue-bounded}
+use Rattle.revenue.specs.Theorems.Revenue.{distribution-opex-factor-at-most, incremental-revenue-bounded}
 use Rattle.capacity.specs.CapacityLimits.{TiersWithin}
 use Rattle.capacity.specs.Capacity.{firstNotAllowed}
 use Rattle.capacity.specs.Theorems.Capacity.{capacity-cost-at-most}
@@ -145,7 +145,7 @@ bill-within book rates request zone distribution transmission b s r h d t =
     let distributed : StreamWithin (distributionOf book request distribution) =
     record {
       revenue = d;
-      opex-factor = opex-factor-at-most (book .opex) (book .revenue);
+      opex-factor = distribution-opex-factor-at-most (request .class) (book .opex) (book .revenue);
       part-year = r .part-year;
       revenue-factors = b .distribution;
       tariff-factors = r .distribution-tariff;

@@ -37,7 +37,7 @@ use Rattle.rate_book.specs.Fields.{rateLimits, sumsIn, sumJudgements, termsIn, 
 use Rattle.rate_book.specs.Book.{bookLetters, bookJudgements, judgeBook, bookValues, refusedBook, acceptedBook, bookOf}
 use Rattle.request.specs.RequestRows.{requestRows}
 use Rattle.request.specs.Cases.RequestRows.{request-rows-rise}
-use Rattle.request.specs.Fields.{classLimits, amountLimits, fiveTierLimits, addedLimits, revenueLimits, connectionLimits}
+use Rattle.request.specs.Fields.{classLimits, classIn, amountLimits, fiveTierLimits, addedLimits, revenueLimits, connectionLimits}
 use Rattle.request.specs.Request.{requestLetters, chargeJudgements, requestJudgements, judgeRequest, requestValues, refusedRequest, acceptedRequest, requestOf}
 use Rattle.stored.specs.StoredRows.{storedRows}
 use Rattle.stored.specs.Cases.StoredRows.{stored-rows-rise}
@@ -152,7 +152,7 @@ module _ (s : List ℕ) where
       (also (judge-fails (length s) (sameBytes (fieldValue 1 s) requestLetters) (fieldStart 1 s) first)
       (also
       (first-fails (length s) (chargeJudgements s)
-      (also (field 2 (omega arith) (omega arith) classLimits) (also (field 4 (omega arith) (omega arith) amountLimits) none)))
+      (also (field 2 (omega arith) (omega arith) classLimits) (also (field 4 (omega arith) (omega arith) (amountLimits (classIn s))) none)))
       (also (field 5 (omega arith) (omega arith) fiveTierLimits)
       (also (field 6 (omega arith) (omega arith) addedLimits)
       (also (field 7 (omega arith) (omega arith) revenueLimits)

@@ -1,4 +1,4 @@
--- Reconciliations with every figure written out, at amounts that all differ and none of which is 0.
+-- Reconciliations with every figure written out, at amounts that all differ and none of which is 0 but OL.
 use Prim.Native.Nat.{ℕ}
 use mathlib.Core.Path.{_≡_, refl}
 use lib.IntN.{ℤ, pos, negsuc}
@@ -32,35 +32,43 @@ figures me mc ce cc2 tw hr ol ic ir cc nic nc x entered borne reliance upfront r
       «nc_ratio» = ratio;
     }
 
-abbrev costsWith : ℕ → Costs
-costsWith me = record { me = me; mc = 1086822; ce = 417300; cc2 = 432286; de = 290100; tw = 83700; hr = 61900; ol = 154400 }
+-- with these for ME and OL
+abbrev costsWith : ℕ → ℕ → Costs
+costsWith me ol = record { me = me; mc = 1086822; ce = 417300; cc2 = 432286; de = 290100; tw = 83700; hr = 61900; ol = ol }
 
--- at a share of 6,300, the credit 886,940 is below M
+-- at a share of 6,300, the credit 647,196 is below M
 abbrev pub capacityCharged : Reconciliation
 capacityCharged =
-    figures 1598500 1086822 417300 432286 83700 61900 154400 3834908 1407842 2947968 (pos 2427066) (pos 520902) 1128860 4125008 1177040
-    (Whole (pos 77)) (Whole (pos 68)) (Whole (pos 12))
+    figures 1598500 1086822 417300 432286 83700 61900 154400 3834908 1027296 3187712 (pos 2807612) (pos 380100) 1368604 4125008 937296
+    (Whole (pos 83)) (Whole (pos 76)) (Whole (pos 9))
 
--- NC is −998,206
+-- NC is −1,139,008
 abbrev pub capacityNotCharged : Reconciliation
 capacityNotCharged =
-    figures 1598500 1086822 417300 432286 83700 61900 154400 3834908 1407842 1428860 (pos 2427066) (negsuc 998205) 1128860 4125008 2696148
-    (Whole (pos 37)) (Whole (pos 50)) (Whole (negsuc 34))
+    figures 1598500 1086822 417300 432286 83700 61900 154400 3834908 1027296 1668604 (pos 2807612) (negsuc 1139007) 1368604 4125008 2456404
+    (Whole (pos 44)) (Whole (pos 62)) (Whole (negsuc 41))
+
+-- OL 0, as in every class but special pricing
+abbrev pub withoutLoading : Reconciliation
+withoutLoading =
+    figures 1598500 1086822 417300 432286 83700 61900 0 3680508 942391 3086802 (pos 2738117) (pos 348685) 1422094 3970608 883806
+    (Whole (pos 84)) (Whole (pos 77)) (Whole (pos 9))
 
 -- at a share of 8,700 the credit 1,224,822 is M, and one cent above it; both are above ME, so that X is CE
 abbrev pub creditIsM : Reconciliation
 creditIsM =
-    figures 138000 1086822 417300 432286 83700 61900 154400 2374408 1407842 1149586 (pos 966566) (pos 183020) 417300 2664508 1514922
-    (Whole (pos 48)) (Whole (pos 45)) (Whole (pos 7))
+    figures 138000 1086822 417300 432286 83700 61900 0 2220008 1407842 995186 (pos 812166) (pos 183020) 417300 2510108 1514922
+    (Whole (pos 45)) (Whole (pos 41)) (Whole (pos 8))
 
 abbrev pub creditAboveM : Reconciliation
 creditAboveM =
-    figures 137999 1086822 417300 432286 83700 61900 154400 2374407 1407842 1149586 (pos 966565) (pos 183021) 417300 2664507 1514921
-    (Whole (pos 48)) (Whole (pos 45)) (Whole (pos 7))
+    figures 137999 1086822 417300 432286 83700 61900 0 2220007 1407842 995186 (pos 812165) (pos 183021) 417300 2510107 1514921
+    (Whole (pos 45)) (Whole (pos 41)) (Whole (pos 8))
 
 pub reconciliation-cases :
-    (reconciliationOf (costsWith 1598500) 1407842 1 6300 ≡ capacityCharged)
-    × (reconciliationOf (costsWith 1598500) 1407842 0 6300 ≡ capacityNotCharged)
-    × (reconciliationOf (costsWith 138000) 1407842 1 8700 ≡ creditIsM)
-    × (reconciliationOf (costsWith 137999) 1407842 1 8700 ≡ creditAboveM)
-reconciliation-cases = (refl, refl, refl, refl)
+    (reconciliationOf (costsWith 1598500 154400) 1027296 1 6300 ≡ capacityCharged)
+    × (reconciliationOf (costsWith 1598500 154400) 1027296 0 6300 ≡ capacityNotCharged)
+    × (reconciliationOf (costsWith 1598500 0) 942391 1 6300 ≡ withoutLoading)
+    × (reconciliationOf (costsWith 138000 0) 1407842 1 8700 ≡ creditIsM)
+    × (reconciliationOf (costsWith 137999 0) 1407842 1 8700 ≡ creditAboveM)
+reconciliation-cases = (refl, refl, refl, refl, refl)

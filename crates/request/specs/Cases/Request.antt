@@ -50,7 +50,7 @@ abbrev pub sample : List (List ℕ)
 sample =
     (67 ∷ 79 ∷ 78 ∷ 78 ∷ []) ∷
     (70001 ∷ []) ∷
-    (1 ∷ []) ∷
+    (2 ∷ []) ∷
     (3 ∷ []) ∷
     (1001 ∷ 1002 ∷ 1003 ∷ 1004 ∷ 1005 ∷ 1006 ∷ []) ∷
     (0 ∷ 2001 ∷ 3001 ∷ 1 ∷ 2002 ∷ 3002 ∷ 2 ∷ 2003 ∷ 3003 ∷ 1 ∷ 2004 ∷ 3004 ∷ 2 ∷ 2005 ∷ 3005 ∷ []) ∷
@@ -94,7 +94,7 @@ boundaryCases =
     anyValue 2 0 4294967295 ++
     anyValue 4 0 255 ++
     -- class
-    atMost sample 3 0 1 17 ++
+    atMost sample 3 0 2 17 ++
     -- the six amounts
     atMost sample 5 0 1000000000 25 ++
     atMost sample 5 1 1000000000 29 ++
@@ -102,6 +102,12 @@ boundaryCases =
     atMost sample 5 3 1000000000 37 ++
     atMost sample 5 4 1000000000 41 ++
     atMost sample 5 5 1000000000 45 ++
+    -- OL in the classes without it, also past its limit, and in the class with it
+    atMost (put 3 0 0 sample) 5 5 0 45 ++
+    atMost (put 3 0 1 sample) 5 5 0 45 ++
+    (put 3 0 0 (put 5 5 1000000001 sample), refused 45) ∷
+    (put 3 0 1 (put 5 5 1000000001 sample), refused 45) ∷
+    (put 5 5 0 sample, Stands) ∷
     -- the first tier: mode, demand, and bespoke rate in every mode
     atMost sample 6 0 2 52 ++
     atMost sample 6 1 1000000 53 ++
@@ -138,8 +144,11 @@ boundaryCases =
     anyValue 12 2 65535 ++
     atMost sample 12 3 2 163 ++
     -- "3 in byte order": two to four values past their limits
-    (put 3 0 2 (put 1 3 79 sample), refused 3) ∷
-    (put 12 3 3 (put 3 0 2 sample), refused 17) ∷
+    (put 3 0 3 (put 1 3 79 sample), refused 3) ∷
+    (put 12 3 3 (put 3 0 3 sample), refused 17) ∷
+    (put 3 0 3 (put 5 5 1 sample), refused 17) ∷
+    (put 3 0 1 (put 5 4 1000000001 (put 5 5 1 sample)), refused 41) ∷
+    (put 3 0 1 (put 6 0 3 (put 5 5 1 sample)), refused 45) ∷
     (put 5 2 1000000001 (put 5 1 1000000001 sample), refused 29) ∷
     (put 6 0 3 (put 5 5 1000000001 sample), refused 45) ∷
     (put 6 2 10000001 (put 6 1 1000001 (put 6 3 3 sample)), refused 53) ∷
@@ -164,7 +173,7 @@ pub sample-read :
       request =
           record {
             person = 70001;
-            class = 1;
+            class = 2;
             zone = 3;
             me = 1001;
             ce = 1002;
@@ -197,6 +206,6 @@ otherCases = put 12 3 1 (put 6 0 2 (put 6 3 2 (put 6 6 1 (put 6 9 0 (put 6 12 0 
 abbrev casesOf : Request → List ℕ
 casesOf request = request .class ∷ request .mark ∷ request .modes
 
-pub other-cases-read : casesOf (requestOf 2 (requestFile otherCases) .request) ≡ 1 ∷ 1 ∷ 2 ∷ 2 ∷ 1 ∷ 0 ∷ 0 ∷ []
+pub other-cases-read : casesOf (requestOf 2 (requestFile otherCases) .request) ≡ 2 ∷ 1 ∷ 2 ∷ 2 ∷ 1 ∷ 0 ∷ 0 ∷ []
 unfolding number bytesOf flatMap checkFrom dueFrom allHad frontOf walkFrom fieldsFrom firstWith judgeNumbers sameBytes requestOf
 other-cases-read = refl

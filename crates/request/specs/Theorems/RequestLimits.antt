@@ -1,10 +1,13 @@
 -- Whatever the reader accepts lies within document 01's limits, and has its lengths.
-use Prim.Native.Nat.{ℕ, zero, suc, _+_, _-_, _≤_, zero-le}
+use Prim.Native.Nat.{ℕ, zero, suc, _+_, _-_, _<_, _≤_, zero-le}
 use mathlib.Core.Path.{_≡_, refl, subst, sym, ap}
+use mathlib.Core.Bool.{Bool, true, false, cond}
 use mathlib.Core.List.{List, [], _∷_}
+use native.Mathlib.Nat.{le-refl, le-trans}
 use native.Mathlib.Omega.{arith}
 use lib.ListN.{length, getD}
-use lib.Dec.{T, leb, lit≤}
+use lib.Dec.{T, leb, eqb, lit≤}
+use borrow.Author.Tests.{eqb-true}
 use Rattle.numbers.specs.BigEndian.{Bytes}
 use Rattle.numbers.specs.Theorems.BigEndian.{Bytes-take, numberAt-below}
 use Rattle.tagged.specs.Find.{fieldStart, fieldValue, firstPlace}
@@ -12,13 +15,13 @@ use Rattle.tagged.specs.Theorems.FoundFields.{Bytes-part}
 use Rattle.tagged.specs.File.{fieldsPart}
 use Rattle.tagged.specs.Theorems.File.{stands-means}
 use Rattle.tagged.specs.declared.file.FileAnswer.the-variants.{Stands}
-use Rattle.field_values.specs.Limits.{highestMode, highestDemand, highestRate}
+use Rattle.field_values.specs.Limits.{specialPricing, highestAmount, highestMode, highestDemand, highestRate}
 use Rattle.field_values.specs.Judged.{judgeField}
 use Rattle.field_values.specs.Theorems.Judged.{first-failure-passes, offsetOf, NumberWithin, judged-within}
 use Rattle.field_values.specs.Theorems.Factors.{factors-within}
 use Rattle.field_values.specs.declared.judged.Judged.the-variants.{Passes}
 use Rattle.request.specs.RequestRows.{requestRows}
-use Rattle.request.specs.Fields.{classLimits, amountLimits, fiveTierLimits, addedLimits, addedIn, revenueLimits, connectionLimits, tiersIn}
+use Rattle.request.specs.Fields.{classLimits, classIn, highestLoading, amountLimits, fiveTierLimits, addedLimits, addedIn, revenueLimits, connectionLimits, tiersIn}
 use Rattle.request.specs.Request.{chargeJudgements, requestJudgements, judgeRequest, requestValues, requestOf}
 use Rattle.request.specs.RequestSizes.{RequestSizes}
 use Rattle.request.specs.Theorems.RequestSizes.{request-sizes}
@@ -41,13 +44,20 @@ field-within : (s : List ℕ) (limits : List (List ℕ)) (tag : ℕ) {size : ℕ
     (k : ℕ) → T (leb (offsetOf limits (k + 1)) size) → NumberWithin limits (fieldValue tag s) k
 field-within s limits tag e long k h = judged-within limits (fieldStart tag s) (fieldValue tag s) e k (rw long (lit≤ h))
 
+loading-at-most : (class : ℕ) → highestLoading class ≤ highestAmount
+loading-at-most class = by (eqb class specialPricing)
+  where
+    by : (special : Bool) → cond special highestAmount 0 ≤ highestAmount
+    by true = le-refl _
+    by false = zero-le
+
 values-within : (s : List ℕ) → Bytes s → RequestSizes s → judgeRequest s ≡ Passes → RequestWithin (requestValues s)
 unfolding AllAtMost
 values-within s bytes sizes passes =
     let judged = first-failure-passes (requestJudgements s) passes in
     let charges = first-failure-passes (chargeJudgements s) (judged 1) in
     let class = field-within s classLimits 3 (charges 0) (sizes .class) in
-    let amount = field-within s amountLimits 5 (charges 1) (sizes .amounts) in
+    let amount = field-within s (amountLimits (classIn s)) 5 (charges 1) (sizes .amounts) in
     let tier = field-within s fiveTierLimits 6 (judged 2) (sizes .tiers) in
     let added = field-within s addedLimits 7 (judged 3) (sizes .added) in
     let revenue = field-within s revenueLimits 8 (judged 4) (sizes .revenues) in
@@ -61,7 +71,8 @@ values-within s bytes sizes passes =
       de = amount 2 tt .1;
       tw = amount 3 tt .1;
       hr = amount 4 tt .1;
-      ol = amount 5 tt .1;
+      ol = le-trans (amount 5 tt .1) (loading-at-most (classIn s));
+      loading = amount 5 tt .1;
       five-modes = refl;
       five-demands = refl;
       five-bespoke-rates = refl;
@@ -93,3 +104,14 @@ request-within-limits number file bytes e =
     let accepted = request-accepted number file e in
     subst RequestWithin (ap (λ read. read .request) (sym (accepted .values)))
     (values-within (fieldsPart file) (Bytes-take (length file - 5) file bytes) (accepted-request-sizes number file e) (accepted .passes))
+
+-- Document 02, E3: "Classes 0 and 1 must now have OL 0."
+pub loading-is-special : (number : ℕ) (file : List ℕ) → Bytes file → requestOf number file .answer ≡ Stands →
+    0 < requestOf number file .request .ol → requestOf number file .request .class ≡ specialPricing
+loading-is-special number file bytes e some =
+    by (eqb (requestOf number file .request .class) specialPricing) (eqb-true _ _) (request-within-limits number file bytes e .loading)
+  where
+    by : (special : Bool) → (special ≡ true → requestOf number file .request .class ≡ specialPricing) →
+        requestOf number file .request .ol ≤ cond special highestAmount 0 → requestOf number file .request .class ≡ specialPricing
+    by true is h = is refl
+    by false is h = absurd (omega (arith, some, h))

@@ -3,7 +3,7 @@ use Prim.Native.Nat.{ℕ, suc, _*_, _/_}
 use mathlib.Core.Path.{_≡_, refl}
 use mathlib.Core.List.{List, [], _∷_, map}
 use Rattle.field_values.specs.declared.factors.Factors.{Factors}
-use Rattle.revenue.specs.Revenue.{opexFactor, transmissionOpexFactor, discount, factorOf, lifeOf, yearRevenue, incrementalRevenue}
+use Rattle.revenue.specs.Revenue.{opexFactor, transmissionOpexFactor, distributionOpexFactor, discount, factorOf, lifeOf, yearRevenue, incrementalRevenue}
 use Rattle.revenue.specs.declared.Stream.{Stream}
 
 abbrev pub factors : ℕ → List ℕ → Factors
@@ -57,9 +57,9 @@ factorCases =
 pub factors-of-years : map (λ t. factorOf (factors (t .0) (1 ∷ 2 ∷ 3 ∷ 4 ∷ 5 ∷ 6 ∷ 7 ∷ 8 ∷ [])) (t .1)) factorCases ≡ map (λ t. t .2) factorCases
 factors-of-years = refl
 
--- "0 residential, life 30; 1 non-residential, life 15."
-pub lives-of-classes : (lifeOf 0 ≡ 30) × (lifeOf 1 ≡ 15)
-lives-of-classes = (refl, refl)
+-- "0 residential, life 30; 1 non-residential, life 15." Document 02, E3: "special pricing, life 15".
+pub lives-of-classes : (lifeOf 0 ≡ 30) × (lifeOf 1 ≡ 15) × (lifeOf 2 ≡ 15)
+lives-of-classes = (refl, refl, refl)
 
 -- "for n from 0 to life inclusive": one cent a year, in either stream, over 31 and 16 years
 abbrev pub steady : ℕ → Stream
@@ -80,6 +80,12 @@ years-of-lives = (refl, refl)
 -- the greatest and least opex factor, and one rounded down
 pub opex-factors : (opexFactor 0 1 ≡ 10000) × (opexFactor 1 1 ≡ 0) × (opexFactor 1 3 ≡ 6666)
 opex-factors = (refl, refl, refl)
+
+-- Document 02, E3: "O taken as 10,000 for distribution too", in class 2 alone, also where opex takes all
+pub opex-factors-of-classes :
+    (distributionOpexFactor 0 96500 769000 ≡ 8745) × (distributionOpexFactor 1 96500 769000 ≡ 8745) × (distributionOpexFactor 2 96500 769000 ≡ 10000)
+    × (distributionOpexFactor 1 1 1 ≡ 0) × (distributionOpexFactor 2 1 1 ≡ 10000)
+opex-factors-of-classes = (refl, refl, refl, refl, refl)
 
 -- the rate's limits, 0 and 10,000
 pub discounts-at-limits : (discount 0 30 ≡ 100000000) × (discount 10000 1 ≡ 50000000) × (discount 10000 26 ≡ 1) × (discount 10000 27 ≡ 0)

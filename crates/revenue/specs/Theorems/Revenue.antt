@@ -1,16 +1,25 @@
 -- Laws of the revenue: no figure falls where another rises, and what each is at most.
 use Prim.Native.Nat.{ℕ, zero, suc, _*_, _≤_}
+use mathlib.Core.Bool.{Bool, true, false, cond}
 use native.Mathlib.Nat.{le-refl, add-le-add, mul-le-mul, div-le-of-le-mul}
 use native.Mathlib.Omega.{arith}
+use lib.Dec.{eqb}
 use Rattle.field_values.specs.declared.factors.Factors.{Factors}
 use Rattle.field_values.specs.FactorLimits.{FactorsWithin}
-use Rattle.field_values.specs.Limits.{highestFactor}
+use Rattle.field_values.specs.Limits.{specialPricing, highestFactor}
 use Rattle.revenue.specs.RevenueLimits.{highestOpexFactor, highestDiscount, longestLife, highestYearRevenue, highestIncrementalRevenue}
-use Rattle.revenue.specs.Revenue.{opexFactor, discount, factorOf, scaled, yearRevenue, streamYear, incrementalRevenue, StreamWithin}
+use Rattle.revenue.specs.Revenue.{opexFactor, transmissionOpexFactor, distributionOpexFactor, discount, factorOf, scaled, yearRevenue, streamYear, incrementalRevenue, StreamWithin}
 use Rattle.revenue.specs.declared.Stream.{Stream}
 
 pub opex-factor-at-most : (opex revenue : ℕ) → opexFactor opex revenue ≤ highestOpexFactor
 opex-factor-at-most opex revenue = div-le-of-le-mul revenue (omega arith)
+
+pub distribution-opex-factor-at-most : (class opex revenue : ℕ) → distributionOpexFactor class opex revenue ≤ highestOpexFactor
+distribution-opex-factor-at-most class opex revenue = by (eqb class specialPricing)
+  where
+    by : (special : Bool) → cond special transmissionOpexFactor (opexFactor opex revenue) ≤ highestOpexFactor
+    by true = le-refl _
+    by false = opex-factor-at-most opex revenue
 
 pub discount-falls : (b n : ℕ) → discount b (suc n) ≤ discount b n
 unfolding discount

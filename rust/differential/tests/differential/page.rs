@@ -4,7 +4,7 @@ use super::pricing::random_pair;
 use differential::{Buffers, LibraryCall, Tally};
 use fikrem::raw;
 use generate::damage::{book_past_limits, damaged, request_past_limits};
-use generate::request::{pair, Tier};
+use generate::request::{pair, Tier, SPECIAL_PRICING};
 use generate::{Book, Random, Request};
 use reference::page::PAGE_SIZE;
 use reference::page_reader::{read_page, Line};
@@ -52,8 +52,8 @@ fn output_length(random: &mut Random) -> usize {
     }
 }
 
-/// Over all limits and edges, zones that aren't in the book and bespoke rates that aren't allowed; each on no output,
-/// on outputs about a page and on a larger one.
+/// Over all limits and edges, zones that aren't in the book, bespoke rates that aren't allowed and operating loadings
+/// in any class; each on no output, on outputs about a page and on a larger one.
 pub fn random_pairs(tally: &mut Tally) {
     let mut random = Random::new(180);
     let mut met = Met::new();
@@ -65,7 +65,7 @@ pub fn random_pairs(tally: &mut Tally) {
             met.insert(compare(tally, &book, &request, length));
         }
     }
-    assert_eq!(met, Met::from([0, 4, 5, 14]));
+    assert_eq!(met, Met::from([0, 3, 4, 5, 14]));
 }
 
 /// Every amount up to 20 dollars and about 1,000 dollars, on both sides of 0: a demand at a rate of 100 that isn't
@@ -93,6 +93,7 @@ fn about_powers_of_ten(random: &mut Random) -> Request {
     };
     let [me, ce, tw, hr, ol] = [(); 5].map(|_| about(1_000_000_000));
     Request {
+        class: SPECIAL_PRICING,
         me,
         ce,
         tw,

@@ -2,8 +2,8 @@
 use Rattle.printed_figures.proofs.tolerance.near_distribution.Statement.{statement}
 use Rattle.printed_figures.proofs.tolerance.near_distribution.Tie as tie
 
-opex-factor-requires : tie.Need-opex-factor-requires
-opex-factor-requires c κs = (c .pre .0 .opex, c .pre .0 .revenue, c .pre .0 .revenue-below)
+distribution-opex-factor-requires : tie.Need-distribution-opex-factor-requires
+distribution-opex-factor-requires c κs = (c .pre .0 .opex, c .pre .0 .revenue, c .pre .0 .revenue-below)
 
 opex-off-requires : tie.Need-opex-off-requires
 opex-off-requires c κs =
@@ -18,7 +18,7 @@ near-stream-requires c κs =
     let within = c .before .before .before .before .before .before .pre in (
       record {
         revenue = within .1 .distribution-revenue;
-        opex-factor = c .before .before .before .before .before .opex-factor .ensures .1;
+        opex-factor = c .before .before .before .before .before .distribution-opex-factor .ensures .1;
         part-year = within .1 .part-year;
         revenue-factors = within .0 .distribution;
         tariff-factors = within .1 .distribution-tariff;
@@ -33,4 +33,4 @@ returns c = c .near-stream .ensures
 pub near-distribution-spec : {M : Type 1} → statement M
 near-distribution-spec =
     tie.close
-    (tie.spec opex-factor-requires opex-off-requires life-of-requires near-stream-requires returns)
+    (tie.spec distribution-opex-factor-requires opex-off-requires life-of-requires near-stream-requires returns)

@@ -1,4 +1,4 @@
--- The two judgements are joined in the definition's order, and nothing follows the last; the widths of the limits are checked by computation.
+-- The two judgements are joined in the definition's order, and nothing follows the last; the amounts are judged by the class that is read.
 use mathlib.Core.Path.{refl, sym, _∙_}
 use borrow.Author.Needs.{needs}
 use Rattle.field_values.specs.Judged.{narrow}
@@ -13,28 +13,23 @@ judge-field-requires : tie.Need-judge-field-requires
 unfolding narrow
 judge-field-requires c κs = refl
 
-slice-aggregate-judge-field-2 : tie.Need-slice-aggregate-judge-field-2
-slice-aggregate-judge-field-2 c = search needs
+read-class-requires : tie.Need-read-class-requires
+read-class-requires c κs = search needs
 
-judge-field-requires-2 : tie.Need-judge-field-requires-2
-unfolding narrow
-judge-field-requires-2 c κs = refl
+judge-amounts-requires : tie.Need-judge-amounts-requires
+judge-amounts-requires c κs = search needs
 
 in-order-requires : tie.Need-in-order-requires
 in-order-requires c κs = search needs
 
 returns : tie.Need-returns
 returns c =
-    in-order-same (c .in-order .ensures) (c .before .before .before .judge-field .ensures)
-    (c .before .judge-field2 .ensures ∙ sym (in-order-end _))
+    let amounts = c .before in
+    let class = amounts .before in
+    in-order-same (c .in-order .ensures) (class .before .judge-field .ensures)
+    (rw (class .read-class .ensures) at (amounts .judge-amounts .ensures) ∙ sym (in-order-end _))
 
 pub judge-charges-spec : {M : Type 1} → statement M
 judge-charges-spec =
     tie.close
-    (tie.spec
-    slice-aggregate-judge-field
-    judge-field-requires
-    slice-aggregate-judge-field-2
-    judge-field-requires-2
-    in-order-requires
-    returns)
+    (tie.spec slice-aggregate-judge-field judge-field-requires read-class-requires judge-amounts-requires in-order-requires returns)

@@ -1,7 +1,7 @@
--- Each return is one case of the definition; the values may be read where the file stands, since its fields then walk.
+-- Each return is one case of the definition; the values may be judged and read where the file stands, since its fields then walk.
 use mathlib.Core.Path.{_≡_, sym, ap, _∙_}
 use borrow.Author.Needs.{needs}
-use Rattle.field_walk.specs.Walk.{walk}
+use Rattle.field_walk.specs.Walk.{walk, FieldsWalk}
 use Rattle.tagged.specs.File.{fileAnswer}
 use Rattle.tagged.specs.Theorems.File.{stands-means}
 use Rattle.tagged.specs.declared.file.FileAnswer.the-variants.{Stands}
@@ -17,6 +17,12 @@ use Rattle.request.proofs.values.read_request.Tie as tie
 stands : (c : tie.After-fields-part) →
     fileAnswer requestRows (c .before .before .before .before .before .args .number) (c .before .before .before .before .before .args .file .now) ≡ Stands
 stands c = sym (c .before .before .before .request-stands .ensures) ∙ c .before .enum-told .given .1
+
+fields-walk : (c : tie.After-fields-part) → FieldsWalk requestRows (c .fields-part .result .now)
+fields-walk c =
+    let start = c .before .before .before .before .before in
+    let file = stands-means requestRows (start .args .number) (start .args .file .now) (stands c) in
+    (file .field-list, ap (walk requestRows) (c .fields-part .ensures .0) ∙ file .walks)
 
 -- the reading of a file that stands, by what was judged of its fields
 as-judged : (c : tie.After-judge-request) (judged : Judged) → c .judge-request .result ≡ judged →
@@ -39,17 +45,13 @@ fields-part-requires : tie.Need-fields-part-requires
 fields-part-requires c κs = search needs
 
 judge-request-requires : tie.Need-judge-request-requires
-judge-request-requires c κs = search needs
+judge-request-requires c κs = fields-walk c
 
 enum-told-2 : tie.Need-enum-told-2
 enum-told-2 c = search needs
 
 request-values-requires : tie.Need-request-values-requires
-request-values-requires c κs =
-    let parted = c .before .before .before in
-    let start = parted .before .before .before .before .before in
-    let file = stands-means requestRows (start .args .number) (start .args .file .now) (stands parted) in
-    (file .field-list, ap (walk requestRows) (parted .fields-part .ensures .0) ∙ file .walks)
+request-values-requires c κs = fields-walk (c .before .before .before)
 
 enum-known-judged : tie.Need-enum-known-judged
 enum-known-judged c = search needs
