@@ -20,9 +20,10 @@ struct buffers {
 static struct buffers lent, before;
 static size_t book_size, request_size, stored_size, table_size = FIKREM_TABLE_SIZE;
 
-static void join_scheme(uint8_t scheme)
+static void join_scheme(uint8_t scheme, uint8_t mark)
 {
     value_of(lent.request, 0x0C)[7] = scheme;
+    value_of(lent.request, 0x0C)[8] = mark;
     set_check(lent.request, request_size);
 }
 
@@ -170,7 +171,7 @@ static void try_slip_text(void)
     size_t size = lent.answer[FIKREM_WRITTEN];
     fwrite(lent.text, 1, size, stdout);
     tell("slip text, a byte short", slip_text(size - 1, FIKREM_ANSWER));
-    tell("slip text, 3 places of the answer", slip_text(size, FIKREM_ANSWER - 1));
+    tell("slip text, 4 places of the answer", slip_text(size, FIKREM_ANSWER - 1));
 }
 
 static void try_new_ledger(void)
@@ -178,17 +179,18 @@ static void try_new_ledger(void)
     tell("new ledger", new_ledger(sizeof lent.out, FIKREM_ANSWER));
     keep();
     tell("new ledger, a byte short", new_ledger(stored_size - 1, FIKREM_ANSWER));
-    tell("new ledger, 3 places of the answer", new_ledger(stored_size, FIKREM_ANSWER - 1));
+    tell("new ledger, 4 places of the answer", new_ledger(stored_size, FIKREM_ANSWER - 1));
 }
 
-/* A request that opens nothing, then under a threshold of 0 one that opens a scheme and one that joins it. */
+/* A request that opens nothing; then under a threshold of 0 one that opens a scheme, one that joins it and builds on, and one that is
+ * marked, so that it joins alone. */
 static void try_accept(void)
 {
     tell("accept", accept(sizeof lent.out, FIKREM_FIGURES, FIKREM_ANSWER));
     tell_figures();
-    join_scheme(1);
+    join_scheme(1, 0);
     tell("accept, no such scheme", accept(sizeof lent.out, FIKREM_FIGURES, FIKREM_ANSWER));
-    join_scheme(0);
+    join_scheme(0, 0);
     memset(value_of(lent.book, 0x06), 0, 4);
     set_check(lent.book, book_size);
     table_size = 0;
@@ -196,12 +198,17 @@ static void try_accept(void)
     table_size = FIKREM_TABLE_SIZE;
     tell("accept, opening", accept(sizeof lent.out, FIKREM_FIGURES, FIKREM_ANSWER));
     keep();
-    join_scheme(1);
+    join_scheme(1, 0);
+    table_size = 2;
+    tell("accept, joining and opening on a table of two records", accept(sizeof lent.out, FIKREM_FIGURES, FIKREM_ANSWER));
+    table_size = FIKREM_TABLE_SIZE;
+    tell("accept, joining and opening", accept(sizeof lent.out, FIKREM_FIGURES, FIKREM_ANSWER));
+    join_scheme(1, 1);
     tell("accept, joining", accept(sizeof lent.out, FIKREM_FIGURES, FIKREM_ANSWER));
     size_t size = lent.answer[FIKREM_WRITTEN];
     tell("accept, a byte short", accept(size - 1, FIKREM_FIGURES, FIKREM_ANSWER));
     tell("accept, 20 figures", accept(size, FIKREM_FIGURES - 1, FIKREM_ANSWER));
-    tell("accept, 3 places of the answer", accept(size, FIKREM_FIGURES, FIKREM_ANSWER - 1));
+    tell("accept, 4 places of the answer", accept(size, FIKREM_FIGURES, FIKREM_ANSWER - 1));
     accept(size, FIKREM_FIGURES, FIKREM_ANSWER);
     keep();
 }
@@ -213,7 +220,7 @@ static void try_pay_out(void)
     tell("pay-out, above the credit", pay_out(1, 400000, stored_size, FIKREM_ANSWER));
     tell("pay-out, no such entry", pay_out(3, 0, stored_size, FIKREM_ANSWER));
     tell("pay-out, a byte short", pay_out(1, 0, stored_size - 1, FIKREM_ANSWER));
-    tell("pay-out, 3 places of the answer", pay_out(1, 0, stored_size, FIKREM_ANSWER - 1));
+    tell("pay-out, 4 places of the answer", pay_out(1, 0, stored_size, FIKREM_ANSWER - 1));
 }
 
 static void try_hand_over(void)
@@ -222,13 +229,13 @@ static void try_hand_over(void)
     keep();
     tell("hand-over, no such entry", hand_over(3, 4712, stored_size, FIKREM_ANSWER));
     tell("hand-over, a byte short", hand_over(2, 4712, stored_size - 1, FIKREM_ANSWER));
-    tell("hand-over, 3 places of the answer", hand_over(2, 4712, stored_size, FIKREM_ANSWER - 1));
+    tell("hand-over, 4 places of the answer", hand_over(2, 4712, stored_size, FIKREM_ANSWER - 1));
 }
 
 static void try_check_ledger(void)
 {
     tell("check", check_ledger(FIKREM_ANSWER));
-    tell("check, 3 places of the answer", check_ledger(FIKREM_ANSWER - 1));
+    tell("check, 4 places of the answer", check_ledger(FIKREM_ANSWER - 1));
 }
 
 /* The check of the bytes before the stored ledger's last two, which hold it, and of none. */

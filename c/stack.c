@@ -106,7 +106,7 @@ static void keep(void)
     stored_size = answer[FIKREM_WRITTEN];
 }
 
-/* 64 schemes open under a threshold of 0; so many entries in all, the others joining scheme 1. */
+/* 64 schemes open under a threshold of 0; so many entries in all, the others joining scheme 1, marked so that they open none. */
 static void fill(int entries)
 {
     memset(value_of(book, 0x06), 0, 12);
@@ -115,6 +115,7 @@ static void fill(int entries)
     keep();
     for (int entry = 0; entry < entries; entry++) {
         value_of(request, 0x0C)[7] = entry < 64 ? 0 : 1;
+        value_of(request, 0x0C)[8] = entry < 64 ? 0 : 1;
         set_check(request, request_size);
         accept();
         keep();
@@ -134,7 +135,7 @@ int main(int count, char **names)
     tell("page", page, 4);
     tell("new ledger", new_ledger, 40);
     fill(511);
-    tell("accept", accept, 128);
+    tell("accept", accept, 136);
     keep();
     tell("pay-out", pay_out, 112);
     tell("hand-over", hand_over, 112);

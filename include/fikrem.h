@@ -11,7 +11,7 @@
  * Money is in whole cents, capacity in hundredths of a kVA; a month is year * 12 + (month - 1), so that April 2026 is 24315.
  *
  * A call takes at most this much stack, in KiB, as c/stack.c measures it on a painted stack with the longest ledger: price 4, page 4,
- * slip text 12, new ledger 40, check of a ledger 80, pay-out and hand-over 112, accept 128, check of bytes 1.
+ * slip text 12, new ledger 40, check of a ledger 80, pay-out and hand-over 112, accept 136, check of bytes 1.
  */
 #ifndef FIKREM_H
 #define FIKREM_H
@@ -20,7 +20,7 @@
 #include <stdint.h>
 
 /* The version of this interface. */
-#define FIKREM_VERSION 2
+#define FIKREM_VERSION 3
 
 /* Each result but that of fikrem_check is FIKREM_DONE, or a refusal: its number, its file, whether it is of the stored ledger
  * itself, and its place, which these take out of it. A refused call has written nothing: every byte of every buffer is as it was.
@@ -45,7 +45,7 @@ enum fikrem_number {
     FIKREM_NO_SCHEME = 6,      /* the scheme that the request joins was never opened */
     FIKREM_MONTH = 7,          /* the month is before the last accepted */
     FIKREM_SCHEMES_FULL = 8,   /* there are 64 schemes, and one must open */
-    FIKREM_ENTRIES_FULL = 9,   /* the table has fewer records than the stored ledger has entries, or none left where accept needs one */
+    FIKREM_ENTRIES_FULL = 9,   /* the table has fewer records than the stored ledger has entries, or than it would have after accept */
     FIKREM_CONNECTIONS = 10,   /* 1,000,000 connections are taken */
     FIKREM_NO_ENTRY = 11,      /* there is no such entry */
     FIKREM_ABOVE_CREDIT = 12,  /* the pay-out is above the standing credit */
@@ -57,22 +57,24 @@ enum fikrem_number {
  * result is FIKREM_SHORT_BUFFER before anything else. Places past these are left as they were, and a place that a call has
  * nothing for is 0. */
 enum fikrem_answer {
-    FIKREM_SCHEME_ANSWER = 0,  /* accept: one of enum fikrem_scheme_answer */
-    FIKREM_WHICH = 1,          /* accept: the scheme's number where one opened, the entry's where one joined */
-    FIKREM_COLLECTED = 2,      /* accept: the contribution G that was collected, in cents */
-    FIKREM_WRITTEN = 3,        /* bytes written into text or out */
-    FIKREM_ANSWER = 4
+    FIKREM_JOINING = 0,        /* accept: one of enum fikrem_joining */
+    FIKREM_ENTRY = 1,          /* accept: the number of the joiner's entry, where it joined */
+    FIKREM_COLLECTED = 2,      /* accept: the contribution G that was collected, in cents, where it joined */
+    FIKREM_OPENED_SCHEME = 3,  /* accept: the number of the scheme that opened, from 1 on */
+    FIKREM_WRITTEN = 4,        /* bytes written into text or out */
+    FIKREM_ANSWER = 5
 };
 
 /* The same places where fikrem_check_ledger is done: schemes, entries, connections, the last accepted month. */
 enum fikrem_checked { FIKREM_SCHEMES = 0, FIKREM_ENTRIES = 1, FIKREM_CONNECTED = 2, FIKREM_LAST_MONTH = 3 };
 
-enum fikrem_scheme_answer {
-    FIKREM_PLAIN = 1,          /* no scheme is opened or joined */
-    FIKREM_OPENED = 2,         /* a scheme opened, and the applicant is its first entry */
-    FIKREM_JOINED = 3,         /* the applicant joined a scheme: G was collected, and earlier entries are credited */
-    FIKREM_SMALL = 4,          /* G would be below the scheme's minimum: nothing is collected */
-    FIKREM_ENDED = 5           /* the scheme's term has ended: nothing is collected */
+/* What became of the joining that accept was asked for. A scheme may open beside each of them: the applicant is its first entry, which
+ * follows the joiner's in the table. A connection with which no scheme is joined or opened is plain. */
+enum fikrem_joining {
+    FIKREM_NO_JOINING = 0,     /* the request names no scheme */
+    FIKREM_JOINED = 1,         /* the applicant joined a scheme: G was collected, and earlier entries are credited */
+    FIKREM_SMALL = 2,          /* G would be below the scheme's minimum: nothing is collected */
+    FIKREM_ENDED = 3           /* the scheme's term has ended: nothing is collected */
 };
 
 /* The figures of a done call: at least FIKREM_FIGURES places, in cents. A percentage has two places: 1 and the percentage, or 0
@@ -144,7 +146,8 @@ uint64_t fikrem_page(const uint8_t *book, size_t book_size, const uint8_t *reque
 uint64_t fikrem_new_ledger(uint8_t *out, size_t out_size, uint64_t *answer, size_t answer_places);
 
 /* Accepts a request: the ledger after it into out, the reconciliation into the figures. Refusals in turn: 14 for the answer or the
- * figures; the stored ledger's 1, 2, 3, 9, 13; the book's 1 to 3, the request's 1 to 3; 4, 5, 10, 7, 6, 8, 9; 14 for out. */
+ * figures; the stored ledger's 1, 2, 3, 9, 13; the book's 1 to 3, the request's 1 to 3; 4, 5, 10, 7, 6, 8, 9; 14 for out. 8 and 9
+ * are for joining and opening together: a joiner who builds on needs two entries. */
 uint64_t fikrem_accept(const uint8_t *stored, size_t stored_size, size_t table_size, const uint8_t *book, size_t book_size,
                        const uint8_t *request, size_t request_size, uint8_t *out, size_t out_size,
                        int64_t *figures, size_t figures_places, uint64_t *answer, size_t answer_places);

@@ -129,6 +129,15 @@ def scenario_files():
     def opening(person, month, capacity, cost, **values):
         return request(person, month, capacity, extension=cost + 558_870, **values)
 
+    def shareless(terms, term):
+        """A book of credit share 0, so that a request's X is ME and CE."""
+        fields = book(terms, term)
+        return fields[:6] + [field(0x07, number(1, 1) + number(2, 0))] + fields[7:]
+
+    def builder(person, month, capacity, scheme, extension, mark=0):
+        """A request of an extension alone."""
+        return request(person, month, capacity, scheme, mark, extension=extension, tiers=[(0, 0, 0)] * 5, revenue=0)
+
     def ledger(connections, schemes, entries):
         fields = [field(0x01, b"PION"), field(0x02, number(2, 24_320) + number(4, connections) + numbers(8, [0, 0]))]
         for cost, fees in schemes:
@@ -164,6 +173,20 @@ def scenario_files():
         "never_opened.bin": request(4_722, 24_399, 10_000, scheme=4),
         "plain.bin": request(4_723, 24_399, 10_000),
         "late_opening.bin": opening(4_724, 24_399, 10_000, 6_000_000),
+        "book_share_0.bin": shareless((5_000_000, 20_000, 20_000), 84),
+        "book_fee_7.bin": shareless((5_000_000, 7, 9), 100),
+        "extension.bin": builder(4_731, 24_315, 10_000, 0, 6_000_000),
+        "building_on.bin": builder(4_732, 24_315, 5_000, 1, 5_000_001),
+        "joining_the_first.bin": builder(4_733, 24_315, 5_000, 1, 0),
+        "joining_the_second.bin": builder(4_734, 24_315, 5_000, 2, 0),
+        "joining_at_threshold.bin": builder(4_732, 24_315, 5_000, 1, 5_000_000),
+        "opted_out_building_on.bin": builder(4_732, 24_315, 5_000, 1, 5_000_001, mark=1),
+        "real_estate_building_on.bin": builder(4_732, 24_315, 5_000, 1, 5_000_001, mark=2),
+        "small_building_on.bin": builder(4_732, 24_315, 33, 1, 5_000_001),
+        "least_building_on.bin": builder(4_732, 24_315, 34, 1, 5_000_001),
+        "building_on_last_month.bin": builder(4_732, 24_398, 5_000, 1, 5_000_001),
+        "building_on_after_term.bin": builder(4_732, 24_399, 5_000, 1, 5_000_001),
+        "building_on_never_opened.bin": builder(4_732, 24_315, 5_000, 2, 5_000_001),
         "ledger_63_schemes.bin": ledger(63, [(6_000_000, 0)] * 63, [(n, 5_000 + n, 10_000, 6_000_000, 0) for n in range(1, 64)]),
         "ledger_511_entries.bin": ledger(511, [(6_000_000, 10_200_000)], [(1, 5_000, 100_000, 6_000_000, 5_100_000)] + joined),
         "ledger_999999.bin": ledger(999_999, [], []),

@@ -1,4 +1,5 @@
--- What accept answers and leaves, and when: document 01's order of refusals, 13, pricing's own, 10, 7, 6, 8, 9, each case with the tests that lead to it.
+-- What accept answers and leaves, and when: document 01's order of refusals, 13, pricing's own, 10, 7, 6, 8, 9, each case with the tests that lead to it;
+-- where none refuses, what becomes of the joining, and then of the opening.
 use Prim.Native.Nat.{ℕ, _+_, _-_, _<_, _≤_}
 use mathlib.Core.Path.{_≡_}
 use mathlib.Core.Bool.{true, false}
@@ -20,6 +21,8 @@ use Rattle.calls.specs.Carried.{State, booksOn, booked, joined, opened}
 use Rattle.calls.specs.Answers.{acceptedAs, joinedAs}
 use Rattle.calls.specs.declared.courses.Joining.{Joining}
 use Rattle.calls.specs.declared.courses.Joining.the-variants as Joining
+use Rattle.calls.specs.declared.answers.JoiningAnswer.{JoiningAnswer}
+use Rattle.calls.specs.declared.answers.OpeningAnswer.{OpeningAnswer}
 use Rattle.calls.specs.declared.answers.JoiningAnswer.the-variants as JoiningAnswer
 use Rattle.calls.specs.declared.answers.OpeningAnswer.the-variants as OpeningAnswer
 
@@ -42,12 +45,12 @@ joinedWith state bill scheme G =
 -- ---- the conditions, each on those before it
 module _ (state : State) where
   -- 9: entries are "at most 512 and at most the table's length"
-  pub record EntryLeft : Type 0 where
-    pub limit : state .ledger .entries < mostEntries
-    pub room : state .ledger .entries < length (state .table)
+  pub record EntriesLeft (needed : ℕ) : Type 0 where
+    pub limit : state .ledger .entries + needed ≤ mostEntries
+    pub room : state .ledger .entries + needed ≤ length (state .table)
 
-  abbrev pub NoEntryLeft : Type 0
-  NoEntryLeft = (mostEntries ≤ state .ledger .entries) ⊎ (length (state .table) ≤ state .ledger .entries)
+  abbrev pub EntriesLacking : ℕ → Type 0
+  EntriesLacking needed = (mostEntries < state .ledger .entries + needed) ⊎ (length (state .table) < state .ledger .entries + needed)
 
   module _ (pricing : Pricing) (bill : Bill) where
     -- neither 13 nor refused by pricing
@@ -61,16 +64,9 @@ module _ (state : State) where
       pub connections : state .ledger .connections < mostConnections
       pub month : state .ledger .month ≤ bill .applicant .month
 
-    -- "No scheme joined, mark 0, and X .. above the threshold"
-    pub record MustOpen : Type 0 where
-      pub connects : MayConnect
-      pub joins-none : bill .applicant .scheme ≡ 0
-      pub unmarked : bill .applicant .mark ≡ 0
-      pub above : bill .terms .threshold < bill .reconciliation .x
-
+  module _ (bill : Bill) where
     -- a scheme that was opened is joined: not 6
     pub record MayJoin (scheme : SchemeParticulars) : Type 0 where
-      pub connects : MayConnect
       pub numbered : 1 ≤ bill .applicant .scheme
       pub opened : bill .applicant .scheme ≤ state .ledger .count
       pub is : schemeAt (booksOn state) (bill .applicant .scheme) ≡ found scheme
@@ -80,10 +76,27 @@ module _ (state : State) where
       pub joins : MayJoin scheme
       pub not-ended : bill .applicant .month < scheme .opening + scheme .term
 
-    -- G isn't below the minimum
-    pub record MustJoin (scheme : SchemeParticulars) : Type 0 where
-      pub in-force : InForce scheme
-      pub enough : scheme .minimum ≤ contributionOf state bill scheme
+    -- what becomes of the joining: its answer, how many entries it needs, and what it leaves
+    pub data JoiningAnswers : JoiningAnswer → ℕ → State → Type 0 where
+      -- no scheme joined
+      not-asked : bill .applicant .scheme ≡ 0 → JoiningAnswers JoiningAnswer.NotAsked 0 (booked bill state)
+      -- "month ≥ opening + term: nothing is collected"
+      ended : {scheme : SchemeParticulars} → MayJoin scheme → scheme .opening + scheme .term ≤ bill .applicant .month →
+          JoiningAnswers JoiningAnswer.Ended 0 (booked bill state)
+      -- "Below the minimum: nothing collected, no entry"
+      small : {scheme : SchemeParticulars} → InForce scheme → contributionOf state bill scheme < scheme .minimum →
+          JoiningAnswers JoiningAnswer.Small 0 (booked bill state)
+      -- "The joiner becomes an entry with G put in."
+      joins : {scheme : SchemeParticulars} {G : ℕ} → InForce scheme → scheme .minimum ≤ contributionOf state bill scheme →
+          G ≡ contributionOf state bill scheme → JoiningAnswers (joinedAs (state .ledger .entries + 1) G) 1 (joinedWith state bill scheme G)
+
+    -- what becomes of the opening, which "comes after its joining is booked": its answer, how many schemes and entries it needs, and what it leaves
+    pub data OpeningAnswers (between : State) : OpeningAnswer → ℕ → State → Type 0 where
+      opens-none : (1 ≤ bill .applicant .mark) ⊎ (bill .reconciliation .x ≤ bill .terms .threshold) →
+          OpeningAnswers between OpeningAnswer.NotOpened 0 between
+      -- "mark 0, and X .. above the threshold": "a scheme of cost X opens .., and the applicant is its first entry with X put in"
+      opens : bill .applicant .mark ≡ 0 → bill .terms .threshold < bill .reconciliation .x →
+          OpeningAnswers between (OpeningAnswer.Opened (state .ledger .count + 1)) 1 (opened true bill between)
 
 -- ---- what accept answers and leaves, and when
 pub data Answers (state : State) (pricing : Pricing) : CallAnswer → State → Type 0 where
@@ -101,26 +114,16 @@ pub data Answers (state : State) (pricing : Pricing) : CallAnswer → State → 
   -- 6: scheme never opened
   refused-6 : {bill : Bill} → MayConnect state pricing bill → state .ledger .count < bill .applicant .scheme →
       Answers state pricing (isRefused (refusal schemeNeverOpened 0 0)) state
+  -- "8 and 9 are judged for joining and opening together, before either is booked."
   -- 8: 64 schemes, one must open
-  refused-8 : {bill : Bill} → MustOpen state pricing bill → mostSchemes ≤ state .ledger .count → Answers state pricing (isRefused (refusal noSchemeLeft 0 0)) state
-  -- 9: no table entry left, one is needed
-  opening-refused-9 : {bill : Bill} → MustOpen state pricing bill → state .ledger .count < mostSchemes → NoEntryLeft state →
-      Answers state pricing (isRefused (refusal noEntryLeft 0 0)) state
-  joining-refused-9 : {bill : Bill} {scheme : SchemeParticulars} → MustJoin state pricing bill scheme → NoEntryLeft state →
-      Answers state pricing (isRefused (refusal noEntryLeft 0 0)) state
-  -- "plain": no scheme joined and none opens
-  plain : {bill : Bill} → MayConnect state pricing bill → bill .applicant .scheme ≡ 0 →
-      (1 ≤ bill .applicant .mark) ⊎ (bill .reconciliation .x ≤ bill .terms .threshold) →
-      Answers state pricing (acceptedAs bill JoiningAnswer.NotAsked OpeningAnswer.NotOpened) (booked bill state)
-  -- "a scheme of cost X opens .., and the applicant is its first entry with X put in"
-  opens : {bill : Bill} → MustOpen state pricing bill → state .ledger .count < mostSchemes → EntryLeft state →
-      Answers state pricing (acceptedAs bill JoiningAnswer.NotAsked (OpeningAnswer.Opened (state .ledger .count + 1))) (opened true bill (booked bill state))
-  -- "month ≥ opening + term: nothing is collected"
-  ended : {bill : Bill} {scheme : SchemeParticulars} → MayJoin state pricing bill scheme → scheme .opening + scheme .term ≤ bill .applicant .month →
-      Answers state pricing (acceptedAs bill JoiningAnswer.Ended OpeningAnswer.NotOpened) (booked bill state)
-  -- "Below the minimum: nothing collected, no entry"
-  small : {bill : Bill} {scheme : SchemeParticulars} → InForce state pricing bill scheme → contributionOf state bill scheme < scheme .minimum →
-      Answers state pricing (acceptedAs bill JoiningAnswer.Small OpeningAnswer.NotOpened) (booked bill state)
-  -- "The joiner becomes an entry with G put in."
-  joins : {bill : Bill} {scheme : SchemeParticulars} {G : ℕ} → MustJoin state pricing bill scheme → EntryLeft state → G ≡ contributionOf state bill scheme →
-      Answers state pricing (acceptedAs bill (joinedAs (state .ledger .entries + 1) G) OpeningAnswer.NotOpened) (joinedWith state bill scheme G)
+  refused-8 : {bill : Bill} {joining : JoiningAnswer} {opening : OpeningAnswer} {entries new : ℕ} {between after : State} → MayConnect state pricing bill →
+      JoiningAnswers state bill joining entries between → OpeningAnswers state bill between opening new after → mostSchemes < state .ledger .count + new →
+      Answers state pricing (isRefused (refusal noSchemeLeft 0 0)) state
+  -- 9: the entries that both need aren't left
+  refused-9 : {bill : Bill} {joining : JoiningAnswer} {opening : OpeningAnswer} {entries new : ℕ} {between after : State} → MayConnect state pricing bill →
+      JoiningAnswers state bill joining entries between → OpeningAnswers state bill between opening new after → state .ledger .count + new ≤ mostSchemes →
+      EntriesLacking state (entries + new) → Answers state pricing (isRefused (refusal noEntryLeft 0 0)) state
+  -- every joining with every opening; "plain" is none of both
+  accepts : {bill : Bill} {joining : JoiningAnswer} {opening : OpeningAnswer} {entries new : ℕ} {between after : State} → MayConnect state pricing bill →
+      JoiningAnswers state bill joining entries between → OpeningAnswers state bill between opening new after → state .ledger .count + new ≤ mostSchemes →
+      EntriesLeft state (entries + new) → Answers state pricing (acceptedAs bill joining opening) after

@@ -1,2 +1,3 @@
 pub mod Accept
+pub mod BuildingOn
 pub mod MarkedFigures

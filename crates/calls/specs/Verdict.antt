@@ -39,16 +39,15 @@ joiningPart books bill = cond (eqb (bill .applicant .scheme) 0) NotAsked (joinin
 
 -- ---- the opening part
 
--- "No scheme joined, mark 0, and X .. above the threshold"
+-- "mark 0, and X .. above the threshold", by the request's own book; document 02, E4: "A joiner with mark 0 and X above the threshold opens a scheme as anyone
+-- else does. .. "small" or "ended" doesn't prevent it."
 abbrev pub opensScheme : Bill → Bool
-opensScheme bill =
-    allHold
-    (eqb (bill .applicant .scheme) 0 ∷ eqb (bill .applicant .mark) 0 ∷ ltb (bill .terms .threshold) (bill .reconciliation .x) ∷ [])
+opensScheme bill = allHold (eqb (bill .applicant .mark) 0 ∷ ltb (bill .terms .threshold) (bill .reconciliation .x) ∷ [])
 
 abbrev pub courseOf : Books → Bill → Course
 courseOf books bill = record { joining = joiningPart books bill; opens = opensScheme bill }
 
--- ---- 8 and 9, for what both parts need
+-- ---- 8 and 9, for what both parts need: they "are judged for joining and opening together, before either is booked"
 
 -- a joiner that pays becomes an entry
 abbrev pub entriesOfJoining : Joining → ℕ

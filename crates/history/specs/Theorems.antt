@@ -2,6 +2,7 @@ pub mod Split
 pub mod Fair
 pub mod Chain
 pub mod CreditedGrows
+pub mod CountedByAnswers
 pub mod NeverUnsound
 pub mod Numbering
 pub mod SoundAccount

@@ -1,4 +1,4 @@
--- What every call shares: the result, in which a refusal is told, and the lent buffers: the four places of an answer, the twenty-one of the figures.
+-- What every call shares: the result, in which a refusal is told, and the lent buffers: the five places of an answer, the twenty-one of the figures.
 use Prim.Native.Nat.{ℕ, _+_, _*_, _/_, _%_}
 use mathlib.Core.Bool.{Bool, cond}
 use mathlib.Core.List.{List, [], _∷_, _++_}
@@ -57,13 +57,13 @@ pub data UnitEnding : Type 0 where
 
 abbrev pub outcomeOf : UnitEnding → Outcome
 outcomeOf (isDone told) = record { result = 0; told = told }
-outcomeOf (isRefused r ofLedger) = record { result = resultOf r ofLedger; told = 0 ∷ 0 ∷ 0 ∷ 0 ∷ [] }
+outcomeOf (isRefused r ofLedger) = record { result = resultOf r ofLedger; told = 0 ∷ 0 ∷ 0 ∷ 0 ∷ 0 ∷ [] }
 
 -- ---- the lent buffers
 
 -- how many places an answer and the figures have
 abbrev pub answerPlaces : ℕ
-answerPlaces = 4
+answerPlaces = 5
 
 abbrev pub figurePlaces : ℕ
 figurePlaces = 21

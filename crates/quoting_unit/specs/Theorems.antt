@@ -1,4 +1,5 @@
 pub mod RefusalPlaces
+pub mod AnswerPlaces
 pub mod UnitBuffers
 pub mod UnitFigures
 pub mod ResultParts

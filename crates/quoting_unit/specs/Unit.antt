@@ -51,26 +51,34 @@ abbrev pub priceMade : Pricing → Lent → Made
 priceMade (Priced bill) lent = record { ending = isDone []; output = lent .output; figures = figuresAfter (bill .reconciliation) (lent .figures) }
 priceMade (NotPriced r) lent = record { ending = isRefused r 0; output = lent .output; figures = lent .figures }
 
+-- the last place of an answer: the bytes that a call has written
+abbrev pub writtenPlaces : ℕ → List ℕ
+writtenPlaces size = 0 ∷ 0 ∷ 0 ∷ 0 ∷ size ∷ []
+
 -- the slip's text, which is its output: its length
 abbrev pub unitSlipEnding : SlipWritten → UnitEnding
-unitSlipEnding (Written size) = isDone (0 ∷ 0 ∷ 0 ∷ size ∷ [])
+unitSlipEnding (Written size) = isDone (writtenPlaces size)
 unitSlipEnding (Refused r) = isRefused r 0
 
--- 1 plain, 2 opened and the scheme's number, 3 joined and the entry's number and G, 4 small, 5 ended; the new form's length. A request that asks for a
--- joining opens no scheme.
+-- the number of the scheme that opened, 0 where none did
+abbrev pub schemeOpened : OpeningAnswer → ℕ
+schemeOpened NotOpened = 0
+schemeOpened (Opened number) = number
+
+-- Document 02, E4: "The answer gives both." The joining's kind, 0 where none is asked for, 1 joined, 2 small, 3 ended; the joiner's entry and G; the scheme
+-- opened; the new form's length.
 abbrev pub acceptancePlaces : JoiningAnswer → OpeningAnswer → ℕ → List ℕ
-acceptancePlaces NotAsked NotOpened size = 1 ∷ 0 ∷ 0 ∷ size ∷ []
-acceptancePlaces NotAsked (Opened number) size = 2 ∷ number ∷ 0 ∷ size ∷ []
-acceptancePlaces (Joined collected) opening size = 3 ∷ collected .entry ∷ collected .contribution ∷ size ∷ []
-acceptancePlaces Small opening size = 4 ∷ 0 ∷ 0 ∷ size ∷ []
-acceptancePlaces Ended opening size = 5 ∷ 0 ∷ 0 ∷ size ∷ []
+acceptancePlaces NotAsked opening size = 0 ∷ 0 ∷ 0 ∷ schemeOpened opening ∷ size ∷ []
+acceptancePlaces (Joined collected) opening size = 1 ∷ collected .entry ∷ collected .contribution ∷ schemeOpened opening ∷ size ∷ []
+acceptancePlaces Small opening size = 2 ∷ 0 ∷ 0 ∷ schemeOpened opening ∷ size ∷ []
+acceptancePlaces Ended opening size = 3 ∷ 0 ∷ 0 ∷ schemeOpened opening ∷ size ∷ []
 
 -- the new ledger, pay-out and hand-over tell the new form's length too
 abbrev pub unitCallEnding : StoredCallAnswer → UnitEnding
 unitCallEnding (notRead r) = isRefused r 1
 unitCallEnding (notMade r) = isRefused r 0
 unitCallEnding (madeAccepted acceptance size) = isDone (acceptancePlaces (acceptance .joining) (acceptance .opening) size)
-unitCallEnding (madeDone size) = isDone (0 ∷ 0 ∷ 0 ∷ size ∷ [])
+unitCallEnding (madeDone size) = isDone (writtenPlaces size)
 
 -- accept: figures are written only where it is accepted
 abbrev pub figuresBy : StoredCallAnswer → List ℤ → List ℤ
@@ -86,7 +94,7 @@ ledgerMade called lent =
 -- schemes, entries, connections, the last accepted month
 abbrev pub checkEnding : StoredCheck → UnitEnding
 checkEnding (StoredCheck.NotRead r) = isRefused r 1
-checkEnding (StoredCheck.Sound counts) = isDone (counts .schemes ∷ counts .entries ∷ counts .connections ∷ counts .month ∷ [])
+checkEnding (StoredCheck.Sound counts) = isDone (counts .schemes ∷ counts .entries ∷ counts .connections ∷ counts .month ∷ 0 ∷ [])
 
 abbrev pub made : UnitCall → Lent → Made
 made (price book request) lent = priceMade (priceOf book request) lent

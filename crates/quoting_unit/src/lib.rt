@@ -24,10 +24,10 @@ ghost use Rattle.reconciliation.specs.FigureLimits.{FiguresWithin};
 ghost use Rattle.calls.specs.Decision.{accept, payOut, handOver};
 ghost use Rattle.stored_calls.specs.StoredCalls.{ofStoredAccept, ofStoredAnswer};
 ghost use Rattle.quoting_unit.specs.Interface.{answerPlaces, figurePlaces, highestPlace, placeInResult, resultOf, isDone, isRefused, outcomeOf, answerAfter, figuresAfter, lentFigures, lentOutput, lentBoth, lentAnswer};
-ghost use Rattle.quoting_unit.specs.Unit.{price, slipText, newLedger, onLedger, checkLedger, unitCall, unitSlipEnding, acceptancePlaces, unitCallEnding, checkEnding};
+ghost use Rattle.quoting_unit.specs.Unit.{price, slipText, newLedger, onLedger, checkLedger, unitCall, writtenPlaces, unitSlipEnding, schemeOpened, acceptancePlaces, unitCallEnding, checkEnding};
 
 // How many places an answer and the figures have.
-const ANSWER: usize = 4;
+const ANSWER: usize = 5;
 
 const FIGURES: usize = 21;
 
@@ -201,11 +201,18 @@ pub extern "C" fn fikrem_price(book: &[u8], request: &[u8], figures: &mut [i64])
     }
 }
 
+// The bytes written, in the answer's last place.
+fn written_places(length: usize) -> [u64; ANSWER]
+    ensures { λ r. ⌜ r ≡ writtenPlaces length ⌝ }
+{
+    [0, 0, 0, 0, length as u64]
+}
+
 fn slip_outcome(written: SlipWritten) -> Outcome
     ensures { λ r. ⌜ r ≡ outcomeOf (unitSlipEnding written) ⌝ }
 {
     match written {
-        SlipWritten::Written(length) => done([0, 0, 0, length as u64]),
+        SlipWritten::Written(length) => done(written_places(length)),
         SlipWritten::Refused(refusal) => refused(refusal, 0),
     }
 }
@@ -238,7 +245,7 @@ fn call_outcome(answer: StoredAnswer) -> Outcome
     match answer {
         StoredAnswer::NotRead(refusal) => refused(refusal, 1),
         StoredAnswer::Refused(refusal) => refused(refusal, 0),
-        StoredAnswer::Done(length) => done([0, 0, 0, length as u64]),
+        StoredAnswer::Done(length) => done(written_places(length)),
     }
 }
 
@@ -257,26 +264,35 @@ pub extern "C" fn fikrem_new_ledger(out: &mut [u8], answer: &mut [u64]) -> u64
     write_answer(call_outcome(called), answer)
 }
 
-// What accept tells: 1 plain, 2 opened, 3 joined, 4 small, 5 ended; the scheme's or the entry's number; G; the new form's length.
+fn scheme_opened(opening: OpeningAnswer) -> u64
+    ensures { λ r. ⌜ r ≡ schemeOpened opening ⌝ }
+{
+    match opening {
+        OpeningAnswer::NotOpened => 0,
+        OpeningAnswer::Opened(number) => number as u64,
+    }
+}
+
+// What accept tells: the joining's kind, 0 where none is asked for, 1 joined, 2 small, 3 ended; the joiner's entry and G; the scheme
+// that opened; the new form's length.
 fn acceptance_places(joining: JoiningAnswer, opening: OpeningAnswer, length: usize) -> [u64; ANSWER]
     ensures { λ r. ⌜ r ≡ acceptancePlaces joining opening length ⌝ }
 {
+    let scheme = scheme_opened(opening);
     let size = length as u64;
     match joining {
-        JoiningAnswer::NotAsked => match opening {
-            OpeningAnswer::NotOpened => [1, 0, 0, size],
-            OpeningAnswer::Opened(number) => [2, number as u64, 0, size],
-        },
+        JoiningAnswer::NotAsked => [0, 0, 0, scheme, size],
         JoiningAnswer::Joined(collected) => {
             [
-                3,
+                1,
                 collected.entry as u64,
                 collected.contribution as u64,
+                scheme,
                 size,
             ]
         }
-        JoiningAnswer::Small => [4, 0, 0, size],
-        JoiningAnswer::Ended => [5, 0, 0, size],
+        JoiningAnswer::Small => [2, 0, 0, scheme, size],
+        JoiningAnswer::Ended => [3, 0, 0, scheme, size],
     }
 }
 
@@ -380,6 +396,7 @@ fn check_outcome(check: StoredCheck) -> Outcome
             counts.entries as u64,
             counts.connections as u64,
             counts.month as u64,
+            0,
         ]),
     }
 }

@@ -1,5 +1,5 @@
 // Walks a pioneer ledger through its life by the lines of data/calls.txt: M7 of document 01, 'Marked figures', with plain, small and ended connections
-// in between, pay-outs, a hand-over, every refusal, and the stored form, all by the public calls over a lent table. Each call is
+// in between, pay-outs, a hand-over, every refusal, the stored form, and a joiner who builds on, all by the public calls over a lent table. Each call is
 // written with its answer; `show`, `figures` and `entry` write what ledger and table hold.
 use ledger::limits::MOST_ENTRIES;
 use ledger::limits::Parties;
@@ -245,7 +245,7 @@ fn run(script: &[u8]) {
 }
 
 fn main() {
-    let mut space = io::buffer();
+    let mut space = io::large_buffer();
     let size = files::read_file(b"calls.txt", &mut space);
     run(&space[..size]);
 }

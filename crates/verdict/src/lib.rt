@@ -46,9 +46,6 @@ fn entries_lacking(entries: u32, room: usize, needed: u32) -> bool
 fn opens_scheme(bill: Bill) -> bool
     ensures { λ r. ⌜ r ≡ opensScheme bill ⌝ }
 {
-    if bill.applicant.scheme != 0 {
-        return false;
-    }
     if bill.applicant.mark != 0 {
         return false;
     }

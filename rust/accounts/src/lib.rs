@@ -1,10 +1,10 @@
 //! Demand 3: the accounts, the bounds and the sums of a list of calls, worked out from the calls by document 01's
-//! rules in 128 bits. Pricing is the reference implementation's.
+//! rules and document 02's E4 in 128 bits. Pricing is the reference implementation's.
 
 #![forbid(unsafe_code)]
 
 use generate::calls::{Call, Outcome};
-use reference::{price, Answer, Bill, Ledger, Party, Refusal, Scheme};
+use reference::{price, Answer, Bill, Joining, Ledger, Party, Refusal, Scheme};
 
 #[derive(Debug, Default)]
 struct Entry {
@@ -94,14 +94,22 @@ impl Accounts {
         if usize::from(bill.scheme) > self.schemes.len() {
             return refused(6);
         }
-        let full = self.entries.len() >= table_length.min(512);
-        let answer = if bill.scheme > 0 {
-            self.join(bill, full)?
-        } else if bill.mark == 0 && bill.x > bill.threshold {
-            self.open(bill, full)?
-        } else {
-            Answer::Plain
-        };
+        let joining = if bill.scheme > 0 { Some(self.joining(bill)) } else { None };
+        let opens = bill.mark == 0 && bill.x > bill.threshold;
+        if opens && self.schemes.len() == 64 {
+            return refused(8);
+        }
+        let joins = matches!(joining, Some(Joining::Joined { .. }));
+        if table_length.min(512) - self.entries.len() < usize::from(joins) + usize::from(opens) {
+            return refused(9);
+        }
+        if let Some(Joining::Joined { collected, .. }) = joining {
+            self.join(bill, collected.into());
+        }
+        if opens {
+            self.open(bill);
+        }
+        let answer = Answer { joining, opened: opens.then_some(self.schemes.len() as u16) };
         self.month = bill.month;
         self.connections += 1;
         self.entered += i128::from(bill.entered);
@@ -110,13 +118,7 @@ impl Accounts {
         Ok(Outcome::Accepted(bill.reconciliation, answer))
     }
 
-    fn open(&mut self, bill: &Bill, full: bool) -> Result<Answer, Refusal> {
-        if self.schemes.len() == 64 {
-            return refused(8);
-        }
-        if full {
-            return refused(9);
-        }
+    fn open(&mut self, bill: &Bill) {
         self.schemes.push(OpenScheme {
             cost: bill.x.into(),
             fee: bill.fee.into(),
@@ -129,24 +131,32 @@ impl Accounts {
             paid_out: 0,
         });
         self.add(bill, self.schemes.len() - 1, bill.x.into());
-        Ok(Answer::Opened(self.schemes.len() as u16))
     }
 
-    fn join(&mut self, bill: &Bill, full: bool) -> Result<Answer, Refusal> {
+    /// The capacity of a scheme's parties so far.
+    fn capacity(&self, scheme: usize) -> i128 {
+        self.entries.iter().filter(|entry| entry.scheme == scheme).map(|entry| entry.capacity).sum()
+    }
+
+    /// What becomes of the joining that a bill asks for.
+    fn joining(&self, bill: &Bill) -> Joining {
         let number = usize::from(bill.scheme) - 1;
-        let scheme = &mut self.schemes[number];
+        let scheme = &self.schemes[number];
         if u32::from(bill.month) >= scheme.opening + scheme.term {
-            return Ok(Answer::Ended);
+            return Joining::Ended;
         }
         let k = i128::from(bill.capacity);
-        let all: i128 = self.entries.iter().filter(|entry| entry.scheme == number).map(|entry| entry.capacity).sum();
-        let collected = scheme.cost * k / (all + k);
+        let collected = scheme.cost * k / (self.capacity(number) + k);
         if collected < scheme.minimum {
-            return Ok(Answer::Small);
+            return Joining::Small;
         }
-        if full {
-            return refused(9);
-        }
+        Joining::Joined { entry: self.entries.len() as u32 + 1, collected: collected as u32 }
+    }
+
+    fn join(&mut self, bill: &Bill, collected: i128) {
+        let number = usize::from(bill.scheme) - 1;
+        let all = self.capacity(number);
+        let scheme = &mut self.schemes[number];
         let refund = collected - scheme.fee;
         scheme.collected += collected;
         scheme.joinings += 1;
@@ -159,7 +169,6 @@ impl Accounts {
             without = with;
         }
         self.add(bill, number, collected);
-        Ok(Answer::Joined { entry: self.entries.len() as u32, collected: collected as u32 })
     }
 
     fn add(&mut self, bill: &Bill, scheme: usize, put_in: i128) {

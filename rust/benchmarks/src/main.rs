@@ -108,7 +108,8 @@ impl Bench {
         let length = write_ledger(&ledger, &parties, &mut stored).expect("the ledger is sound");
         stored.truncate(length);
         let book = Book { threshold: 0, fee: 5, minimum: 5, ..Book::slip() }.encode();
-        let request = Request { scheme: 1, ..Request::slip() }.encode();
+        // its mark keeps it from opening a scheme
+        let request = Request { scheme: 1, mark: 1, ..Request::slip() }.encode();
         Bench { stored, book, request }
     }
 
@@ -131,7 +132,7 @@ impl Bench {
         let mut library = || {
             let (stored, book, request) = black_box((&self.stored, &self.book, &self.request));
             let result = raw::accept(stored, LONGEST_TABLE, book, request, &mut out, &mut figures, &mut answer);
-            assert_eq!((black_box(result), answer[raw::SCHEME_ANSWER]), (0, 3));
+            assert_eq!((black_box(result), answer[raw::JOINING]), (0, raw::JOINED));
         };
         let joining = Call::Accept { book: self.book.clone(), request: self.request.clone() };
         self.beside(&mut library, &joining)

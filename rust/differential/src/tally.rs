@@ -21,8 +21,8 @@ pub struct Tally {
     results: [u64; NUMBERS + 1],
     /// Those of them that are of the stored ledger itself.
     of_ledger: [u64; NUMBERS + 1],
-    /// By accept's answer: plain, opened, joined, small, ended.
-    answers: [u64; 5],
+    /// By accept's answer: for no joining, joined, small and ended, without an opening and with one.
+    answers: [[u64; 2]; 4],
     calls: BTreeMap<&'static str, u64>,
 }
 
@@ -30,7 +30,7 @@ impl Default for Tally {
     fn default() -> Tally {
         let started = Instant::now();
         let none = [0; NUMBERS + 1];
-        let (answers, calls) = ([0; 5], BTreeMap::new());
+        let (answers, calls) = ([[0; 2]; 4], BTreeMap::new());
         Tally { section: "", started, cases_before: 0, cases: 0, results: none, of_ledger: none, answers, calls }
     }
 }
@@ -79,7 +79,8 @@ impl Tally {
             self.of_ledger[number] += 1;
         }
         if matches!(call, LibraryCall::Accept { .. }) && result == raw::DONE {
-            self.answers[seen.answer[raw::SCHEME_ANSWER] as usize - 1] += 1;
+            let opened = usize::from(seen.answer[raw::OPENED_SCHEME] > 0);
+            self.answers[seen.answer[raw::JOINING] as usize][opened] += 1;
         }
     }
 
@@ -90,14 +91,14 @@ impl Tally {
         for (number, times) in self.results.iter().enumerate().skip(1) {
             println!("refusal {number}: {times}, of the stored ledger itself {}", self.of_ledger[number]);
         }
-        for (name, times) in ["plain", "opened", "joined", "small", "ended"].iter().zip(self.answers) {
-            println!("{name}: {times}");
+        for (name, [alone, opened]) in ["no joining", "joined", "small", "ended"].iter().zip(self.answers) {
+            println!("{name}: {alone}, and a scheme opened: {opened}");
         }
         assert!(self.results.iter().all(|&times| times > 0), "a refusal was never met");
         for (number, &times) in self.of_ledger.iter().enumerate() {
             assert_eq!(times > 0, OF_LEDGER.contains(&number), "refusal {number} of the stored ledger");
         }
         assert!(self.results[9] > self.of_ledger[9], "accept was never refused by 9");
-        assert!(self.answers.iter().all(|&times| times > 0), "an answer was never met");
+        assert!(self.answers.iter().flatten().all(|&times| times > 0), "a pair of answers was never met");
     }
 }

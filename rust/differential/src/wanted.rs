@@ -4,7 +4,7 @@ use crate::call::{refused, Buffers, LibraryCall};
 use fikrem::raw::{ANSWER, FIGURES};
 use generate::{Call, Outcome};
 use reference::ledger::MOST_ENTRIES;
-use reference::{page, price, read_ledger, slip, write_ledger, Answer, Bill, Ledger, Party, Refusal};
+use reference::{page, price, read_ledger, slip, write_ledger, Answer, Bill, Joining, Ledger, Party, Refusal};
 
 const OUTPUT: Refusal = Refusal { number: 14, file: 0, place: 0 };
 
@@ -50,18 +50,18 @@ fn places_of(call: &LibraryCall, out: &mut [u8], figures: &mut [i64]) -> Result<
     match *call {
         LibraryCall::Price { book, request } => {
             figures[..FIGURES].copy_from_slice(&figures_of(&price(book, request)?));
-            Ok([0; 4])
+            Ok([0; ANSWER])
         }
         LibraryCall::SlipText { book, request } => {
             let text = slip(book, request);
             out.get_mut(..text.len()).ok_or(OUTPUT)?.copy_from_slice(&text);
-            Ok([0, 0, 0, text.len() as u64])
+            Ok([0, 0, 0, 0, text.len() as u64])
         }
         LibraryCall::Page { book, request } => {
             page(book, request, out)?;
-            Ok([0; 4])
+            Ok([0; ANSWER])
         }
-        LibraryCall::NewLedger => Ok([0, 0, 0, write_ledger(&Ledger::new(), &[], out)? as u64]),
+        LibraryCall::NewLedger => Ok([0, 0, 0, 0, write_ledger(&Ledger::new(), &[], out)? as u64]),
         LibraryCall::Accept { stored, table_size, book, request } => {
             let accepted = Call::Accept { book: book.to_vec(), request: request.to_vec() };
             let places = on_stored(stored, table_size, &accepted, out)?;
@@ -76,7 +76,7 @@ fn places_of(call: &LibraryCall, out: &mut [u8], figures: &mut [i64]) -> Result<
         }
         LibraryCall::CheckLedger { stored, table_size } => {
             let (ledger, _) = read(stored, table_size)?;
-            Ok([ledger.opened.into(), ledger.entries.into(), ledger.connections.into(), ledger.month.into()])
+            Ok([ledger.opened.into(), ledger.entries.into(), ledger.connections.into(), ledger.month.into(), 0])
         }
     }
 }
@@ -98,21 +98,21 @@ fn read(stored: &[u8], table_size: usize) -> Result<(Ledger, Vec<Party>), Refuse
 /// Reads the stored ledger onto a table of this length, makes the call and writes the ledger.
 fn on_stored(stored: &[u8], table_size: usize, call: &Call, out: &mut [u8]) -> Result<Places, Refused> {
     let (mut ledger, mut parties) = read(stored, table_size)?;
-    let [kind, number, collected] = match call.run(&mut ledger, &mut parties)? {
-        Outcome::Done => [0; 3],
+    let [kind, entry, collected, scheme] = match call.run(&mut ledger, &mut parties)? {
+        Outcome::Done => [0; 4],
         Outcome::Accepted(_, answer) => places_of_answer(answer),
     };
-    Ok([kind, number, collected, write_ledger(&ledger, &parties, out)? as u64])
+    Ok([kind, entry, collected, scheme, write_ledger(&ledger, &parties, out)? as u64])
 }
 
-/// The first three places for accept's answer.
-pub fn places_of_answer(answer: Answer) -> [u64; 3] {
-    match answer {
-        Answer::Plain => [1, 0, 0],
-        Answer::Opened(scheme) => [2, scheme.into(), 0],
-        Answer::Joined { entry, collected } => [3, entry.into(), collected.into()],
-        Answer::Small => [4, 0, 0],
-        Answer::Ended => [5, 0, 0],
+/// The places of accept's answer: the joining's kind, entry and G, and the scheme that opened.
+pub fn places_of_answer(answer: Answer) -> [u64; 4] {
+    let scheme = answer.opened.map_or(0, u64::from);
+    match answer.joining {
+        None => [0, 0, 0, scheme],
+        Some(Joining::Joined { entry, collected }) => [1, entry.into(), collected.into(), scheme],
+        Some(Joining::Small) => [2, 0, 0, scheme],
+        Some(Joining::Ended) => [3, 0, 0, scheme],
     }
 }
 

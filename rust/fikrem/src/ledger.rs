@@ -10,14 +10,9 @@ pub const LONGEST_FORM: usize = raw::LEDGER_SIZE;
 /// The records of the longest party table; a longer one counts as this.
 pub const LONGEST_TABLE: usize = raw::TABLE_SIZE;
 
-/// What accept answers beside the bill.
+/// What became of the joining that a request asks for.
 #[derive(Debug, Clone, Copy, PartialEq, Eq)]
-pub enum Answer {
-    Plain,
-    /// The number of the scheme that opened.
-    Opened {
-        scheme: u16,
-    },
+pub enum Joining {
     /// The number of the joiner's entry, and G.
     Joined {
         entry: u32,
@@ -27,17 +22,27 @@ pub enum Answer {
     Ended,
 }
 
+/// What accept answers beside the bill; with neither the connection is plain.
+#[derive(Debug, Clone, Copy, PartialEq, Eq)]
+pub struct Answer {
+    /// None where the request names no scheme.
+    pub joining: Option<Joining>,
+    /// The number of the scheme that opened.
+    pub opened: Option<u16>,
+}
+
 impl Answer {
     fn of(answer: &[u64; ANSWER]) -> Answer {
-        match answer[raw::SCHEME_ANSWER] {
-            raw::OPENED => Answer::Opened { scheme: answer[raw::WHICH] as u16 },
+        let joining = match answer[raw::JOINING] {
             raw::JOINED => {
-                Answer::Joined { entry: answer[raw::WHICH] as u32, collected: answer[raw::COLLECTED] as u32 }
+                Some(Joining::Joined { entry: answer[raw::ENTRY] as u32, collected: answer[raw::COLLECTED] as u32 })
             }
-            raw::SMALL => Answer::Small,
-            raw::ENDED => Answer::Ended,
-            _ => Answer::Plain,
-        }
+            raw::SMALL => Some(Joining::Small),
+            raw::ENDED => Some(Joining::Ended),
+            _ => None,
+        };
+        let opened = Some(answer[raw::OPENED_SCHEME] as u16).filter(|&scheme| scheme > 0);
+        Answer { joining, opened }
     }
 }
 

@@ -4,7 +4,7 @@
 #![allow(unsafe_code)]
 
 // The version of the interface.
-pub const VERSION: u64 = 2;
+pub const VERSION: u64 = 3;
 
 // `number` of a result.
 pub const DONE: u64 = 0;
@@ -44,11 +44,12 @@ pub fn place(result: u64) -> u64 {
 }
 
 // Places of the answer of a done call, and how many it has.
-pub const SCHEME_ANSWER: usize = 0;
-pub const WHICH: usize = 1;
+pub const JOINING: usize = 0;
+pub const ENTRY: usize = 1;
 pub const COLLECTED: usize = 2;
-pub const WRITTEN: usize = 3;
-pub const ANSWER: usize = 4;
+pub const OPENED_SCHEME: usize = 3;
+pub const WRITTEN: usize = 4;
+pub const ANSWER: usize = 5;
 
 // The same places where `check_ledger` is done.
 pub const SCHEMES: usize = 0;
@@ -56,12 +57,11 @@ pub const ENTRIES: usize = 1;
 pub const CONNECTED: usize = 2;
 pub const LAST_MONTH: usize = 3;
 
-// What accept answers, in place `SCHEME_ANSWER`.
-pub const PLAIN: u64 = 1;
-pub const OPENED: u64 = 2;
-pub const JOINED: u64 = 3;
-pub const SMALL: u64 = 4;
-pub const ENDED: u64 = 5;
+// What became of the joining that accept was asked for, in place `JOINING`.
+pub const NO_JOINING: u64 = 0;
+pub const JOINED: u64 = 1;
+pub const SMALL: u64 = 2;
+pub const ENDED: u64 = 3;
 
 // Places of the figures, and how many they are.
 pub const ME: usize = 0;

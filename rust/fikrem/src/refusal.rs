@@ -13,7 +13,7 @@ const WORDS: [&str; 14] = [
     "the scheme that the request joins was never opened",
     "the month is before the last accepted",
     "there are 64 schemes, and one must open",
-    "the table has fewer records than the stored ledger has entries, or none left where accept needs one",
+    "the table has fewer records than the stored ledger has entries, or than it would have after accept",
     "1,000,000 connections are taken",
     "there is no such entry",
     "the pay-out is above the standing credit",

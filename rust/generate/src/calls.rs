@@ -128,8 +128,8 @@ impl Maker<'_> {
         if self.random.once_in(2) {
             (request.distribution_revenue, request.transmission_revenue) = (0, 0);
         }
-        let mut book = book.encode();
-        self.apply_to_ledger(&mut request);
+        let (threshold, mut book) = (book.threshold, book.encode());
+        self.apply_to_ledger(&mut request, threshold);
         let mut request = request.encode();
         if self.random.once_in(40) {
             book = damaged(self.random, &book);
@@ -140,8 +140,9 @@ impl Maker<'_> {
         Call::Accept { book, request }
     }
 
-    /// Sets month, scheme, mark, capacity and extension so that most requests are accepted and many join.
-    fn apply_to_ledger(&mut self, request: &mut Request) {
+    /// Sets month, scheme, mark, capacity and extension so that most requests are accepted, many join, and a part of the
+    /// joiners build on.
+    fn apply_to_ledger(&mut self, request: &mut Request, threshold: u32) {
         let Ledger { month, opened, .. } = self.ledger;
         let random = &mut *self.random;
         request.month = match random.within(0, 149) {
@@ -168,6 +169,13 @@ impl Maker<'_> {
             1 => random.edge_u32(0, 1_000_000_000),
             _ => random.within(0, 100_000_000) as u32,
         };
+        match random.within(0, 7) {
+            // without revenue X is the threshold, or a cent more
+            0 => (request.me, request.ce) = (threshold + random.within(0, 1) as u32, 0),
+            // so that the 64 schemes aren't taken soon
+            1..=5 if request.scheme > 0 => (request.me, request.ce) = (0, 0),
+            _ => {}
+        }
     }
 }
 
@@ -180,7 +188,8 @@ pub fn filling(random: &mut Random, schemes: usize, entries: usize) -> Vec<Call>
             let scheme = if entry < schemes { 0 } else { (entry % schemes + 1) as u16 };
             let capacity = random.within(1_000, 50_000) as u32;
             let person = entry as u32 + 1;
-            let request = Request { person, capacity, scheme, ..Request::extension(1_000_000_000) };
+            let me = if scheme == 0 { 1_000_000_000 } else { 0 };
+            let request = Request { person, capacity, scheme, ..Request::extension(me) };
             Call::Accept { book: book.clone(), request: request.encode() }
         })
         .collect()

@@ -46,7 +46,7 @@ pub fn table_size(random: &mut Random, entries: u32) -> usize {
         0 => random.choose(&[0, 1, entries / 2]),
         1 => entries.saturating_sub(1),
         2 => entries,
-        3 => entries + 1,
+        3 => entries + random.choose(&[1, 2]),
         4 => random.choose(&[MOST_ENTRIES - 1, MOST_ENTRIES + 1, usize::MAX]),
         _ => MOST_ENTRIES,
     }

@@ -1,12 +1,12 @@
 //! What is generated: the same by the same seed, within the limits, and over all of them.
 
-use generate::calls::{after, calls, filling, Call};
+use generate::calls::{after, calls, filling, Call, Outcome};
 use generate::damage::*;
 use generate::fields::parts;
 use generate::ledgers::table_size;
 use generate::request::{pair, refused_bespoke_rate};
 use generate::{Book, Random, Request};
-use reference::{price, Refusal};
+use reference::{price, Ledger, Party, Refusal};
 use std::collections::BTreeSet;
 
 #[test]
@@ -96,8 +96,8 @@ fn damage_keeps_its_word() {
 fn tables_lie_about_the_entries() {
     let mut random = Random::new(8);
     let mut sizes = |entries| (0..500).map(|_| table_size(&mut random, entries)).collect::<BTreeSet<usize>>();
-    assert_eq!(sizes(20), BTreeSet::from([0, 1, 10, 19, 20, 21, 511, 512, 513, usize::MAX]));
-    assert_eq!(sizes(0), BTreeSet::from([0, 1, 511, 512, 513, usize::MAX]));
+    assert_eq!(sizes(20), BTreeSet::from([0, 1, 10, 19, 20, 21, 22, 511, 512, 513, usize::MAX]));
+    assert_eq!(sizes(0), BTreeSet::from([0, 1, 2, 511, 512, 513, usize::MAX]));
 }
 
 #[test]
@@ -111,4 +111,15 @@ fn lists_hold_every_kind_of_call() {
     assert!(ledger.opened > 5 && ledger.entries > u32::from(ledger.opened));
     let (ledger, parties) = after(&filling(&mut Random::new(6), 64, 512), 512);
     assert_eq!((ledger.opened, ledger.entries, parties.len()), (64, 512, 512));
+}
+
+#[test]
+fn lists_hold_joiners_that_build_on() {
+    let (mut ledger, mut parties) = (Ledger::new(), vec![Party::default(); 512]);
+    let builds_on = |call: &Call| match call.run(&mut ledger, &mut parties) {
+        Ok(Outcome::Accepted(_, answer)) => answer.joining.is_some() && answer.opened.is_some(),
+        _ => false,
+    };
+    let list = calls(&mut Random::new(7), 512, 400);
+    assert!(list.iter().map(builds_on).filter(|&builds_on| builds_on).count() > 20);
 }

@@ -1,4 +1,4 @@
-//! The pioneer ledger: soundness, accept, pay-out and hand-over. Document 01, 'Ledger calls'.
+//! The pioneer ledger: soundness, accept, pay-out and hand-over. Document 01, 'Ledger calls', and document 02, E4.
 
 use crate::pricing::{price, Bill, Reconciliation};
 use crate::rate_book::{HIGHEST_MINIMUM, LOWEST_TERM};
@@ -59,12 +59,19 @@ pub struct Ledger {
     pub schemes: [Scheme; MOST_SCHEMES],
 }
 
-/// What accept answers beside the reconciliation.
-#[derive(Debug, Clone, Copy, PartialEq, Eq)]
-pub enum Answer {
-    Plain,
+/// What accept answers beside the reconciliation. Document 02, E4: "The answer gives both"; neither is document 01's
+/// "plain".
+#[derive(Debug, Clone, Copy, Default, PartialEq, Eq)]
+pub struct Answer {
+    /// What became of the joining; none where the request names no scheme.
+    pub joining: Option<Joining>,
     /// "opened (scheme number)"
-    Opened(u16),
+    pub opened: Option<u16>,
+}
+
+/// What became of a joining.
+#[derive(Debug, Clone, Copy, PartialEq, Eq)]
+pub enum Joining {
     /// "joined (entry number and G)"
     Joined {
         entry: u32,
@@ -206,13 +213,13 @@ pub fn accept(
     let sums = ledger.sums_on(parties)?;
     let bill = price(book, request)?;
     let answer = answer(ledger, parties.len(), &sums, &bill)?;
-    match answer {
-        Answer::Opened(number) => open(ledger, parties, &bill, number),
-        Answer::Joined { collected, .. } => {
-            let capacity = sums[usize::from(bill.scheme) - 1].capacity;
-            join(ledger, parties, &bill, collected, capacity);
-        }
-        Answer::Plain | Answer::Small | Answer::Ended => {}
+    // "This comes after its joining is booked": the joiner's entry has the lower number.
+    if let Some(Joining::Joined { collected, .. }) = answer.joining {
+        let capacity = sums[usize::from(bill.scheme) - 1].capacity;
+        join(ledger, parties, &bill, collected, capacity);
+    }
+    if let Some(number) = answer.opened {
+        open(ledger, parties, &bill, number);
     }
     ledger.month = bill.month;
     ledger.connections += 1;
@@ -221,7 +228,8 @@ pub fn accept(
     Ok((bill.reconciliation, answer))
 }
 
-/// The answer to a bill, or one of the refusals 10, 7, 6, 8 and 9.
+/// The answer to a bill, or one of the refusals 10, 7, 6, 8 and 9. "8 and 9 are judged for joining and opening together,
+/// before either is booked."
 fn answer(
     ledger: &Ledger,
     table_length: usize,
@@ -237,36 +245,32 @@ fn answer(
     if bill.scheme > ledger.opened {
         return Err(Refusal::of_call(refusal::NEVER_OPENED));
     }
-    let answer = if bill.scheme > 0 {
-        let index = usize::from(bill.scheme) - 1;
-        joining(ledger, &ledger.schemes[index], sums[index].capacity, bill)
-    } else if bill.mark == 0 && bill.x > bill.threshold {
-        Answer::Opened(ledger.opened + 1)
-    } else {
-        Answer::Plain
-    };
-    let needs_scheme = matches!(answer, Answer::Opened(_));
-    let needs_entry = matches!(answer, Answer::Opened(_) | Answer::Joined { .. });
-    if needs_scheme && usize::from(ledger.opened) == MOST_SCHEMES {
+    let joining = usize::from(bill.scheme)
+        .checked_sub(1)
+        .map(|index| joining(ledger, &ledger.schemes[index], sums[index].capacity, bill));
+    let opens = bill.mark == 0 && bill.x > bill.threshold;
+    if opens && usize::from(ledger.opened) == MOST_SCHEMES {
         return Err(Refusal::of_call(refusal::SCHEMES));
     }
-    if needs_entry && ledger.entries as usize >= table_length.min(MOST_ENTRIES) {
+    let joins = matches!(joining, Some(Joining::Joined { .. }));
+    let entries_needed = usize::from(joins) + usize::from(opens);
+    if ledger.entries as usize + entries_needed > table_length.min(MOST_ENTRIES) {
         return Err(Refusal::of_call(refusal::TABLE));
     }
-    Ok(answer)
+    Ok(Answer { joining, opened: opens.then_some(ledger.opened + 1) })
 }
 
-/// The answer to a bill that joins a scheme; `capacity` is K, that of all parties before it.
-fn joining(ledger: &Ledger, scheme: &Scheme, capacity: u64, bill: &Bill) -> Answer {
+/// What becomes of a bill's joining; `capacity` is K, that of all parties before it.
+fn joining(ledger: &Ledger, scheme: &Scheme, capacity: u64, bill: &Bill) -> Joining {
     if !scheme.in_force(bill.month) {
-        return Answer::Ended;
+        return Joining::Ended;
     }
     let k = u64::from(bill.capacity);
     let collected = (u64::from(scheme.cost) * k / (capacity + k)) as u32;
     if collected < scheme.minimum {
-        Answer::Small
+        Joining::Small
     } else {
-        Answer::Joined { entry: ledger.entries + 1, collected }
+        Joining::Joined { entry: ledger.entries + 1, collected }
     }
 }
 

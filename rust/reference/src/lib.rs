@@ -17,7 +17,7 @@ pub mod request;
 pub mod slip;
 pub mod stored;
 
-pub use ledger::{accept, hand_over, pay_out, Answer, Ledger, Party, Scheme};
+pub use ledger::{accept, hand_over, pay_out, Answer, Joining, Ledger, Party, Scheme};
 pub use page::page;
 pub use pricing::{price, Bill, Reconciliation};
 pub use refusal::Refusal;

@@ -6,10 +6,10 @@ use generate::calls::{calls, Call, Outcome};
 use generate::Random;
 use reference::*;
 
-/// How often each answer and refusal was met.
+/// How often each answer and refusal was met: for none, joined, small and ended, without an opening and with one.
 #[derive(Debug, Default)]
 struct Tally {
-    answers: [u32; 5],
+    answers: [[u32; 2]; 4],
     done: u32,
     refusals: [u32; 15],
 }
@@ -19,14 +19,13 @@ impl Tally {
         match outcome {
             Ok(Outcome::Done) => self.done += 1,
             Ok(Outcome::Accepted(_, answer)) => {
-                let index = match answer {
-                    Answer::Plain => 0,
-                    Answer::Opened(_) => 1,
-                    Answer::Joined { .. } => 2,
-                    Answer::Small => 3,
-                    Answer::Ended => 4,
+                let joining = match answer.joining {
+                    None => 0,
+                    Some(Joining::Joined { .. }) => 1,
+                    Some(Joining::Small) => 2,
+                    Some(Joining::Ended) => 3,
                 };
-                self.answers[index] += 1;
+                self.answers[joining][usize::from(answer.opened.is_some())] += 1;
             }
             Err(refused) => self.refusals[usize::from(refused.number)] += 1,
         }
@@ -67,7 +66,7 @@ fn random_lists() {
         run(&calls(&mut random, 600, 1_500), 600, &mut tally);
     }
     println!("{tally:?}");
-    assert!(tally.answers.iter().all(|&times| times > 20) && tally.done > 100, "{tally:?}");
+    assert!(tally.answers.iter().flatten().all(|&times| times > 20) && tally.done > 100, "{tally:?}");
     for number in [1, 2, 3, 4, 5, 6, 7, 8, 9, 11, 12] {
         assert!(tally.refusals[number] > 0, "refusal {number} not met: {tally:?}");
     }

@@ -1,7 +1,7 @@
 //! Document 01, 'Marked figures', over whole files. M1 stands beside the check, M2, M3, M5 and M9 beside the pricing.
 
 use generate::{Book, Request};
-use reference::{accept, price, Answer, Ledger, Party, Refusal};
+use reference::{accept, price, Answer, Joining, Ledger, Party, Refusal};
 
 /// Accepts the requests one after the other by a book; the answers, the ledger and the table.
 fn accepted(book: &Book, requests: &[Request]) -> (Vec<Answer>, Ledger, [Party; 8]) {
@@ -11,6 +11,20 @@ fn accepted(book: &Book, requests: &[Request]) -> (Vec<Answer>, Ledger, [Party; 
         .map(|request| accept(&mut ledger, &mut parties, &book.encode(), &request.encode()).unwrap().1)
         .collect();
     (answers, ledger, parties)
+}
+
+/// The answer of an accept that opens this scheme, or none.
+fn opened(scheme: Option<u16>) -> Answer {
+    Answer { joining: None, opened: scheme }
+}
+
+/// The answer of a joiner that opens nothing.
+fn answered(joining: Joining) -> Answer {
+    Answer { joining: Some(joining), opened: None }
+}
+
+fn joined(entry: u32, collected: u32) -> Answer {
+    answered(Joining::Joined { entry, collected })
 }
 
 fn opening(cost: u32) -> Request {
@@ -49,19 +63,18 @@ fn m4_the_slip() {
 
 #[test]
 fn m6_the_threshold() {
-    assert_eq!(accepted(&Book::slip(), &[opening(5_000_000)]).0, [Answer::Plain]);
-    assert_eq!(accepted(&Book::slip(), &[opening(5_000_001)]).0, [Answer::Opened(1)]);
+    assert_eq!(accepted(&Book::slip(), &[opening(5_000_000)]).0, [opened(None)]);
+    assert_eq!(accepted(&Book::slip(), &[opening(5_000_001)]).0, [opened(Some(1))]);
     for mark in [1, 2] {
         let marked = Request { mark, ..opening(5_000_001) };
-        assert_eq!(accepted(&Book::slip(), &[marked]).0, [Answer::Plain]);
+        assert_eq!(accepted(&Book::slip(), &[marked]).0, [opened(None)]);
     }
 }
 
 #[test]
 fn m7_two_joinings() {
     let (answers, ledger, parties) = accepted(&Book::slip(), &[opening(6_000_000), joiner(24_315), joiner(24_316)]);
-    let collected = [(2, 2_000_000), (3, 1_500_000)].map(|(entry, collected)| Answer::Joined { entry, collected });
-    assert_eq!(answers, [Answer::Opened(1), collected[0], collected[1]]);
+    assert_eq!(answers, [opened(Some(1)), joined(2, 2_000_000), joined(3, 1_500_000)]);
     assert_eq!(parties[0].credited, 1_980_000 + 986_666);
     assert_eq!(parties[1].credited, 493_334);
     assert_eq!(parties[2].credited, 0);
@@ -72,14 +85,12 @@ fn m7_two_joinings() {
 
 #[test]
 fn m8_the_minimum_and_the_term() {
-    for (minimum, wanted) in
-        [(2_000_000, Answer::Joined { entry: 2, collected: 2_000_000 }), (2_000_001, Answer::Small)]
-    {
+    for (minimum, wanted) in [(2_000_000, joined(2, 2_000_000)), (2_000_001, answered(Joining::Small))] {
         let book = Book { minimum, ..Book::slip() };
         assert_eq!(accepted(&book, &[opening(6_000_000), joiner(24_315)]).0[1], wanted);
     }
-    let joined = Answer::Joined { entry: 2, collected: 2_000_000 };
-    for (month, wanted) in [(24_315 + 83, joined), (24_315 + 84, Answer::Ended), (24_315 + 85, Answer::Ended)] {
+    let ended = answered(Joining::Ended);
+    for (month, wanted) in [(24_315 + 83, joined(2, 2_000_000)), (24_315 + 84, ended), (24_315 + 85, ended)] {
         let (answers, ledger, _) = accepted(&Book::slip(), &[opening(6_000_000), joiner(month)]);
         assert_eq!(answers[1], wanted);
         assert_eq!((ledger.connections, ledger.month), (2, month));
@@ -94,9 +105,9 @@ fn a_joining_goes_by_the_scheme() {
     accept(&mut ledger, &mut parties, &Book::slip().encode(), &request).unwrap();
     let other = Book { fee: 3_000_000, minimum: 3_000_000, term: 200, ..Book::slip() }.encode();
     let answer = accept(&mut ledger.clone(), &mut parties.clone(), &other, &joiner(24_315).encode()).unwrap().1;
-    assert_eq!(answer, Answer::Joined { entry: 2, collected: 2_000_000 });
+    assert_eq!(answer, joined(2, 2_000_000));
     let late = joiner(24_315 + 84).encode();
-    assert_eq!(accept(&mut ledger, &mut parties, &other, &late).unwrap().1, Answer::Ended);
+    assert_eq!(accept(&mut ledger, &mut parties, &other, &late).unwrap().1, answered(Joining::Ended));
 }
 
 /// The last month of a 16-bit calendar: opening + term passes 65,535.
@@ -104,5 +115,5 @@ fn a_joining_goes_by_the_scheme() {
 fn a_term_past_the_last_month_never_ends() {
     let book = Book { term: u16::MAX, ..Book::slip() };
     let requests = [Request { month: 1_000, ..opening(6_000_000) }, joiner(u16::MAX)];
-    assert_eq!(accepted(&book, &requests).0[1], Answer::Joined { entry: 2, collected: 2_000_000 });
+    assert_eq!(accepted(&book, &requests).0[1], joined(2, 2_000_000));
 }

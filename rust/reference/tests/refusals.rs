@@ -32,6 +32,23 @@ fn opening() -> Request {
     Request::extension(6_000_000)
 }
 
+/// A joiner that opens nothing.
+fn joiner(scheme: u16) -> Request {
+    Request { scheme, ..Request::of_nothing() }
+}
+
+/// The answer of a joiner that opens nothing.
+fn answered(joining: Joining) -> Result<Answer, Refusal> {
+    Ok(Answer { joining: Some(joining), opened: None })
+}
+
+/// The answer to a joiner that became this entry and opens nothing.
+fn became(answer: Result<Answer, Refusal>, wanted: u32) -> bool {
+    matches!(answer, Ok(Answer { joining: Some(Joining::Joined { entry, .. }), opened: None }) if entry == wanted)
+}
+
+const PLAIN: Result<Answer, Refusal> = Ok(Answer { joining: None, opened: None });
+
 #[test]
 fn words_for_every_number() {
     let words: Vec<_> = (1..=14).map(|number| call(number).words()).collect();
@@ -45,8 +62,7 @@ fn words_for_every_number() {
 fn six_scheme_never_opened() {
     let (mut ledger, mut parties) = filled(2, 2, 3);
     for (scheme, wanted) in [(3, true), (u16::MAX, true), (2, false)] {
-        let request = Request { scheme, ..Request::of_nothing() };
-        let answer = answer(&mut ledger, &mut parties, &book(), &request.encode());
+        let answer = answer(&mut ledger, &mut parties, &book(), &joiner(scheme).encode());
         assert_eq!(answer == Err(call(6)), wanted, "scheme {scheme}");
     }
 }
@@ -56,8 +72,8 @@ fn seven_month_before_the_last() {
     let (mut ledger, mut parties) = filled(1, 1, 1);
     let of_month = |month| Request { month, ..Request::of_nothing() }.encode();
     assert_eq!(answer(&mut ledger, &mut parties, &book(), &of_month(24_314)), Err(call(7)));
-    assert_eq!(answer(&mut ledger, &mut parties, &book(), &of_month(24_315)), Ok(Answer::Plain));
-    assert_eq!(answer(&mut ledger, &mut parties, &book(), &of_month(24_316)), Ok(Answer::Plain));
+    assert_eq!(answer(&mut ledger, &mut parties, &book(), &of_month(24_315)), PLAIN);
+    assert_eq!(answer(&mut ledger, &mut parties, &book(), &of_month(24_316)), PLAIN);
     assert_eq!(answer(&mut ledger, &mut parties, &book(), &of_month(24_315)), Err(call(7)));
 }
 
@@ -65,12 +81,12 @@ fn seven_month_before_the_last() {
 fn eight_all_schemes_taken() {
     let (mut ledger, mut parties) = filled(63, 63, 65);
     let request = opening().encode();
-    assert_eq!(answer(&mut ledger, &mut parties, &book(), &request), Ok(Answer::Opened(64)));
+    assert_eq!(answer(&mut ledger, &mut parties, &book(), &request), Ok(Answer { joining: None, opened: Some(64) }));
     assert_eq!(answer(&mut ledger, &mut parties, &book(), &request), Err(call(8)));
     // what opens none is still accepted
-    assert_eq!(answer(&mut ledger, &mut parties, &book(), &Request::slip().encode()), Ok(Answer::Plain));
-    let joiner = Request { scheme: 64, ..opening() }.encode();
-    assert!(matches!(answer(&mut ledger, &mut parties, &book(), &joiner), Ok(Answer::Joined { entry: 65, .. })));
+    assert_eq!(answer(&mut ledger, &mut parties, &book(), &Request::slip().encode()), PLAIN);
+    let joiner = joiner(64).encode();
+    assert!(became(answer(&mut ledger, &mut parties, &book(), &joiner), 65));
     // 8 comes before 9
     assert_eq!(answer(&mut ledger, &mut parties, &book(), &request), Err(call(8)));
     assert_eq!(answer(&mut ledger, &mut parties, &book(), &joiner), Err(call(9)));
@@ -80,19 +96,19 @@ fn eight_all_schemes_taken() {
 fn nine_no_entry_left() {
     assert_eq!(answer(&mut Ledger::new(), &mut [], &book(), &opening().encode()), Err(call(9)));
     let (mut ledger, mut parties) = filled(1, 511, 600);
-    let joiner = Request { scheme: 1, ..opening() }.encode();
-    assert!(matches!(answer(&mut ledger, &mut parties, &book(), &joiner), Ok(Answer::Joined { entry: 512, .. })));
-    assert_eq!(answer(&mut ledger, &mut parties, &book(), &joiner), Err(call(9)));
+    let joiner = joiner(1);
+    assert!(became(answer(&mut ledger, &mut parties, &book(), &joiner.encode()), 512));
+    assert_eq!(answer(&mut ledger, &mut parties, &book(), &joiner.encode()), Err(call(9)));
     assert_eq!(answer(&mut ledger, &mut parties, &book(), &opening().encode()), Err(call(9)));
     // small and ended need none
-    let small = Request { scheme: 1, capacity: 1, ..opening() };
+    let small = Request { capacity: 1, ..joiner };
     let book_of_minimum = Book { minimum: 1_000_000, ..Book::slip() }.encode();
     let mut one = [Party::default()];
     let mut full = Ledger::new();
     answer(&mut full, &mut one, &book_of_minimum, &opening().encode()).unwrap();
-    assert_eq!(answer(&mut full, &mut one, &book(), &small.encode()), Ok(Answer::Small));
+    assert_eq!(answer(&mut full, &mut one, &book(), &small.encode()), answered(Joining::Small));
     let ended = Request { month: 24_315 + 84, ..small };
-    assert_eq!(answer(&mut full, &mut one, &book(), &ended.encode()), Ok(Answer::Ended));
+    assert_eq!(answer(&mut full, &mut one, &book(), &ended.encode()), answered(Joining::Ended));
     assert_eq!((full.connections, full.entries, full.month), (3, 1, 24_399));
 }
 
@@ -128,9 +144,11 @@ fn order_of_accept() {
     request.scheme = 0;
     assert_eq!(refused(&mut ledger, &book(), &request.encode()), (8, 0, 0));
     request.scheme = 64;
+    assert_eq!(refused(&mut ledger, &book(), &request.encode()), (8, 0, 0));
+    request.mark = 1;
     assert_eq!(refused(&mut ledger, &book(), &request.encode()), (9, 0, 0));
     request.month = 24_315 + 84;
-    assert_eq!(answer(&mut ledger, &mut parties, &book(), &request.encode()), Ok(Answer::Ended));
+    assert_eq!(answer(&mut ledger, &mut parties, &book(), &request.encode()), answered(Joining::Ended));
     assert_eq!(ledger.connections, 1_000_000);
 }
 

@@ -62,10 +62,10 @@ acceptCases =
           (firstTwo ++ (party 3 9 6 7001 0 0 ∷ [])),
     )) ∷
     -- joined: G 1,000, of which the scheme's fee is 100; the entry of the other scheme is credited nothing
-    (let bill = withMonth 24317 (withCapacity 10 (inScheme 1 (billOf otherBook 9000))) in (
+    (let bill = withMonth 24317 (withCapacity 10 (inScheme 1 (billOf otherBook 7000))) in (
       (stateOf (two 2) (firstTwo ++ (past ∷ [])), Priced bill),
       acceptedAs bill (joinedAs 3 1000) NotOpened,
-      stateOf (ledger 24317 3 18005 470 3 2 (scheme 3000 100 ∷ scheme 1800 0 ∷ places 62))
+      stateOf (ledger 24317 3 16005 470 3 2 (scheme 3000 100 ∷ scheme 1800 0 ∷ places 62))
           (party 1 7 20 3000 900 0 ∷ party 2 8 30 1800 0 0 ∷ party 1 9 10 1000 0 0 ∷ []),
     )) ∷
     -- G 500, of which 400 are credited: 266 and 134; the record past the new entry stays as it is
@@ -93,6 +93,28 @@ acceptCases =
       acceptedAs bill Ended NotOpened,
       stateOf (ledger 24399 4 9005 470 3 2 (scheme 3000 100 ∷ scheme 1800 0 ∷ places 62)) firstThree,
     )) ∷
+    -- a joiner that builds on, by its own book's threshold, fee, minimum and term: joined with entry 3, and then scheme 3 opens with entry 4
+    (let bill = withMonth 24317 (withCapacity 10 (inScheme 1 (billOf otherBook 7001))) in (
+      (stateOf (two 2) (firstTwo ++ (past ∷ past ∷ past ∷ [])), Priced bill),
+      acceptedAs bill (joinedAs 3 1000) (Opened 3),
+      stateOf (ledger 24317 3 16006 470 4 3 (scheme 3000 100 ∷ scheme 1800 0 ∷ schemeOf 7001 400 2000 24317 120 0 ∷ places 61))
+          (party 1 7 20 3000 900 0 ∷ party 2 8 30 1800 0 0 ∷ party 1 9 10 1000 0 0 ∷ party 3 9 10 7001 0 0 ∷ past ∷ []),
+    )) ∷
+    -- with one record left it is 9; "small" and "ended" that open need no more
+    (let bill = withMonth 24317 (withCapacity 10 (inScheme 1 (billOf otherBook 7001))) in
+    refusedCase (two 2) (firstTwo ++ (past ∷ [])) (Priced bill) (refusal 9 0 0)) ∷
+    (let bill = withMonth 24317 (withCapacity 3 (inScheme 1 (billOf otherBook 7001))) in (
+      (stateOf (two 2) (firstTwo ++ (past ∷ [])), Priced bill),
+      acceptedAs bill Small (Opened 3),
+      stateOf (ledger 24317 3 16006 470 3 3 (scheme 3000 0 ∷ scheme 1800 0 ∷ schemeOf 7001 400 2000 24317 120 0 ∷ places 61))
+          (firstTwo ++ (party 3 9 3 7001 0 0 ∷ [])),
+    )) ∷
+    (let bill = withMonth 24399 (withCapacity 10 (inScheme 1 (billOf otherBook 7001))) in (
+      (stateOf (two 2) (firstTwo ++ (past ∷ [])), Priced bill),
+      acceptedAs bill Ended (Opened 3),
+      stateOf (ledger 24399 3 16006 470 3 3 (scheme 3000 0 ∷ scheme 1800 0 ∷ schemeOf 7001 400 2000 24399 120 0 ∷ places 61))
+          (firstTwo ++ (party 3 9 10 7001 0 0 ∷ [])),
+    )) ∷
     -- refusals: 13, for a table shorter than its entries too, before pricing's own, that before 10, and each of the others
     refusedCase (two 1000001) firstTwo (NotPriced (refusal 2 1 9)) (refusal 13 0 0) ∷
     refusedCase (ledger 24316 2 9000 400 2 1 (scheme 3000 0 ∷ places 63)) (party 1 7 20 3000 0 0 ∷ []) (Priced (withMonth 24316 (billOf book 0)))
@@ -102,6 +124,7 @@ acceptCases =
     refusedCase (two 1000000) firstTwo (Priced opening) (refusal 10 0 0) ∷
     refusedCase (two 2) firstTwo (Priced (inScheme 1 (billOf book 0))) (refusal 7 0 0) ∷
     refusedCase (two 2) firstTwo (Priced (withMonth 24316 (inScheme 3 (billOf book 0)))) (refusal 6 0 0) ∷
+    refusedCase (two 2) (firstTwo ++ (past ∷ past ∷ [])) (Priced (withMonth 24316 (inScheme 3 opening))) (refusal 6 0 0) ∷
     refusedCase (two 2) firstTwo (Priced (withMonth 24316 opening)) (refusal 9 0 0) ∷
     refusedCase (two 2) firstTwo (Priced (withMonth 24316 (withCapacity 10 (inScheme 1 (billOf book 0))))) (refusal 9 0 0) ∷
     refusedCase newLedger [] (Priced opening) (refusal 9 0 0) ∷

@@ -37,7 +37,7 @@ unfoldable pub inTurn : State → List Call → List (AnswerParts × List Party)
 inTurn state [] = []
 inTurn state (call ∷ calls) = (partsOf (answered state call), leaves state call .table) ∷ inTurn (leaves state call) calls
 
--- an accept by the slip's book: X, month, capacity and scheme joined; a joiner's X plays no part
+-- an accept by the slip's book: X, month, capacity and scheme joined; a joiner's X is below the threshold
 abbrev pub accepting : ℕ → ℕ → ℕ → ℕ → Call
 accepting x month capacity scheme = accept slipBook (schemeRequest x month capacity scheme)
 

@@ -20,57 +20,70 @@ use Rattle.charge.specs.declared.Pricing.the-variants.{Priced, NotPriced}
 use Rattle.ledger.specs.Limits.{mostSchemes, mostEntries, mostConnections}
 use Rattle.ledger.specs.Books.{SchemeParticulars, Books}
 use Rattle.ledger.specs.Sound.{sound}
+use Rattle.ledger.specs.SoundConditions.{SoundLedger}
 use Rattle.ledger.specs.Theorems.Sound.{not-both, sound-means}
 use Rattle.ledger.specs.RefusalNumbers.{oneOf}
 use Rattle.calls.specs.Theorems.Lists.{by-cond}
-use Rattle.calls.specs.Verdict.{joiningOf, joiningPart, opensScheme, entriesLacking, courseVerdict, verdict}
+use Rattle.calls.specs.Verdict.{joiningOf, joiningPart, opensScheme, entriesOfJoining, entriesNeeded, schemesLacking, entriesLacking, courseVerdict, verdict}
 use Rattle.calls.specs.VerdictConditions.{verdictNumbers}
 use Rattle.calls.specs.Theorems.Verdict.{joining-ended, joining-small, joining-pays, verdict-refused-10, verdict-refused-7, verdict-refused-6, verdict-course, course-refused-8, course-refused-9, course-accepted}
-use Rattle.calls.specs.Decision.{accept, Decision, refused, acceptBy, decidedBy as decidedOf, CallAnswer, isAccepted, isDone, isRefused, answerTo}
-use Rattle.calls.specs.Carried.{State, booksOn, opened, carriedOut}
+use Rattle.calls.specs.Decision.{accept, Decision, refused, creditsBy, acceptBy, decidedBy as decidedOf, CallAnswer, isAccepted, isDone, isRefused, joiningAnswer, answerTo}
+use Rattle.calls.specs.Carried.{State, booksOn, booked, joined, opened, carriedOut}
 use Rattle.calls.specs.Calls.{answered, leaves}
 use Rattle.calls.specs.Theorems.Calls.{refused-changes-nothing, verdict-refuses}
 use Rattle.calls.specs.CallRefusals.{Refuses as RefusesWith}
 use Rattle.calls.specs.Theorems.ByPlace.{schemes-shown, entries-shown, scheme-opened}
 use Rattle.calls.specs.Answers.{acceptedAs, joinedAs}
-use Rattle.calls.specs.Cases.Verdict.{plain as plainCourse, opens as openingCourse, ended as endedCourse, small as smallCourse, joins as joiningCourse}
 use Rattle.calls.specs.declared.courses.Joining.{Joining}
 use Rattle.calls.specs.declared.courses.Course.{Course}
 use Rattle.calls.specs.declared.courses.Verdict.{Verdict}
 use Rattle.calls.specs.declared.courses.Verdict.the-variants.{Accepts, Refuses}
 use Rattle.calls.specs.declared.courses.Joining.the-variants as Joining
+use Rattle.calls.specs.declared.answers.JoiningAnswer.{JoiningAnswer}
+use Rattle.calls.specs.declared.answers.OpeningAnswer.{OpeningAnswer}
 use Rattle.calls.specs.declared.answers.OpeningAnswer.the-variants as OpeningAnswer
 use Rattle.accept_rules.specs.Theorems.AcceptByPricing.{decidedBy, answeredBy, leavesBy}
-use Rattle.accept_rules.specs.AcceptAnswers.{earlierCapacity, contributionOf, joinedWith, EntryLeft, NoEntryLeft, Billed, MayConnect, MustOpen, MayJoin, InForce, MustJoin, Answers, refused-13, refused-by-pricing, refused-10, refused-7, refused-6, refused-8, opening-refused-9, joining-refused-9, plain, opens, ended, small, joins}
+use Rattle.accept_rules.specs.AcceptAnswers.{earlierCapacity, contributionOf, joinedWith, EntriesLeft, EntriesLacking, Billed, MayConnect, MayJoin, InForce, JoiningAnswers, not-asked, ended, small, joins, OpeningAnswers, opens-none, opens, Answers, refused-13, refused-by-pricing, refused-10, refused-7, refused-6, refused-8, refused-9, accepts}
 
 -- ---- each case is accept's
 lt-or-le : (a b : ℕ) → (a < b) ⊎ (b ≤ a)
 lt-or-le a b = ⊎-elim (λ e. inr (ltb-false a b e)) (λ e. inl (ltb-true a b e)) (dichotomy (ltb a b))
 
--- one entry is lacking, or isn't
-lacking : (state : State) → NoEntryLeft state → entriesLacking (state .ledger .entries) (length (state .table)) 1 ≡ true
-lacking state (inl limit) = rw (lt-ltb mostEntries (state .ledger .entries + 1) (omega arith))
-lacking state (inr room) =
-    rw (lt-ltb (length (state .table)) (state .ledger .entries + 1) (omega arith)) (either (ltb mostEntries (state .ledger .entries + 1)))
-  where
-    either : (b : Bool) → cond b true true ≡ true
-    either true = refl
-    either false = refl
+-- by the schemes and the entries that a sound ledger has: a scheme or an entry is lacking, or isn't
+schemes-lacking : (opens : Bool) {new : ℕ} (count : ℕ) → new ≡ cond opens 1 0 → count ≤ mostSchemes → mostSchemes < count + new → schemesLacking count opens ≡ true
+schemes-lacking true count needs few lacks = rw (le-leb mostSchemes count (omega arith))
+schemes-lacking false count needs few lacks = absurd (omega arith)
 
-not-lacking : (state : State) → EntryLeft state → entriesLacking (state .ledger .entries) (length (state .table)) 1 ≡ false
-not-lacking state left =
-    rw (
-      le-ltb mostEntries (state .ledger .entries + 1) (omega (arith, left .limit)),
-      le-ltb (length (state .table)) (state .ledger .entries + 1) (omega (arith, left .room)),
-    )
+schemes-left : (opens : Bool) {new : ℕ} (count : ℕ) → new ≡ cond opens 1 0 → count + new ≤ mostSchemes → schemesLacking count opens ≡ false
+schemes-left true count needs left = rw (lt-leb mostSchemes count (omega arith))
+schemes-left false count needs left = refl
 
-opens-none : (bill : Bill) → bill .applicant .scheme ≡ 0 → (1 ≤ bill .applicant .mark) ⊎ (bill .reconciliation .x ≤ bill .terms .threshold) →
-    opensScheme bill ≡ false
-opens-none bill none (inl marked) = rw (eq-eqb _ _ none, ne-eqb (bill .applicant .mark) 0 (λ e. omega arith))
-opens-none bill none (inr within) =
-    rw (eq-eqb _ _ none)
-    (not-both (eqb (bill .applicant .mark) 0) (ltb (bill .terms .threshold) (bill .reconciliation .x))
-    (λ unmarked above. omega (arith, ltb-true (bill .terms .threshold) (bill .reconciliation .x) above)))
+module _ (state : State) (stands : sound (state .ledger) (state .table) (length (state .table)) ≡ true) (needed : ℕ) where
+  entries-lacking : EntriesLacking state needed → entriesLacking (state .ledger .entries) (length (state .table)) needed ≡ true
+  entries-lacking (inl limit) =
+      let few = sound-means _ _ _ stands .entries in
+      rw (ne-eqb needed 0 (λ e. omega arith), lt-ltb mostEntries (state .ledger .entries + needed) limit)
+  entries-lacking (inr room) =
+      let few = sound-means _ _ _ stands .in-table in
+      rw (ne-eqb needed 0 (λ e. omega arith), lt-ltb (length (state .table)) (state .ledger .entries + needed) room)
+      (either (ltb mostEntries (state .ledger .entries + needed)))
+    where
+      either : (b : Bool) → cond b true true ≡ true
+      either true = refl
+      either false = refl
+
+  entries-left : EntriesLeft state needed → entriesLacking (state .ledger .entries) (length (state .table)) needed ≡ false
+  entries-left left = rw (le-ltb mostEntries (state .ledger .entries + needed) (left .limit), le-ltb (length (state .table)) (state .ledger .entries + needed) (left .room)) (neither (eqb needed 0))
+    where
+      neither : (b : Bool) → cond b false false ≡ false
+      neither true = refl
+      neither false = refl
+
+opens-nothing : (bill : Bill) → (1 ≤ bill .applicant .mark) ⊎ (bill .reconciliation .x ≤ bill .terms .threshold) → opensScheme bill ≡ false
+opens-nothing bill (inl marked) = rw (ne-eqb (bill .applicant .mark) 0 (λ e. omega arith))
+opens-nothing bill (inr within) =
+    not-both (eqb (bill .applicant .mark) 0) (ltb (bill .terms .threshold) (bill .reconciliation .x))
+    (λ unmarked above. omega (arith, ltb-true (bill .terms .threshold) (bill .reconciliation .x) above))
 
 module _ (state : State) (pricing : Pricing) (places : length (state .ledger .schemes) ≡ mostSchemes) where
   -- an answer and a state are accept's where the decision is
@@ -86,61 +99,112 @@ module _ (state : State) (pricing : Pricing) (places : length (state .ledger .sc
         Accepts-as (answerTo (booksOn state) (decidedOf (booksOn state) bill v)) (carriedOut state (decidedOf (booksOn state) bill v))
     by-verdict v h e = by-decision (decidedOf (booksOn state) bill v) (rw (h .stands, h .priced) (ap (decidedOf (booksOn state) bill) (sym e)))
 
-    -- the verdict on a course
-    by-course : (course : Course) (v : Verdict) → MayConnect state pricing bill → bill .applicant .scheme ≤ state .ledger .count →
-        joiningPart (booksOn state) bill ≡ course .joining → opensScheme bill ≡ course .opens → courseVerdict (booksOn state) course ≡ v →
-        Accepts-as (answerTo (booksOn state) (decidedOf (booksOn state) bill v)) (carriedOut state (decidedOf (booksOn state) bill v))
-    by-course course v h opened joining opening judged =
-        by-verdict v (h .billed)
-        (verdict-course (booksOn state) bill (h .connections) (h .month) (omega arith)
-        ∙ ap₂ (λ j o. courseVerdict (booksOn state) (record { joining = j; opens = o })) joining opening
-        ∙ judged)
+    -- ---- each part's answer is the course's
+    record JoiningIs (joining : JoiningAnswer) (entries : ℕ) (between : State) : Type 0 where
+      part : Joining
+      is : joiningPart (booksOn state) bill ≡ part
+      was-opened : bill .applicant .scheme ≤ state .ledger .count
+      answer : joining ≡ joiningAnswer (booksOn state) part
+      needs : entries ≡ entriesOfJoining part
+      leaving : between ≡ joined part (creditsBy (booksOn state) bill part) bill (booked bill state)
 
-    module _ (h : MayConnect state pricing bill) where
-      schemes : length (booksOn state .schemes) ≡ state .ledger .count
-      schemes = schemes-shown (state .ledger) (state .table) (omega (arith, sound-means _ _ _ (h .billed .stands) .schemes))
+    by-row : {scheme : SchemeParticulars} {joining : Joining} → MayJoin state bill scheme → joiningOf (booksOn state) bill scheme ≡ joining →
+        joiningPart (booksOn state) bill ≡ joining
+    by-row h e = rw (ne-eqb (bill .applicant .scheme) 0 (λ e. omega (arith, h .numbered)), h .is) e
 
-      entries : length (booksOn state .entries) ≡ state .ledger .entries
-      entries = entries-shown (state .ledger) (state .table) (sound-means _ _ _ (h .billed .stands) .in-table)
+    joining-is : {joining : JoiningAnswer} {entries : ℕ} {between : State} → JoiningAnswers state bill joining entries between →
+        JoiningIs joining entries between
+    joining-is (not-asked none) =
+        record { part = Joining.NotAsked; is = rw (eq-eqb _ _ none); was-opened = omega (arith, none); answer = refl; needs = refl; leaving = refl }
+    joining-is (ended {scheme} h late) =
+        record {
+          part = Joining.Ended;
+          is = by-row h (joining-ended (booksOn state) bill scheme late);
+          was-opened = h .opened;
+          answer = refl;
+          needs = refl;
+          leaving = refl;
+        }
+    joining-is (small {scheme} h below) =
+        record {
+          part = Joining.Small;
+          is = by-row (h .joins) (joining-small (booksOn state) bill scheme (h .not-ended) refl refl below);
+          was-opened = h .joins .opened;
+          answer = refl;
+          needs = refl;
+          leaving = refl;
+        }
+    joining-is (joins {scheme} h enough e) =
+        record {
+          part = Joining.Pays (record { collected = contributionOf state bill scheme; fee = scheme .fee; capacity = earlierCapacity state bill });
+          is = by-row (h .joins) (joining-pays (booksOn state) bill scheme (h .not-ended) refl refl enough);
+          was-opened = h .joins .opened;
+          answer = ap (joinedAs (state .ledger .entries + 1)) e;
+          needs = refl;
+          leaving = ap (joinedWith state bill scheme) e;
+        }
 
-    -- no scheme is joined
-    not-asked : bill .applicant .scheme ≡ 0 → joiningPart (booksOn state) bill ≡ Joining.NotAsked
-    not-asked none = rw (eq-eqb _ _ none)
+    record OpeningIs (between : State) (opening : OpeningAnswer) (new : ℕ) (after : State) : Type 0 where
+      part : Bool
+      is : opensScheme bill ≡ part
+      answer : opening ≡ cond part (OpeningAnswer.Opened (state .ledger .count + 1)) OpeningAnswer.NotOpened
+      needs : new ≡ cond part 1 0
+      leaving : after ≡ opened part bill between
 
-    must-open : (v : Verdict) → MustOpen state pricing bill → courseVerdict (booksOn state) openingCourse ≡ v →
-        Accepts-as (answerTo (booksOn state) (decidedOf (booksOn state) bill v)) (carriedOut state (decidedOf (booksOn state) bill v))
-    must-open v h judged =
-        by-course openingCourse v (h .connects) (omega (arith, h .joins-none)) (not-asked (h .joins-none))
-        (rw (eq-eqb _ _ (h .joins-none), eq-eqb _ _ (h .unmarked), lt-ltb _ _ (h .above))) judged
+    opening-is : {between after : State} {opening : OpeningAnswer} {new : ℕ} → OpeningAnswers state bill between opening new after →
+        OpeningIs between opening new after
+    opening-is (opens-none why) = record { part = false; is = opens-nothing bill why; answer = refl; needs = refl; leaving = refl }
+    opening-is (opens unmarked above) =
+        record { part = true; is = rw (eq-eqb _ _ unmarked, lt-ltb _ _ above); answer = refl; needs = refl; leaving = refl }
 
-    -- a scheme is joined, and none opens
-    module _ {scheme : SchemeParticulars} (h : MayJoin state pricing bill scheme) where
-      by-joining : (joining : Joining) (v : Verdict) → joiningPart (booksOn state) bill ≡ joining →
-          courseVerdict (booksOn state) (record { joining = joining; opens = false }) ≡ v →
+    -- ---- the verdict on both together
+    module _
+        {joining : JoiningAnswer} {opening : OpeningAnswer} {entries new : ℕ} {between after : State} (h : MayConnect state pricing bill)
+        (joins : JoiningIs joining entries between) (opens : OpeningIs between opening new after) where
+      abbrev course : Course
+      course = record { joining = joins .part; opens = opens .part }
+
+      by-course : (v : Verdict) → courseVerdict (booksOn state) course ≡ v →
           Accepts-as (answerTo (booksOn state) (decidedOf (booksOn state) bill v)) (carriedOut state (decidedOf (booksOn state) bill v))
-      by-joining joining v part judged =
-          by-course (record { joining = joining; opens = false }) v (h .connects) (h .opened) part
-          (rw (ne-eqb (bill .applicant .scheme) 0 (λ e. omega (arith, h .numbered)))) judged
+      by-course v judged =
+          by-verdict v (h .billed)
+          (verdict-course (booksOn state) bill (h .connections) (h .month) (omega (arith, joins .was-opened))
+          ∙ ap₂ (λ j o. courseVerdict (booksOn state) (record { joining = j; opens = o })) (joins .is) (opens .is)
+          ∙ judged)
 
-      by-row : {joining : Joining} → joiningOf (booksOn state) bill scheme ≡ joining → joiningPart (booksOn state) bill ≡ joining
-      by-row e = rw (ne-eqb (bill .applicant .scheme) 0 (λ e. omega (arith, h .numbered)), h .is) e
+      stands : SoundLedger (state .ledger) (state .table) (length (state .table))
+      stands = sound-means _ _ _ (h .billed .stands)
 
-      has-ended : scheme .opening + scheme .term ≤ bill .applicant .month → joiningPart (booksOn state) bill ≡ Joining.Ended
-      has-ended late = by-row (joining-ended (booksOn state) bill scheme late)
+      schemes : length (booksOn state .schemes) ≡ state .ledger .count
+      schemes = schemes-shown (state .ledger) (state .table) (omega (arith, stands .schemes))
 
-      module _ (in-force : bill .applicant .month < scheme .opening + scheme .term) where
-        is-small : contributionOf state bill scheme < scheme .minimum → joiningPart (booksOn state) bill ≡ Joining.Small
-        is-small below = by-row (joining-small (booksOn state) bill scheme in-force refl refl below)
+      entered : length (booksOn state .entries) ≡ state .ledger .entries
+      entered = entries-shown (state .ledger) (state .table) (stands .in-table)
 
-        pays : scheme .minimum ≤ contributionOf state bill scheme →
-            joiningPart (booksOn state) bill
-            ≡ Joining.Pays (record { collected = contributionOf state bill scheme; fee = scheme .fee; capacity = earlierCapacity state bill })
-        pays enough = by-row (joining-pays (booksOn state) bill scheme in-force refl refl enough)
+      needed : entries + new ≡ entriesNeeded course
+      needed = ap₂ _+_ (joins .needs) (opens .needs)
 
-    must-join : {scheme : SchemeParticulars} (v : Verdict) → MustJoin state pricing bill scheme →
-        courseVerdict (booksOn state) (joiningCourse (contributionOf state bill scheme) (scheme .fee) (earlierCapacity state bill)) ≡ v →
-        Accepts-as (answerTo (booksOn state) (decidedOf (booksOn state) bill v)) (carriedOut state (decidedOf (booksOn state) bill v))
-    must-join v h judged = by-joining (h .in-force .joins) _ v (pays (h .in-force .joins) (h .in-force .not-ended) (h .enough)) judged
+      full : mostSchemes < state .ledger .count + new → Accepts-as (isRefused (refusal noSchemeLeft 0 0)) state
+      full lacks =
+          by-course (Refuses noSchemeLeft)
+          (course-refused-8 (booksOn state) course (rw schemes (schemes-lacking (opens .part) (state .ledger .count) (opens .needs) (stands .schemes) lacks)))
+
+      module _ (some : state .ledger .count + new ≤ mostSchemes) where
+        few : schemesLacking (length (booksOn state .schemes)) (opens .part) ≡ false
+        few = rw schemes (schemes-left (opens .part) (state .ledger .count) (opens .needs) some)
+
+        no-entries : EntriesLacking state (entries + new) → Accepts-as (isRefused (refusal noEntryLeft 0 0)) state
+        no-entries lacks =
+            by-course (Refuses noEntryLeft)
+            (course-refused-9 (booksOn state) course few (rw (entered, ← needed) (entries-lacking state (h .billed .stands) (entries + new) lacks)))
+
+        both : EntriesLeft state (entries + new) → Accepts-as (acceptedAs bill joining opening) after
+        both left =
+            let same = by-course (Accepts course) (course-accepted (booksOn state) course few (rw (entered, ← needed) (entries-left state (h .billed .stands) (entries + new) left))) in
+            record {
+              is-answer = ap₂ (acceptedAs bill) (joins .answer) (opens .answer) ∙ same .is-answer;
+              is-after = opens .leaving ∙ ap (opened (opens .part) bill) (joins .leaving) ∙ same .is-after;
+            }
 
   accepts-as : {answer : CallAnswer} {after : State} → Answers state pricing answer after → Accepts-as answer after
   accepts-as (refused-13 unsound) = by-decision (refused (refusal ledgerUnsound 0 0)) (rw unsound)
@@ -149,31 +213,9 @@ module _ (state : State) (pricing : Pricing) (places : length (state .ledger .sc
   accepts-as (refused-7 {bill} h connections before) = by-verdict bill (Refuses monthBeforeLast) h (verdict-refused-7 (booksOn state) bill connections before)
   accepts-as (refused-6 {bill} h never) =
       by-verdict bill (Refuses schemeNeverOpened) (h .billed) (verdict-refused-6 (booksOn state) bill (h .connections) (h .month) (omega arith))
-  accepts-as (refused-8 {bill} h all) =
-      must-open bill (Refuses noSchemeLeft) h (course-refused-8 (booksOn state) openingCourse (rw (schemes bill (h .connects), le-leb _ _ all)))
-  accepts-as (opening-refused-9 {bill} h some none) =
-      must-open bill (Refuses noEntryLeft) h
-      (course-refused-9 (booksOn state) openingCourse (rw (schemes bill (h .connects), lt-leb _ _ some))
-      (rw (entries bill (h .connects)) (lacking state none)))
-  accepts-as (joining-refused-9 {bill} {scheme} h none) =
-      let course = joiningCourse (contributionOf state bill scheme) (scheme .fee) (earlierCapacity state bill) in
-      must-join bill (Refuses noEntryLeft) h
-      (course-refused-9 (booksOn state) course refl (rw (entries bill (h .in-force .joins .connects)) (lacking state none)))
-  accepts-as (plain {bill} h none why) =
-      by-course bill plainCourse (Accepts plainCourse) h (omega (arith, none)) (not-asked bill none) (opens-none bill none why) refl
-  accepts-as (opens {bill} h some left) =
-      must-open bill (Accepts openingCourse) h
-      (course-accepted (booksOn state) openingCourse (rw (schemes bill (h .connects), lt-leb _ _ some))
-      (rw (entries bill (h .connects)) (not-lacking state left)))
-  accepts-as (ended {bill} h late) = by-joining bill h Joining.Ended (Accepts endedCourse) (has-ended bill h late) refl
-  accepts-as (small {bill} h below) =
-      by-joining bill (h .joins) Joining.Small (Accepts smallCourse) (is-small bill (h .joins) (h .not-ended) below) refl
-  accepts-as (joins {bill} {scheme} h left e) =
-      let course = joiningCourse (contributionOf state bill scheme) (scheme .fee) (earlierCapacity state bill) in
-      subst
-      (λ G. Accepts-as (acceptedAs bill (joinedAs (state .ledger .entries + 1) G) OpeningAnswer.NotOpened) (joinedWith state bill scheme G)) (sym e)
-      (must-join bill (Accepts course) h
-      (course-accepted (booksOn state) course refl (rw (entries bill (h .in-force .joins .connects)) (not-lacking state left))))
+  accepts-as (refused-8 {bill} h joining opening lacks) = full bill h (joining-is bill joining) (opening-is bill opening) lacks
+  accepts-as (refused-9 {bill} h joining opening some lacks) = no-entries bill h (joining-is bill joining) (opening-is bill opening) some lacks
+  accepts-as (accepts {bill} h joining opening some left) = both bill h (joining-is bill joining) (opening-is bill opening) some left
 
   -- ---- and one of the cases holds
 
@@ -185,60 +227,58 @@ module _ (state : State) (pricing : Pricing) (places : length (state .ledger .sc
       let same = accepts-as h in
       subst (λ a. Answers state pricing a (leavesBy state pricing)) (same .is-answer) (subst (Answers state pricing answer) (same .is-after) h)
 
-  entry-left : EntryLeft state ⊎ NoEntryLeft state
-  entry-left =
-      ⊎-elim
-      (λ limit. ⊎-elim (λ room. inl (record { limit = limit; room = room })) (λ room. inr (inr room)) (lt-or-le (state .ledger .entries) (length (state .table))))
-      (λ limit. inr (inl limit))
-      (lt-or-le (state .ledger .entries) mostEntries)
+  entries-there : (needed : ℕ) → EntriesLeft state needed ⊎ EntriesLacking state needed
+  entries-there needed =
+      ⊎-elim (λ limit. inr (inl limit))
+      (λ limit.
+      ⊎-elim (λ room. inr (inr room)) (λ room. inl (record { limit = limit; room = room }))
+      (lt-or-le (length (state .table)) (state .ledger .entries + needed)))
+      (lt-or-le mostEntries (state .ledger .entries + needed))
 
-  opening-answers : {bill : Bill} → MustOpen state pricing bill → Answered
-  opening-answers h =
-      ⊎-elim
-      (λ some. ⊎-elim (λ left. told (opens h some left)) (λ none. told (opening-refused-9 h some none)) entry-left)
-      (λ all. told (refused-8 h all))
-      (lt-or-le (state .ledger .count) mostSchemes)
+  module _ {bill : Bill} (h : MayConnect state pricing bill) where
+    judged-answers : {joining : JoiningAnswer} {opening : OpeningAnswer} {entries new : ℕ} {between after : State} →
+        JoiningAnswers state bill joining entries between → OpeningAnswers state bill between opening new after → Answered
+    judged-answers {entries} {new} joining opening =
+        ⊎-elim (λ lacks. told (refused-8 h joining opening lacks))
+        (λ some.
+        ⊎-elim (λ left. told (accepts h joining opening some left)) (λ lacks. told (refused-9 h joining opening some lacks)) (entries-there (entries + new)))
+        (lt-or-le mostSchemes (state .ledger .count + new))
 
-  joining-answers : {bill : Bill} {scheme : SchemeParticulars} → MayJoin state pricing bill scheme → Answered
-  joining-answers {bill} {scheme} h = ⊎-elim in-force (λ late. told (ended h late)) (lt-or-le (bill .applicant .month) (scheme .opening + scheme .term))
-    where
-      enough : MustJoin state pricing bill scheme → Answered
-      enough due = ⊎-elim (λ left. told (joins due left refl)) (λ none. told (joining-refused-9 due none)) entry-left
+    -- after any joining
+    opening-answers : {joining : JoiningAnswer} {entries : ℕ} {between : State} → JoiningAnswers state bill joining entries between → Answered
+    opening-answers joining =
+        ⊎-elim
+        (λ above.
+        ⊎-elim (λ unmarked. judged-answers joining (opens (omega arith) above)) (λ marked. judged-answers joining (opens-none (inl marked)))
+        (lt-or-le (bill .applicant .mark) 1))
+        (λ within. judged-answers joining (opens-none (inr within)))
+        (lt-or-le (bill .terms .threshold) (bill .reconciliation .x))
 
-      in-force : bill .applicant .month < scheme .opening + scheme .term → Answered
-      in-force not-ended =
-          let force : InForce state pricing bill scheme = record { joins = h; not-ended = not-ended } in
-          ⊎-elim (λ below. told (small force below)) (λ least. enough (record { in-force = force; enough = least }))
-          (lt-or-le (contributionOf state bill scheme) (scheme .minimum))
+    joining-answers : {scheme : SchemeParticulars} → MayJoin state bill scheme → Answered
+    joining-answers {scheme} may =
+        ⊎-elim
+        (λ not-ended.
+        let force : InForce state bill scheme = record { joins = may; not-ended = not-ended } in
+        ⊎-elim (λ below. opening-answers (small force below)) (λ enough. opening-answers (joins force enough refl))
+        (lt-or-le (contributionOf state bill scheme) (scheme .minimum)))
+        (λ late. opening-answers (ended may late))
+        (lt-or-le (bill .applicant .month) (scheme .opening + scheme .term))
 
-  connecting-answers : {bill : Bill} → MayConnect state pricing bill → Answered
-  connecting-answers {bill} h = ⊎-elim none one (lt-or-le (bill .applicant .scheme) 1)
-    where
-      one : 1 ≤ bill .applicant .scheme → Answered
-      one numbered =
-          ⊎-elim (λ never. told (refused-6 h never))
-          (λ opened.
-          let few = sound-means _ _ _ (h .billed .stands) .schemes in
-          joining-answers
-          (record {
-            connects = h;
-            numbered = numbered;
-            opened = opened;
-            is = scheme-opened (state .ledger) (state .table) (bill .applicant .scheme) numbered opened (omega arith);
-          }))
-          (lt-or-le (state .ledger .count) (bill .applicant .scheme))
-
-      none : bill .applicant .scheme < 1 → Answered
-      none below =
-          let joins-none : bill .applicant .scheme ≡ 0 = omega arith in
-          ⊎-elim
-          (λ above.
-          ⊎-elim
-          (λ unmarked. opening-answers (record { connects = h; joins-none = joins-none; unmarked = omega arith; above = above }))
-          (λ marked. told (plain h joins-none (inl marked)))
-          (lt-or-le (bill .applicant .mark) 1))
-          (λ within. told (plain h joins-none (inr within)))
-          (lt-or-le (bill .terms .threshold) (bill .reconciliation .x))
+    connecting-answers : Answered
+    connecting-answers = ⊎-elim (λ none. opening-answers (not-asked (omega arith))) asked (lt-or-le (bill .applicant .scheme) 1)
+      where
+        asked : 1 ≤ bill .applicant .scheme → Answered
+        asked numbered =
+            ⊎-elim (λ never. told (refused-6 h never))
+            (λ opened.
+            let few = sound-means _ _ _ (h .billed .stands) .schemes in
+            joining-answers
+            (record {
+              numbered = numbered;
+              opened = opened;
+              is = scheme-opened (state .ledger) (state .table) (bill .applicant .scheme) numbered opened (omega arith);
+            }))
+            (lt-or-le (state .ledger .count) (bill .applicant .scheme))
 
   billed-answers : {bill : Bill} → Billed state pricing bill → Answered
   billed-answers {bill} h =

@@ -24,6 +24,10 @@ endingCases =
     (acceptedWith (Joined (record { entry = 34; contribution = 5600 })) NotOpened, endingOf 0 0 0 (pos 1 ∷ pos 34 ∷ pos 5600 ∷ pos 0 ∷ sampleFigures)) ∷
     (acceptedWith Small NotOpened, endingOf 0 0 0 (pos 2 ∷ pos 0 ∷ pos 0 ∷ pos 0 ∷ sampleFigures)) ∷
     (acceptedWith Ended NotOpened, endingOf 0 0 0 (pos 3 ∷ pos 0 ∷ pos 0 ∷ pos 0 ∷ sampleFigures)) ∷
+    -- each joining with an opening
+    (acceptedWith (Joined (record { entry = 34; contribution = 5600 })) (Opened 12), endingOf 0 0 0 (pos 1 ∷ pos 34 ∷ pos 5600 ∷ pos 12 ∷ sampleFigures)) ∷
+    (acceptedWith Small (Opened 12), endingOf 0 0 0 (pos 2 ∷ pos 0 ∷ pos 0 ∷ pos 12 ∷ sampleFigures)) ∷
+    (acceptedWith Ended (Opened 12), endingOf 0 0 0 (pos 3 ∷ pos 0 ∷ pos 0 ∷ pos 12 ∷ sampleFigures)) ∷
     (isDone, endingOf 0 0 0 []) ∷
     (isRefused (refusal 5 2 3), endingOf 5 2 3 []) ∷
     []

@@ -3,7 +3,6 @@
 use Prim.Native.Nat.{ℕ}
 use mathlib.Core.Path.{_≡_, refl}
 use mathlib.Core.List.{List, [], _∷_, _++_, map}
-use mathlib.Core.Bool.{true}
 use Rattle.tagged.specs.File.{refusal}
 use Rattle.ledger.specs.Books.{SchemeParticulars, EntryParticulars, Books}
 use Rattle.ledger.specs.Lookup.{schemePlace}
@@ -13,7 +12,7 @@ use Rattle.ledger.specs.declared.records.Party.{Party}
 use Rattle.calls.specs.Decision.{Call, payOut, handOver, Decision, accepted, paidOut, handedOver, refused, decided, CallAnswer, isDone, isRefused, answerTo}
 use Rattle.calls.specs.Carried.{State, booksOn, carriedOut}
 use Rattle.calls.specs.Calls.{answered, leaves}
-use Rattle.calls.specs.Cases.Verdict.{otherBook, billOf, withMonth, inScheme, joins, scheme, party, ledger, places, past, three, firstThree}
+use Rattle.calls.specs.Cases.Verdict.{otherBook, billOf, withMonth, inScheme, joins, andOpens, scheme, party, ledger, places, past, three, firstThree}
 use Rattle.calls.specs.Answers.{acceptedAs, joinedAs}
 use Rattle.calls.specs.declared.answers.OpeningAnswer.the-variants as OpeningAnswer
 
@@ -90,7 +89,7 @@ paid-cases-hold = refl
 -- ---- joined and opened: the joiner is entry 4, the scheme that opens has the next
 abbrev both : Decision
 both =
-    accepted (withMonth 24317 (inScheme 1 (billOf otherBook 7001))) (record { joining = joins 500 100 30 .joining; opens = true })
+    accepted (withMonth 24317 (inScheme 1 (billOf otherBook 7001))) (andOpens (joins 500 100 30))
     (record { entry = 1; amount = 266 } ∷ record { entry = 3; amount = 134 } ∷ [])
 
 pub both-answered : answerTo books both ≡ acceptedAs (billOf otherBook 7001) (joinedAs 4 500) (OpeningAnswer.Opened 3)

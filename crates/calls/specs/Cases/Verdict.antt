@@ -49,6 +49,10 @@ otherBook = record { threshold = 7000; fee = 400; minimum = 2000; term = 120 }
 abbrev slipBook : Terms
 slipBook = record { threshold = 5000000; fee = 20000; minimum = 20000; term = 84 }
 
+-- and with another fee, minimum and term
+abbrev otherSlipBook : Terms
+otherSlipBook = record { threshold = 5000000; fee = 7; minimum = 9; term = 100 }
+
 -- by the book's terms, with this X: person 9, in month 24,315, of capacity 6, joins no scheme and is unmarked
 abbrev pub billOf : Terms → ℕ → Bill
 billOf terms x =
@@ -77,20 +81,23 @@ withMark mark =
     withApplicant
     (λ who. record { person = who .person; month = who .month; capacity = who .capacity; scheme = who .scheme; mark = mark })
 
--- an application that opens a scheme of cost 1,001 if it can, in the last accepted month; and one of capacity 6 that joins scheme 1
+-- an application that opens a scheme of cost 1,001 if it can, in the last accepted month
 abbrev pub opening : Bill
 opening = billOf book 1001
 
+-- one of capacity 6 that joins scheme 1, with X the threshold; and one that builds on, with a cent more
 abbrev pub joining : Bill
-joining = inScheme 1 opening
+joining = inScheme 1 (billOf book 1000)
 
--- and one whose X is 0
-abbrev joiner : Bill
-joiner = inScheme 1 (billOf book 0)
+abbrev pub buildingOn : Bill
+buildingOn = inScheme 1 opening
 
 -- and under the other book
 abbrev joiningByOther : Bill
-joiningByOther = inScheme 1 (billOf otherBook 9000)
+joiningByOther = inScheme 1 (billOf otherBook 7000)
+
+abbrev buildingOnByOther : Bill
+buildingOnByOther = inScheme 1 (billOf otherBook 7001)
 
 -- ---- books
 
@@ -147,6 +154,10 @@ small = record { joining = Joining.Small; opens = false }
 abbrev pub joins : ℕ → ℕ → ℕ → Course
 joins G fee K = record { joining = Joining.Pays (record { collected = G; fee = fee; capacity = K }); opens = false }
 
+-- and a scheme opens
+abbrev pub andOpens : Course → Course
+andOpens course = record { joining = course .joining; opens = true }
+
 abbrev pub verdictCases : List ((Books × Bill) × Verdict)
 verdictCases =
     -- the 64th and the 65th scheme
@@ -174,7 +185,7 @@ verdictCases =
     ((books 3000 2 1 2 3, withMonth 24314 (billOf book 1000)), Refuses 7) ∷
     ((books 3000 2 1 2 3, withMonth 24314 joining), Refuses 7) ∷
     -- the last scheme, and the number after it
-    ((books 3000 2 1 2 3, joiner), Accepts (joins 500 100 30)) ∷
+    ((books 3000 2 1 2 3, inScheme 1 (billOf book 0)), Accepts (joins 500 100 30)) ∷
     ((books 3000 2 1 2 3, inScheme 2 (billOf book 0)), Refuses 6) ∷
     ((books 3000 2 64 2 3, inScheme 65 (billOf book 0)), Refuses 6) ∷
     -- X the threshold, and one cent more; a mark opens nothing
@@ -189,17 +200,14 @@ verdictCases =
     ((books 3000 2 1 2 3, joining), Accepts (joins 500 100 30)) ∷
     ((books 2999 2 1 2 3, joining), Accepts small) ∷
     -- the last month in force, and the one after it
-    ((books 3000 2 1 2 3, withMonth 24398 joiner), Accepts (joins 500 100 30)) ∷
-    ((books 3000 2 1 2 3, withMonth 24399 joiner), Accepts ended) ∷
+    ((books 3000 2 1 2 3, withMonth 24398 joining), Accepts (joins 500 100 30)) ∷
+    ((books 3000 2 1 2 3, withMonth 24399 joining), Accepts ended) ∷
     -- no entry is needed where nothing is collected; a term that has ended counts before a small contribution
     ((books 2999 2 1 2 2, joining), Accepts small) ∷
     ((books 2999 2 1 512 600, joining), Accepts small) ∷
-    ((books 3000 2 1 2 2, withMonth 24399 joiner), Accepts ended) ∷
-    ((books 3000 2 1 512 600, withMonth 24399 joiner), Accepts ended) ∷
-    ((books 2999 2 1 2 3, withMonth 24399 joiner), Accepts ended) ∷
-    -- one that joins opens nothing, whatever its X and mark, and with 64 schemes too
-    ((books 3000 2 64 2 3, inScheme 1 (billOf book 9000)), Accepts (joins 500 100 30)) ∷
-    ((books 3000 2 1 2 3, withMark 1 (inScheme 1 (billOf book 9000))), Accepts (joins 500 100 30)) ∷
+    ((books 3000 2 1 2 2, withMonth 24399 joining), Accepts ended) ∷
+    ((books 3000 2 1 512 600, withMonth 24399 joining), Accepts ended) ∷
+    ((books 2999 2 1 2 3, withMonth 24399 joining), Accepts ended) ∷
     -- under another book the scheme's own fee, minimum and term count
     ((books 3000 2 1 2 3, joiningByOther), Accepts (joins 500 100 30)) ∷
     ((books 2999 2 1 2 3, joiningByOther), Accepts small) ∷
@@ -214,15 +222,73 @@ verdictCases =
     ((books 3000 2 1 2 3, withMonth 24314 (inScheme 2 (billOf book 0))), Refuses 7) ∷
     ((books 3000 2 64 2 3, withMonth 24314 opening), Refuses 7) ∷
     ((books 3000 2 1 2 2, withMonth 24314 opening), Refuses 7) ∷
-    ((books 3000 2 1 2 2, withMonth 24314 joiner), Refuses 7) ∷
-    ((books 2999 2 1 2 3, withMonth 24314 joiner), Refuses 7) ∷
+    ((books 3000 2 1 2 2, withMonth 24314 joining), Refuses 7) ∷
+    ((books 2999 2 1 2 3, withMonth 24314 joining), Refuses 7) ∷
     ((books 3000 2 1 2 2, inScheme 2 (billOf book 0)), Refuses 6) ∷
     ((books 3000 2 64 512 512, opening), Refuses 8) ∷
+    []
+
+-- document 02, E4: a joiner who builds on
+abbrev pub buildingOnCases : List ((Books × Bill) × Verdict)
+buildingOnCases =
+    -- X the threshold, and one cent more; a joiner with a mark opens nothing
+    ((books 3000 2 1 2 4, joining), Accepts (joins 500 100 30)) ∷
+    ((books 3000 2 1 2 4, buildingOn), Accepts (andOpens (joins 500 100 30))) ∷
+    ((books 3000 2 1 2 4, withMark 1 buildingOn), Accepts (joins 500 100 30)) ∷
+    ((books 3000 2 1 2 4, withMark 2 buildingOn), Accepts (joins 500 100 30)) ∷
+    -- by the threshold of the joiner's own book; for the joining the scheme's own fee, minimum and term count
+    ((books 3000 2 1 2 4, joiningByOther), Accepts (joins 500 100 30)) ∷
+    ((books 3000 2 1 2 4, buildingOnByOther), Accepts (andOpens (joins 500 100 30))) ∷
+    ((books 2999 2 1 2 4, buildingOnByOther), Accepts (andOpens small)) ∷
+    ((books 3000 2 1 2 4, withMonth 24398 buildingOnByOther), Accepts (andOpens (joins 500 100 30))) ∷
+    ((books 3000 2 1 2 4, withMonth 24399 buildingOnByOther), Accepts (andOpens ended)) ∷
+    -- "small" and "ended" don't prevent it
+    ((books 2999 2 1 2 4, buildingOn), Accepts (andOpens small)) ∷
+    ((books 2999 2 1 2 4, withMark 1 buildingOn), Accepts small) ∷
+    ((books 3000 2 1 2 4, withMonth 24399 buildingOn), Accepts (andOpens ended)) ∷
+    ((books 3000 2 1 2 4, withMonth 24399 (withMark 2 buildingOn)), Accepts ended) ∷
+    -- two entries are needed: the table has none, one and two left
+    ((books 3000 2 1 2 2, buildingOn), Refuses 9) ∷
+    ((books 3000 2 1 2 3, buildingOn), Refuses 9) ∷
+    ((books 3000 2 1 2 4, buildingOn), Accepts (andOpens (joins 500 100 30))) ∷
+    -- and of 512
+    ((books 3000 2 1 512 600, buildingOn), Refuses 9) ∷
+    ((books 3000 2 1 511 600, buildingOn), Refuses 9) ∷
+    ((books 3000 2 1 510 600, buildingOn), Accepts (andOpens (joins 500 100 30))) ∷
+    -- one is needed, by the opening or by the joining: none left, and one
+    ((books 2999 2 1 2 2, buildingOn), Refuses 9) ∷
+    ((books 2999 2 1 2 3, buildingOn), Accepts (andOpens small)) ∷
+    ((books 3000 2 1 2 2, withMonth 24399 buildingOn), Refuses 9) ∷
+    ((books 3000 2 1 2 3, withMonth 24399 buildingOn), Accepts (andOpens ended)) ∷
+    ((books 3000 2 1 2 2, withMark 1 buildingOn), Refuses 9) ∷
+    ((books 3000 2 1 2 3, withMark 1 buildingOn), Accepts (joins 500 100 30)) ∷
+    -- none is needed
+    ((books 2999 2 1 2 2, withMark 1 buildingOn), Accepts small) ∷
+    ((books 3000 2 1 2 2, withMonth 24399 (withMark 1 buildingOn)), Accepts ended) ∷
+    -- the 64th and the 65th scheme; 8 before 9; where none opens, it is never 8
+    ((books 3000 2 63 2 4, buildingOn), Accepts (andOpens (joins 500 100 30))) ∷
+    ((books 3000 2 64 2 4, buildingOn), Refuses 8) ∷
+    ((books 3000 2 64 512 512, buildingOn), Refuses 8) ∷
+    ((books 2999 2 64 2 4, buildingOn), Refuses 8) ∷
+    ((books 3000 2 64 2 4, withMonth 24399 buildingOn), Refuses 8) ∷
+    ((books 3000 2 64 2 4, joining), Accepts (joins 500 100 30)) ∷
+    ((books 3000 2 64 2 4, withMark 1 buildingOn), Accepts (joins 500 100 30)) ∷
+    ((books 3000 2 64 2 4, withMark 2 buildingOn), Accepts (joins 500 100 30)) ∷
+    ((books 3000 2 64 512 512, withMark 1 buildingOn), Refuses 9) ∷
+    -- 10, 7 and 6 come before; 6 before the opening, though the scheme that opens would have the number
+    ((books 3000 1000000 64 512 512, buildingOn), Refuses 10) ∷
+    ((books 3000 2 64 512 512, withMonth 24314 buildingOn), Refuses 7) ∷
+    ((books 3000 2 1 2 4, inScheme 2 buildingOn), Refuses 6) ∷
+    ((books 3000 2 64 512 512, inScheme 65 buildingOn), Refuses 6) ∷
     []
 
 pub verdict-cases-hold : map (λ row. verdict (row .0 .0) (row .0 .1)) verdictCases ≡ map (λ row. row .1) verdictCases
 unfolding verdict
 verdict-cases-hold = refl
+
+pub building-on-cases-hold : map (λ row. verdict (row .0 .0) (row .0 .1)) buildingOnCases ≡ map (λ row. row .1) buildingOnCases
+unfolding verdict
+building-on-cases-hold = refl
 
 -- ---- the decision, with what is credited, and its answer
 abbrev decidedOf : Books → Bill → Decision
@@ -267,6 +333,25 @@ decisionCases =
     ((slipBooks 6000000 (299000 ∷ []) 2, bill), accepted bill ended [], acceptedAs bill JoiningAnswer.Ended OpeningAnswer.NotOpened)) ∷
     -- a refusal's file and place are 0
     ((books 3000 2 1 2 2, joining), refused (refusal 9 0 0), isRefused (refusal 9 0 0)) ∷
+    -- a joiner that builds on: G and the credits by the scheme's cost, fee and parties, the next entry and the next scheme; 9 where one entry is left
+    (let bill = withCapacity 5000 (inScheme 1 (billOf otherSlipBook 5000001)) in (
+      (slipBooks 6000000 (10000 ∷ []) 2, bill),
+      accepted bill (andOpens (joins 2000000 20000 10000)) (credit 1 1980000 ∷ []),
+      acceptedAs bill (joinedAs 2 2000000) (OpeningAnswer.Opened 2),
+    )) ∷
+    (let bill = withCapacity 5000 (inScheme 1 (billOf otherSlipBook 5000001)) in
+    ((slipBooks 6000000 (10000 ∷ 20000 ∷ []) 3, bill), refused (refusal 9 0 0), isRefused (refusal 9 0 0))) ∷
+    -- "small" with G 19,734, and "ended"
+    (let bill = withCapacity 33 (inScheme 1 (billOf otherSlipBook 5000001)) in (
+      (slipBooks 6000000 (10000 ∷ []) 2, bill),
+      accepted bill (andOpens small) [],
+      acceptedAs bill JoiningAnswer.Small (OpeningAnswer.Opened 2),
+    )) ∷
+    (let bill = withMonth 24399 (inScheme 1 (billOf otherSlipBook 5000001)) in (
+      (slipBooks 6000000 (10000 ∷ []) 2, bill),
+      accepted bill (andOpens ended) [],
+      acceptedAs bill JoiningAnswer.Ended (OpeningAnswer.Opened 2),
+    )) ∷
     []
 
 pub decision-cases-hold :
@@ -334,6 +419,20 @@ carriedCases =
             scheme 1800 0 ∷
             schemeOf 7001 400 2000 24317 120 0 ∷
             places 61);
+        table = firstThree ++ (party 3 9 6 7001 0 0 ∷ past ∷ []);
+      },
+    ) ∷
+    -- "small" and "ended" that open: one connection, one entry, nothing collected
+    (
+      accepted (withMonth 24317 (inScheme 1 (billOf otherBook 7001))) (andOpens small) [],
+      record {
+        ledger = ledger 24317 4 16006 470 4 3 (scheme 3000 100 ∷ scheme 1800 0 ∷ schemeOf 7001 400 2000 24317 120 0 ∷ places 61);
+        table = firstThree ++ (party 3 9 6 7001 0 0 ∷ past ∷ []);
+      },
+    ) ∷ (
+      accepted (withMonth 24399 (inScheme 1 (billOf otherBook 7001))) (andOpens ended) [],
+      record {
+        ledger = ledger 24399 4 16006 470 4 3 (scheme 3000 100 ∷ scheme 1800 0 ∷ schemeOf 7001 400 2000 24399 120 0 ∷ places 61);
         table = firstThree ++ (party 3 9 6 7001 0 0 ∷ past ∷ []);
       },
     ) ∷

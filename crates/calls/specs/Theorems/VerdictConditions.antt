@@ -104,16 +104,13 @@ course-conditions books bill course accepts = subst (VerdictConditions books bil
 
 -- ---- its opening
 pub record OpeningConditions (bill : Bill) : Type 0 where
-  pub none-joined : bill .applicant .scheme ≡ 0
   pub mark : bill .applicant .mark ≡ 0
   pub above : bill .terms .threshold < bill .reconciliation .x
 
 pub opening-conditions : (bill : Bill) → opensScheme bill ≡ true → OpeningConditions bill
 opening-conditions bill opens =
-    let joins = both-true (eqb (bill .applicant .scheme) 0) _ opens in
-    let marked = both-true (eqb (bill .applicant .mark) 0) _ (joins .1) in
+    let marked = both-true (eqb (bill .applicant .mark) 0) _ opens in
     record {
-      none-joined = eqb-true _ _ (joins .0);
       mark = eqb-true _ _ (marked .0);
       above = ltb-true _ _ (both-true (ltb (bill .terms .threshold) (bill .reconciliation .x)) true (marked .1) .0);
     }

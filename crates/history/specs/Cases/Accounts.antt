@@ -28,7 +28,7 @@ use Rattle.history.specs.Cases.PricedCalls.{priced-requests}
 -- ---- the calls, on a table of four records
 
 -- an accept by the slip's book, with threshold 5,000,000, fee and minimum 20,000 and a term of 84 months: X, month, capacity and scheme joined; a joiner's X
--- plays no part
+-- is below the threshold
 abbrev accepting : ℕ → ℕ → ℕ → ℕ → Call
 accepting x month capacity scheme = accept slipBook (schemeRequest x month capacity scheme)
 
@@ -114,11 +114,11 @@ partyFigures history = of 1 1 ∷ of 2 1 ∷ of 3 2 ∷ of 4 1 ∷ []
     of entry scheme =
         (creditedTo entry (accountOf scheme history .entered), paidTo entry (accountOf scheme history .paid), personOf entry 4711 (history .handed))
 
-abbrev enters : ℕ → ℕ → ℕ → Bool → Bill → List Credit → Entering
+abbrev pub enters : ℕ → ℕ → ℕ → Bool → Bill → List Credit → Entering
 enters scheme entry putIn opens bill credits =
     record { scheme = scheme; entry = entry; putIn = putIn; opens = opens; bill = bill; credits = credits }
 
-abbrev credit : ℕ → ℕ → Credit
+abbrev pub credit : ℕ → ℕ → Credit
 credit entry amount = record { entry = entry; amount = amount }
 
 abbrev schemeParticulars : ℕ → ℕ → SchemeParticulars
@@ -128,10 +128,10 @@ abbrev entryParticulars : ℕ → ℕ → ℕ → ℕ → ℕ → EntryParticula
 entryParticulars number scheme capacity credited paidOut =
     record { number = number; scheme = scheme; capacity = capacity; credited = credited; paidOut = paidOut }
 
-abbrev accepted : Bill → JoiningAnswer → OpeningAnswer → CallAnswer
+abbrev pub accepted : Bill → JoiningAnswer → OpeningAnswer → CallAnswer
 accepted bill joining opening = isAccepted (record { reconciliation = bill .reconciliation; joining = joining; opening = opening })
 
-abbrev joined : ℕ → ℕ → JoiningAnswer
+abbrev pub joined : ℕ → ℕ → JoiningAnswer
 joined entry G = Joined (record { entry = entry; contribution = G })
 
 pub record HistoryIs (history : History) (answers : List CallAnswer) : Type 0 where

@@ -12,19 +12,23 @@ use Rattle.charge.specs.Cases.MarkedFigures.{slipTiers, connection, requestBy}
 use Rattle.charge.specs.declared.Bill.{Bill}
 use Rattle.charge.specs.declared.Pricing.the-variants.{Priced}
 
--- the slip's book with threshold 0, fee and minimum 1
-abbrev pub centsBook : List ℕ
-centsBook =
+-- the slip's book but for threshold, fee, minimum, term and credit share
+abbrev pub bookWith : ℕ → ℕ → ℕ → ℕ → ℕ → List ℕ
+bookWith threshold fee minimum term share =
     closed
     ((1, bookLetters) ∷
     (2, bytesOf 2 0) ∷
     (3, flatMap (bytesOf 4) (0 ∷ 1 ∷ 0 ∷ 1 ∷ 0 ∷ 1 ∷ 0 ∷ 1 ∷ 0 ∷ 1 ∷ [])) ∷
     (4, bytesOf 2 10000) ∷
     (5, bytesOf 2 10000) ∷
-    (6, flatMap (bytesOf 4) (0 ∷ 1 ∷ 1 ∷ []) ++ bytesOf 2 84) ∷
-    (7, 1 ∷ bytesOf 2 6500) ∷
+    (6, flatMap (bytesOf 4) (threshold ∷ fee ∷ minimum ∷ []) ++ bytesOf 2 term) ∷
+    (7, 1 ∷ bytesOf 2 share) ∷
     (8, 1 ∷ flatMap (bytesOf 4) (0 ∷ 0 ∷ 8500 ∷ 38000 ∷ 10000 ∷ [])) ∷
     [])
+
+-- threshold 0, fee and minimum 1
+abbrev pub centsBook : List ℕ
+centsBook = bookWith 0 1 1 84 6500
 
 -- the slip's request with no other amount than CE, which is then X; its capacity and the scheme joined; and what that book makes of it
 abbrev pub centsRequest : ℕ → ℕ → ℕ → List ℕ

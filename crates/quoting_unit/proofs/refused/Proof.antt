@@ -1,4 +1,4 @@
--- The result is the definition's by the contract of `result_of`; the four places are 0 in both.
+-- The result is the definition's by the contract of `result_of`; the five places are 0 in both.
 use mathlib.Core.Path.{ap}
 use mathlib.Core.List.{[], _∷_}
 use Prim.Native.Nat.{ℕ}
@@ -11,7 +11,7 @@ result-of-requires : tie.Need-result-of-requires
 result-of-requires c κs = search needs
 
 abbrev refusedBy : ℕ → Outcome
-refusedBy result = record { result = result; told = 0 ∷ 0 ∷ 0 ∷ 0 ∷ [] }
+refusedBy result = record { result = result; told = 0 ∷ 0 ∷ 0 ∷ 0 ∷ 0 ∷ [] }
 
 returns : tie.Need-returns
 returns c = ap refusedBy (c .result-of .ensures)

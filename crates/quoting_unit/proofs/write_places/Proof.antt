@@ -1,4 +1,4 @@
--- The loop keeps that the first i places are copied and the rest is as it was (`copy-one-more`); at 4 all are copied.
+-- The loop keeps that the first i places are copied and the rest is as it was (`copy-one-more`); at 5 all are copied.
 use Prim.Native.Nat.{_-_, _≤_}
 use mathlib.Core.Path.{_≡_}
 use lib.ListN.{length}

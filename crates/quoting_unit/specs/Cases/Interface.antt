@@ -40,7 +40,7 @@ pub slip-placed :
 slip-placed = refl
 
 pub answers-written :
-    (answerAfter (outcomeOf (isDone (1 ∷ 2 ∷ 3 ∷ 4 ∷ []))) (replicate 5 6) ≡ 1 ∷ 2 ∷ 3 ∷ 4 ∷ 6 ∷ [])
-    × (answerAfter (outcomeOf (isRefused (refusal 3 1 87) 1)) (replicate 5 6) ≡ replicate 5 6)
-    × (answerAfter (outcomeOf (isRefused (refusal 14 0 0) 0)) (replicate 5 6) ≡ replicate 5 6)
+    (answerAfter (outcomeOf (isDone (1 ∷ 2 ∷ 3 ∷ 4 ∷ 5 ∷ []))) (replicate 6 7) ≡ 1 ∷ 2 ∷ 3 ∷ 4 ∷ 5 ∷ 7 ∷ [])
+    × (answerAfter (outcomeOf (isRefused (refusal 3 1 87) 1)) (replicate 6 7) ≡ replicate 6 7)
+    × (answerAfter (outcomeOf (isRefused (refusal 14 0 0) 0)) (replicate 6 7) ≡ replicate 6 7)
 answers-written = (refl, refl, refl)

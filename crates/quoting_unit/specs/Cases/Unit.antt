@@ -10,13 +10,17 @@ use Rattle.stored_calls.specs.declared.StoredCheck.the-variants as StoredCheck
 use Rattle.quoting_unit.specs.Interface.{outcomeOf}
 use Rattle.quoting_unit.specs.Unit.{acceptancePlaces, unitCallEnding, checkEnding}
 
+-- each joining with each opening
 pub answers-placed :
-    (acceptancePlaces NotAsked NotOpened 32 ≡ 1 ∷ 0 ∷ 0 ∷ 32 ∷ [])
-    × (acceptancePlaces NotAsked (Opened 7) 32 ≡ 2 ∷ 7 ∷ 0 ∷ 32 ∷ [])
-    × (acceptancePlaces (Joined (record { entry = 8; contribution = 9 })) NotOpened 32 ≡ 3 ∷ 8 ∷ 9 ∷ 32 ∷ [])
-    × (acceptancePlaces Small NotOpened 32 ≡ 4 ∷ 0 ∷ 0 ∷ 32 ∷ [])
-    × (acceptancePlaces Ended NotOpened 32 ≡ 5 ∷ 0 ∷ 0 ∷ 32 ∷ [])
-answers-placed = (refl, refl, refl, refl, refl)
+    (acceptancePlaces NotAsked NotOpened 32 ≡ 0 ∷ 0 ∷ 0 ∷ 0 ∷ 32 ∷ [])
+    × (acceptancePlaces NotAsked (Opened 7) 32 ≡ 0 ∷ 0 ∷ 0 ∷ 7 ∷ 32 ∷ [])
+    × (acceptancePlaces (Joined (record { entry = 8; contribution = 9 })) NotOpened 32 ≡ 1 ∷ 8 ∷ 9 ∷ 0 ∷ 32 ∷ [])
+    × (acceptancePlaces (Joined (record { entry = 8; contribution = 9 })) (Opened 7) 32 ≡ 1 ∷ 8 ∷ 9 ∷ 7 ∷ 32 ∷ [])
+    × (acceptancePlaces Small NotOpened 32 ≡ 2 ∷ 0 ∷ 0 ∷ 0 ∷ 32 ∷ [])
+    × (acceptancePlaces Small (Opened 7) 32 ≡ 2 ∷ 0 ∷ 0 ∷ 7 ∷ 32 ∷ [])
+    × (acceptancePlaces Ended NotOpened 32 ≡ 3 ∷ 0 ∷ 0 ∷ 0 ∷ 32 ∷ [])
+    × (acceptancePlaces Ended (Opened 7) 32 ≡ 3 ∷ 0 ∷ 0 ∷ 7 ∷ 32 ∷ [])
+answers-placed = (refl, refl, refl, refl, refl, refl, refl, refl)
 
 -- no bytes as a stored ledger, and as a book
 pub ledger-told-apart :

@@ -13,15 +13,15 @@ use Rattle.calls.specs.Decision.{accept, handOver}
 use Rattle.quoting_unit.specs.Interface.{lentFigures, lentOutput, lentBoth, lentAnswer}
 use Rattle.quoting_unit.specs.Unit.{price, newLedger, onLedger, checkLedger, tooShort, ledgerMade, leavesBy, unitCall}
 
--- 4 places and 3, 21 places and 20
+-- 5 places and 4, 21 places and 20
 pub buffer-limits :
-    (tooShort newLedger (lentOutput [] (replicate 4 0)) ≡ false)
-    × (tooShort newLedger (lentOutput [] (replicate 3 0)) ≡ true)
+    (tooShort newLedger (lentOutput [] (replicate 5 0)) ≡ false)
+    × (tooShort newLedger (lentOutput [] (replicate 4 0)) ≡ true)
     × (tooShort (price [] []) (lentFigures (replicate 21 (pos 0))) ≡ false)
     × (tooShort (price [] []) (lentFigures (replicate 20 (pos 0))) ≡ true)
-    × (tooShort (onLedger [] 0 (accept [] [])) (lentBoth [] (replicate 21 (pos 0)) (replicate 4 0)) ≡ false)
-    × (tooShort (onLedger [] 0 (accept [] [])) (lentBoth [] (replicate 20 (pos 0)) (replicate 4 0)) ≡ true)
-    × (tooShort (onLedger [] 0 (accept [] [])) (lentBoth [] (replicate 21 (pos 0)) (replicate 3 0)) ≡ true)
+    × (tooShort (onLedger [] 0 (accept [] [])) (lentBoth [] (replicate 21 (pos 0)) (replicate 5 0)) ≡ false)
+    × (tooShort (onLedger [] 0 (accept [] [])) (lentBoth [] (replicate 20 (pos 0)) (replicate 5 0)) ≡ true)
+    × (tooShort (onLedger [] 0 (accept [] [])) (lentBoth [] (replicate 21 (pos 0)) (replicate 4 0)) ≡ true)
 buffer-limits = (refl, refl, refl, refl, refl, refl, refl)
 
 -- ---- whole calls, on buffers with a place more than they need, with as many and with one fewer
@@ -36,12 +36,12 @@ pub price-cases :
 price-cases = (rw (scheme-bills .joining), rw (pricing-refusals .1), refl)
 
 pub new-ledger-cases :
-    (unitCall newLedger (lentOutput (replicate 37 7) (replicate 5 6)) ≡ record { result = 0; lent = lentOutput newForm (0 ∷ 0 ∷ 0 ∷ 37 ∷ 6 ∷ []) })
-    × (unitCall newLedger (lentOutput (replicate 36 7) (replicate 4 6)) ≡ record { result = 14; lent = lentOutput (replicate 36 7) (replicate 4 6) })
-    × (unitCall newLedger (lentOutput (replicate 37 7) (replicate 3 6)) ≡ record { result = 14; lent = lentOutput (replicate 37 7) (replicate 3 6) })
+    (unitCall newLedger (lentOutput (replicate 37 7) (replicate 6 9)) ≡ record { result = 0; lent = lentOutput newForm (0 ∷ 0 ∷ 0 ∷ 0 ∷ 37 ∷ 9 ∷ []) })
+    × (unitCall newLedger (lentOutput (replicate 36 7) (replicate 5 9)) ≡ record { result = 14; lent = lentOutput (replicate 36 7) (replicate 5 9) })
+    × (unitCall newLedger (lentOutput (replicate 37 7) (replicate 4 9)) ≡ record { result = 14; lent = lentOutput (replicate 37 7) (replicate 4 9) })
 new-ledger-cases =
-    let long = lentOutput (replicate 37 7) (replicate 5 6) in
-    let short = lentOutput (replicate 36 7) (replicate 4 6) in (
+    let long = lentOutput (replicate 37 7) (replicate 6 9) in
+    let short = lentOutput (replicate 36 7) (replicate 5 9) in (
       ap (λ called. leavesBy (ledgerMade called long) long) (new-cases-hold .0),
       ap (λ called. leavesBy (ledgerMade called short) short) (new-cases-hold .1),
       refl,
@@ -49,12 +49,12 @@ new-ledger-cases =
 
 -- a refusal of the stored ledger itself, 64 above a call's own; two entries and a table of one record, then of two
 pub stored-cases :
-    (unitCall (onLedger newForm 512 (handOver 1 5)) (lentOutput [] (replicate 4 6)) ≡ record { result = 11; lent = lentOutput [] (replicate 4 6) })
-    × (unitCall (onLedger [] 512 (handOver 1 5)) (lentOutput [] (replicate 4 6)) ≡ record { result = 81; lent = lentOutput [] (replicate 4 6) })
-    × (unitCall (checkLedger newForm 512) (lentAnswer (replicate 4 6)) ≡ record { result = 0; lent = lentAnswer (replicate 4 0) })
-    × (unitCall (checkLedger [] 512) (lentAnswer (replicate 4 6)) ≡ record { result = 81; lent = lentAnswer (replicate 4 6) })
-    × (unitCall (checkLedger joinedForm 1) (lentAnswer (replicate 4 6)) ≡ record { result = 73; lent = lentAnswer (replicate 4 6) })
-    × (unitCall (checkLedger joinedForm 2) (lentAnswer (replicate 5 6)) ≡ record { result = 0; lent = lentAnswer (1 ∷ 2 ∷ 2 ∷ 12 ∷ 6 ∷ []) })
+    (unitCall (onLedger newForm 512 (handOver 1 5)) (lentOutput [] (replicate 5 9)) ≡ record { result = 11; lent = lentOutput [] (replicate 5 9) })
+    × (unitCall (onLedger [] 512 (handOver 1 5)) (lentOutput [] (replicate 5 9)) ≡ record { result = 81; lent = lentOutput [] (replicate 5 9) })
+    × (unitCall (checkLedger newForm 512) (lentAnswer (replicate 5 9)) ≡ record { result = 0; lent = lentAnswer (replicate 5 0) })
+    × (unitCall (checkLedger [] 512) (lentAnswer (replicate 5 9)) ≡ record { result = 81; lent = lentAnswer (replicate 5 9) })
+    × (unitCall (checkLedger joinedForm 1) (lentAnswer (replicate 5 9)) ≡ record { result = 73; lent = lentAnswer (replicate 5 9) })
+    × (unitCall (checkLedger joinedForm 2) (lentAnswer (replicate 6 9)) ≡ record { result = 0; lent = lentAnswer (1 ∷ 2 ∷ 2 ∷ 12 ∷ 0 ∷ 9 ∷ []) })
 stored-cases = (
   rw (hand-over-cases-hold .0),
   rw (hand-over-cases-hold .1),

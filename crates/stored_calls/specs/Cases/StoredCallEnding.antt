@@ -7,7 +7,8 @@ use Rattle.tagged.specs.Ending.{Ending, endingOf}
 use Rattle.tagged.specs.File.{refusal}
 use Rattle.reconciliation.specs.Cases.Figures.{sample, sampleFigures}
 use Rattle.calls.specs.declared.answers.JoiningAnswer.the-variants.{Joined}
-use Rattle.calls.specs.declared.answers.OpeningAnswer.the-variants.{NotOpened}
+use Rattle.calls.specs.declared.answers.OpeningAnswer.{OpeningAnswer}
+use Rattle.calls.specs.declared.answers.OpeningAnswer.the-variants.{NotOpened, Opened}
 use Rattle.stored_calls.specs.StoredCalls.{ofStoredAccept, ofStoredAnswer}
 use Rattle.stored_calls.specs.StoredCallEnding.{storedCallEnding, ofStoredLedger, storedCheckEnding}
 use Rattle.stored_calls.specs.declared.StoredAccept.{StoredAccept}
@@ -25,11 +26,11 @@ abbrev pub storedAnswerEnding : StoredAnswer → Ending
 storedAnswerEnding answer = storedCallEnding (ofStoredAnswer answer)
 
 -- ---- each case's ending as literals, and whether the stored ledger itself is refused
-abbrev joined : StoredAccept
-joined =
+abbrev joined : OpeningAnswer → StoredAccept
+joined opening =
     StoredAccept.Accepted
     (record {
-      acceptance = record { reconciliation = sample; joining = Joined (record { entry = 34; contribution = 5600 }); opening = NotOpened };
+      acceptance = record { reconciliation = sample; joining = Joined (record { entry = 34; contribution = 5600 }); opening = opening };
       length = 130;
     })
 
@@ -37,7 +38,8 @@ abbrev acceptCases : List (StoredAccept × (Bool × Ending))
 acceptCases =
     (StoredAccept.NotRead (refusal 2 1 35), (true, endingOf 2 1 35 [])) ∷
     (StoredAccept.NotAccepted (refusal 5 2 3), (false, endingOf 5 2 3 [])) ∷
-    (joined, (false, endingOf 0 0 0 (pos 130 ∷ pos 1 ∷ pos 34 ∷ pos 5600 ∷ pos 0 ∷ sampleFigures))) ∷
+    (joined NotOpened, (false, endingOf 0 0 0 (pos 130 ∷ pos 1 ∷ pos 34 ∷ pos 5600 ∷ pos 0 ∷ sampleFigures))) ∷
+    (joined (Opened 12), (false, endingOf 0 0 0 (pos 130 ∷ pos 1 ∷ pos 34 ∷ pos 5600 ∷ pos 12 ∷ sampleFigures))) ∷
     []
 
 abbrev answerCases : List (StoredAnswer × (Bool × Ending))

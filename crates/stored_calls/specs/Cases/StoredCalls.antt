@@ -66,17 +66,17 @@ pub check-cases-hold :
 unfolding storedRead noParties readAnswer tableAnswer storedEntries storedSchemes storedLedger noSchemes valuesAt number checkFrom dueFrom allHad frontOf walkFrom fieldsFrom firstWith fieldsWith sameBytes sound partiesSound schemePlace schemesSound allZero sumOver firstPutIn
 check-cases-hold = (refl, refl, refl, refl)
 
--- a request that joins the scheme with this number, or opens one of cost 5 where the number is 0
-abbrev bill : ℕ → Bill
-bill scheme =
+-- a request with this X that joins the scheme with this number, none where it is 0; X above 4 opens a scheme
+abbrev bill : ℕ → ℕ → Bill
+bill x scheme =
     record {
-      reconciliation = reconciliationOf (record { me = 5; mc = 0; ce = 0; cc2 = 0; de = 0; tw = 0; hr = 0; ol = 0 }) 0 1 0;
+      reconciliation = reconciliationOf (record { me = x; mc = 0; ce = 0; cc2 = 0; de = 0; tw = 0; hr = 0; ol = 0 }) 0 1 0;
       terms = record { threshold = 4; fee = 1; minimum = 2; term = 84 };
       applicant = record { person = 9; month = 12; capacity = 3; scheme = scheme; mark = 0 };
     }
 
 abbrev answer : ℕ → JoiningAnswer → OpeningAnswer → ℕ → StoredCallAnswer
-answer scheme joining opening size = madeAccepted (record { reconciliation = bill scheme .reconciliation; joining = joining; opening = opening }) size
+answer x joining opening size = madeAccepted (record { reconciliation = bill x 0 .reconciliation; joining = joining; opening = opening }) size
 
 -- what accept comes to on a sound ledger with this pricing
 abbrev priced : State → Pricing → List ℕ → StoredCallAnswer
@@ -86,9 +86,9 @@ priced state pricing out =
     endBy (answerTo (booksOn state) decision) (writeOf (after .ledger) (after .table) out) out .answer
 
 -- a table of no record, then of one: "an opening on table length 0 is 9"
-pub opening-cases-hold : (book request : List ℕ) → priceOf book request ≡ Priced (bill 0) →
+pub opening-cases-hold : (book request : List ℕ) → priceOf book request ≡ Priced (bill 5 0) →
     (storedCallOf newForm 0 (accept book request) [] .answer ≡ notMade (refusal 9 0 0)) ×
-    (storedCallOf newForm 1 (accept book request) (replicate 97 7) .answer ≡ answer 0 NotAsked (Opened 1) 97)
+    (storedCallOf newForm 1 (accept book request) (replicate 97 7) .answer ≡ answer 5 NotAsked (Opened 1) 97)
 unfolding storedRead noParties answered leaves verdict writtenAnswer storedForm schemeParts partyParts recordBytes bytesOf flatMap readAnswer tableAnswer storedEntries storedSchemes storedLedger noSchemes valuesAt number checkFrom dueFrom allHad frontOf walkFrom fieldsFrom firstWith fieldsWith sameBytes sound partiesSound schemePlace schemesSound allZero sumOver firstPutIn
 opening-cases-hold book request is = (
   ap (λ pricing. priced (stateRead newForm 0) pricing []) is,
@@ -96,11 +96,21 @@ opening-cases-hold book request is = (
 )
 
 -- the one entry's record alone, then one more
-pub joining-cases-hold : (book request : List ℕ) → priceOf book request ≡ Priced (bill 1) →
+pub joining-cases-hold : (book request : List ℕ) → priceOf book request ≡ Priced (bill 4 1) →
     (storedCallOf oneForm 1 (accept book request) [] .answer ≡ notMade (refusal 9 0 0)) ×
-    (storedCallOf oneForm 2 (accept book request) (replicate 130 7) .answer ≡ answer 1 (Joined (record { entry = 2; contribution = 2 })) NotOpened 130)
+    (storedCallOf oneForm 2 (accept book request) (replicate 130 7) .answer ≡ answer 4 (Joined (record { entry = 2; contribution = 2 })) NotOpened 130)
 unfolding storedRead noParties answered leaves verdict writtenAnswer storedForm schemeParts partyParts recordBytes bytesOf flatMap readAnswer tableAnswer storedEntries storedSchemes storedLedger noSchemes valuesAt number checkFrom dueFrom allHad frontOf walkFrom fieldsFrom firstWith fieldsWith sameBytes sound partiesSound schemePlace schemesSound allZero sumOver firstPutIn
 joining-cases-hold book request is = (
   ap (λ pricing. priced (stateRead oneForm 1) pricing []) is,
   ap (λ pricing. priced (stateRead oneForm 2) pricing (replicate 130 7)) is,
+)
+
+-- a joiner that builds on: one record more than the one entry's, then two; its entry is 2, and the scheme that opens is the second
+pub building-on-cases-hold : (book request : List ℕ) → priceOf book request ≡ Priced (bill 5 1) →
+    (storedCallOf oneForm 2 (accept book request) [] .answer ≡ notMade (refusal 9 0 0)) ×
+    (storedCallOf oneForm 3 (accept book request) (replicate 190 7) .answer ≡ answer 5 (Joined (record { entry = 2; contribution = 2 })) (Opened 2) 190)
+unfolding storedRead noParties answered leaves verdict writtenAnswer storedForm schemeParts partyParts recordBytes bytesOf flatMap readAnswer tableAnswer storedEntries storedSchemes storedLedger noSchemes valuesAt number checkFrom dueFrom allHad frontOf walkFrom fieldsFrom firstWith fieldsWith sameBytes sound partiesSound schemePlace schemesSound allZero sumOver firstPutIn
+building-on-cases-hold book request is = (
+  ap (λ pricing. priced (stateRead oneForm 2) pricing []) is,
+  ap (λ pricing. priced (stateRead oneForm 3) pricing (replicate 190 7)) is,
 )

@@ -1,5 +1,6 @@
 use super::damage::stored_form;
 use differential::{Buffers, LibraryCall, Tally};
+use fikrem::raw::ANSWER;
 use fikrem::LONGEST_TABLE;
 use generate::calls::{after, filling};
 use generate::{Book, Random, Request};
@@ -15,6 +16,7 @@ pub fn every_length(tally: &mut Tally) {
     let stored = &stored_form(&ledger, &parties)[..];
     let book = &Book::slip().encode()[..];
     let request = &Request { month: ledger.month, ..Request::slip() }.encode()[..];
+    let building_on = &Request { month: ledger.month, scheme: 1, ..Request::extension(6_000_000) }.encode()[..];
     let table_size = LONGEST_TABLE;
     let unpriced = &Request { zone: 3, ..Request::slip() }.encode()[..];
     let calls = [
@@ -25,6 +27,7 @@ pub fn every_length(tally: &mut Tally) {
         (LibraryCall::NewLedger, 37),
         (LibraryCall::Accept { stored, table_size, book, request }, stored.len()),
         (LibraryCall::Accept { stored, table_size, book, request: unpriced }, stored.len()),
+        (LibraryCall::Accept { stored, table_size, book, request: building_on }, stored.len() + 27 + 2 * 33),
         (LibraryCall::PayOut { stored, table_size, entry: 1, amount: 1 }, stored.len()),
         (LibraryCall::PayOut { stored, table_size, entry: 0, amount: 1 }, stored.len()),
         (LibraryCall::HandOver { stored, table_size, entry: 9, person: 1 }, stored.len()),
@@ -36,13 +39,13 @@ pub fn every_length(tally: &mut Tally) {
     for (call, length) in &calls {
         for out in lengths(*length.max(&2)) {
             for figures in [0, 1, 20, 21, 22] {
-                for answer in 0..6 {
+                for answer in 0..=ANSWER + 1 {
                     tally.compare_on(call, Buffers::of(out, figures, answer));
                 }
             }
         }
         for out in 0..*length {
-            tally.compare_on(call, Buffers::of(out, 21, 4));
+            tally.compare_on(call, Buffers::of(out, 21, ANSWER));
         }
     }
 }

@@ -11,11 +11,11 @@ use reference::{Ledger, Refusal};
 /// The library's result and answer are the reference implementation's.
 fn same_answer(outcome: &Result<Outcome, Refusal>, result: u64, seen: &Buffers) {
     let places = match outcome {
-        Ok(Outcome::Done) => [0; 3],
+        Ok(Outcome::Done) => [0; 4],
         Ok(Outcome::Accepted(_, answer)) => places_of_answer(*answer),
         Err(refusal) => return assert_eq!(raw::number(result), refusal.number.into()),
     };
-    assert_eq!((result, &seen.answer[..3]), (raw::DONE, &places[..]));
+    assert_eq!((result, &seen.answer[..raw::WRITTEN]), (raw::DONE, &places[..]));
 }
 
 /// Runs a list from a new ledger on a table of this length: the library from stored form to stored form, the reference

@@ -2,7 +2,8 @@ use super::cases;
 use super::damage::stored_form;
 use differential::wanted::{figures_of, table};
 use differential::{Buffers, LibraryCall, Tally};
-use fikrem::{Answer, Bill, Holdings, Refused, LONGEST_TABLE};
+use fikrem::raw::{ANSWER, WRITTEN};
+use fikrem::{Answer, Bill, Holdings, Joining, Refused, LONGEST_TABLE};
 use generate::calls::{calls, Call, Outcome};
 use generate::damage::damaged;
 use generate::ledgers::table_size;
@@ -51,14 +52,12 @@ fn same_outcome(answer: Answer, bill: &Bill, call: &Call, wanted: &Outcome) {
     let (Outcome::Accepted(_, wanted), Call::Accept { book, request }) = (wanted, call) else {
         panic!("an accept is accepted");
     };
-    let wanted = match *wanted {
-        reference::Answer::Plain => Answer::Plain,
-        reference::Answer::Opened(scheme) => Answer::Opened { scheme },
-        reference::Answer::Joined { entry, collected } => Answer::Joined { entry, collected },
-        reference::Answer::Small => Answer::Small,
-        reference::Answer::Ended => Answer::Ended,
-    };
-    assert_eq!(answer, wanted);
+    let joining = wanted.joining.map(|joining| match joining {
+        reference::Joining::Joined { entry, collected } => Joining::Joined { entry, collected },
+        reference::Joining::Small => Joining::Small,
+        reference::Joining::Ended => Joining::Ended,
+    });
+    assert_eq!(answer, Answer { joining, opened: wanted.opened });
     same_bill(bill, &reference::price(book, request).expect("an accepted request is priced"));
 }
 
@@ -171,9 +170,9 @@ fn result(outcome: &Result<Outcome, Refusal>) -> u64 {
 
 /// Buffers that hold accept's answer, for the count.
 fn answered(outcome: &Result<Outcome, Refusal>) -> Buffers {
-    let mut buffers = Buffers::of(0, 0, 4);
+    let mut buffers = Buffers::of(0, 0, ANSWER);
     if let Ok(Outcome::Accepted(_, answer)) = outcome {
-        buffers.answer[..3].copy_from_slice(&differential::wanted::places_of_answer(*answer));
+        buffers.answer[..WRITTEN].copy_from_slice(&differential::wanted::places_of_answer(*answer));
     }
     buffers
 }
