@@ -53,6 +53,13 @@ static uint64_t price(size_t figures_places)
     return fikrem_price(lent.book, book_size, lent.request, request_size, lent.figures, figures_places);
 }
 
+/* Distribution from one figure to another, transmission from 0 to 1. */
+static uint64_t price_band(uint64_t low, uint64_t high, size_t figures_places)
+{
+    mark();
+    return fikrem_price_band(lent.book, book_size, lent.request, request_size, low, high, 0, 1, lent.figures, figures_places);
+}
+
 static uint64_t slip_text(size_t text_size, size_t answer_places)
 {
     mark();
@@ -112,10 +119,10 @@ static void tell(const char *call, uint64_t result)
     printf("\n");
 }
 
-static void tell_figures(void)
+static void tell_figures(int places)
 {
     printf("figures");
-    for (int place = 0; place < FIKREM_FIGURES; place++) {
+    for (int place = 0; place < places; place++) {
         printf(" %" PRId64, lent.figures[place]);
     }
     printf("\n");
@@ -135,7 +142,7 @@ static void try_price(void)
     if (price(FIKREM_FIGURES) == FIKREM_DONE) {
         puts("price: done");
     }
-    tell_figures();
+    tell_figures(FIKREM_FIGURES);
     lent.request[0] ^= 1;
     tell("price, a byte of the request altered", price(FIKREM_FIGURES));
     lent.request[0] ^= 1;
@@ -150,7 +157,7 @@ static void try_classes(void)
     if (price(FIKREM_FIGURES) == FIKREM_DONE) {
         puts("price by a book with opex: done");
     }
-    tell_figures();
+    tell_figures(FIKREM_FIGURES);
     set_class(1, 1);
     tell("price, non-residential with an operating loading", price(FIKREM_FIGURES));
     set_class(3, 1);
@@ -159,10 +166,24 @@ static void try_classes(void)
     if (price(FIKREM_FIGURES) == FIKREM_DONE) {
         puts("price, special pricing with an operating loading: done");
     }
-    tell_figures();
+    tell_figures(FIKREM_FIGURES);
     set_class(1, 0);
     value_of(lent.book, 0x03)[3] = 0;
     set_check(lent.book, book_size);
+}
+
+static void try_price_band(void)
+{
+    if (price_band(50000, 57320, FIKREM_BAND) == FIKREM_DONE) {
+        puts("price band: done");
+    }
+    tell_figures(FIKREM_BAND);
+    tell("price band, a low above its high", price_band(57321, 57320, FIKREM_BAND));
+    tell("price band, 2^32 + 1", price_band(0, 4294967297u, FIKREM_BAND));
+    tell("price band, 5 figures", price_band(0, 1, FIKREM_BAND - 1));
+    lent.request[0] ^= 1;
+    tell("price band, a byte of the request altered", price_band(1, 0, FIKREM_BAND));
+    lent.request[0] ^= 1;
 }
 
 static void try_slip_text(void)
@@ -187,7 +208,7 @@ static void try_new_ledger(void)
 static void try_accept(void)
 {
     tell("accept", accept(sizeof lent.out, FIKREM_FIGURES, FIKREM_ANSWER));
-    tell_figures();
+    tell_figures(FIKREM_FIGURES);
     join_scheme(1, 0);
     tell("accept, no such scheme", accept(sizeof lent.out, FIKREM_FIGURES, FIKREM_ANSWER));
     join_scheme(0, 0);
@@ -265,6 +286,7 @@ int main(int count, char **names)
     request_size = read_file(names[2], lent.request);
     try_price();
     try_classes();
+    try_price_band();
     try_slip_text();
     try_new_ledger();
     try_accept();

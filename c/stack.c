@@ -29,6 +29,11 @@ static void price(void)
     result = fikrem_price(book, book_size, request, request_size, figures, FIKREM_FIGURES);
 }
 
+static void price_band(void)
+{
+    result = fikrem_price_band(book, book_size, request, request_size, 0, 57320, 0, 1, figures, FIKREM_FIGURES);
+}
+
 static void slip_text(void)
 {
     result = fikrem_slip_text(book, book_size, request, request_size, text, sizeof text, answer, FIKREM_ANSWER);
@@ -131,6 +136,7 @@ int main(int count, char **names)
     book_size = read_file(names[1], book);
     request_size = read_file(names[2], request);
     tell("price", price, 4);
+    tell("price band", price_band, 4);
     tell("slip text", slip_text, 12);
     tell("page", page, 4);
     tell("new ledger", new_ledger, 40);

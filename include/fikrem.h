@@ -1,17 +1,17 @@
 /* Fikrem for the firmware of quoting units: connection charges and pioneer ledgers on lent buffers.
  *
- * Link target/staticlib/libquoting_unit.a (x86-64), and libfikrem_page.a beside it for fikrem_page. They need memcpy and memset,
- * which every C library has, and nothing else. No call allocates, keeps anything or writes past the sizes that it is handed. Every
- * buffer is a pointer and its size in elements. No pointer is NULL, also where its size is 0, and no two buffers of one call overlap
- * where one of them is written.
+ * Link target/staticlib/libquoting_unit.a (x86-64), and beside it libfikrem_page.a for fikrem_page and libfikrem_price_band.a for
+ * fikrem_price_band. They need memcpy and memset, which every C library has, and nothing else. No call allocates, keeps anything or
+ * writes past the sizes that it is handed. Every buffer is a pointer and its size in elements. No pointer is NULL, also where its size
+ * is 0, and no two buffers of one call overlap where one of them is written.
  *
  * docs/FORMAT.md has the bytes of a rate book, a request and a stored ledger with every limit; docs/RULES.md the rules: which bespoke
  * rates are allowed ('Charge and reconciliation'), when a scheme opens or is joined ('Accept'), which ledgers are sound ('Soundness').
  *
  * Money is in whole cents, capacity in hundredths of a kVA; a month is year * 12 + (month - 1), so that April 2026 is 24315.
  *
- * A call takes at most this much stack, in KiB, as c/stack.c measures it on a painted stack with the longest ledger: price 4, page 4,
- * slip text 12, new ledger 40, check of a ledger 80, pay-out and hand-over 112, accept 136, check of bytes 1.
+ * A call takes at most this much stack, in KiB, as c/stack.c measures it on a painted stack with the longest ledger: price 4, price
+ * band 4, page 4, slip text 12, new ledger 40, check of a ledger 80, pay-out and hand-over 112, accept 136, check of bytes 1.
  */
 #ifndef FIKREM_H
 #define FIKREM_H
@@ -25,9 +25,10 @@
 /* Each result but that of fikrem_check is FIKREM_DONE, or a refusal: its number, its file, whether it is of the stored ledger
  * itself, and its place, which these take out of it. A refused call has written nothing: every byte of every buffer is as it was.
  *
- * File: 1 the book, or the stored ledger where that is refused itself; 2 the request, and for 4 and 5; 0 from number 6 on.
+ * File: 1 the book, or the stored ledger where that is refused itself; 2 the request, and for 4 and 5; 0 from number 6 on, and for 3
+ * where a figure of fikrem_price_band is past its limit.
  * Of ledger: 1 where the stored ledger itself is refused, so that file 1 is not mistaken for the book; otherwise 0.
- * Place: the offset of a byte in the file for 1 to 3, the tier, 1 to 5, for 5, otherwise 0. For 1 the offset of the first field
+ * Place: the offset of a byte in the file for 1 to 3 (0 where the file is 0), the tier, 1 to 5, for 5, otherwise 0. For 1 the offset of the first field
  * that can't stand there, or 0 where the last five bytes are wrong; for 2 of the check; for 3 of the value's first byte. */
 #define FIKREM_NUMBER(result) ((result) % 16)
 #define FIKREM_FILE(result) ((result) / 16 % 4)
@@ -50,7 +51,8 @@ enum fikrem_number {
     FIKREM_NO_ENTRY = 11,      /* there is no such entry */
     FIKREM_ABOVE_CREDIT = 12,  /* the pay-out is above the standing credit */
     FIKREM_UNSOUND = 13,       /* the stored ledger is unsound */
-    FIKREM_SHORT_BUFFER = 14   /* the output, the answer or the figures are too short */
+    FIKREM_SHORT_BUFFER = 14,  /* the output, the answer or the figures are too short */
+    FIKREM_LOW_ABOVE_HIGH = 15 /* a low revenue is above its high */
 };
 
 /* The answer of a done call: at least FIKREM_ANSWER places. Where it has fewer, or the figures fewer than FIKREM_FIGURES, the
@@ -104,6 +106,17 @@ enum fikrem_figure {
     FIKREM_FIGURES = 21
 };
 
+/* The figures of a done fikrem_price_band: at least FIKREM_BAND places, in cents. */
+enum fikrem_band {
+    FIKREM_LOWEST_IR = 0,
+    FIKREM_HIGHEST_IR = 1,
+    FIKREM_LOWEST_CC = 2,
+    FIKREM_HIGHEST_CC = 3,
+    FIKREM_LOWEST_NC = 4,      /* may be negative */
+    FIKREM_HIGHEST_NC = 5,     /* may be negative */
+    FIKREM_BAND = 6
+};
+
 /* The longest book and request, in bytes; longer ones are refused by 1 or 2. */
 #define FIKREM_BOOK_SIZE 313
 #define FIKREM_REQUEST_SIZE 205
@@ -126,6 +139,15 @@ extern "C" {
  * 4, 5. */
 uint64_t fikrem_price(const uint8_t *book, size_t book_size, const uint8_t *request, size_t request_size,
                       int64_t *figures, size_t figures_places);
+
+/* Lowest and highest IR, CC and NC where year-one revenue is known only between two figures, in cents, which stand in for the
+ * request's field 08; that field is judged all the same. Each of the six is what fikrem_price gives for some revenues between them, and
+ * it gives nothing outside for any. Refusals in turn: 14 for fewer than FIKREM_BAND places; the book's 1 to 3, the request's 1 to 3; 4,
+ * 5; 3 with file and place 0 for a figure above 1,000,000,000; 15 for a low above its high. In libfikrem_price_band.a. */
+uint64_t fikrem_price_band(const uint8_t *book, size_t book_size, const uint8_t *request, size_t request_size,
+                           uint64_t distribution_low, uint64_t distribution_high,
+                           uint64_t transmission_low, uint64_t transmission_high,
+                           int64_t *figures, size_t figures_places);
 
 /* The slip's lines into text, FIKREM_TEXT_SIZE bytes at most, without a closing 0; how many in FIKREM_WRITTEN. A request that is not
  * priced has a slip too, the line `REFUSED n file place`: then too the call is done. Refusals: 14. */

@@ -5,7 +5,7 @@ use mathlib.Core.List.{List, [], _∷_, _++_}
 use lib.Dec.{ltb, eqb}
 use lib.IntN.{ℤ}
 use lib.ListN.{length, drop}
-use Rattle.tagged.specs.Refusals.{outputTooShort}
+use Rattle.tagged.specs.Refusals.{lowAboveHigh}
 use Rattle.tagged.specs.declared.file.Refusal.{Refusal}
 use Rattle.reconciliation.specs.Figures.{figureValues}
 use Rattle.reconciliation.specs.declared.Reconciliation.{Reconciliation}
@@ -13,9 +13,9 @@ use Rattle.quoting_unit.specs.declared.Outcome.{Outcome}
 
 -- ---- the result: 0 where the call is done, otherwise the refusal
 
--- the last number of document 01's table
+-- the last number of a refusal: document 01's table, and document 02's E5 after it
 abbrev pub lastNumber : ℕ
-lastNumber = outputTooShort
+lastNumber = lowAboveHigh
 
 -- what one counts in a result: of the file, of whether it is of the stored ledger itself, of the place
 abbrev pub fileWeight : ℕ

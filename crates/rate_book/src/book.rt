@@ -79,7 +79,7 @@ fn judge_book(fields: &[u8], rates: Rates) -> Judged
     in_order(letters, in_order(rate, in_order(sums, factors)))
 }
 
-fn book_values(fields: &[u8]) -> Book
+pub fn book_values(fields: &[u8]) -> Book
     requires { ⌜ FieldsWalk bookRows (now fields) ⌝ }
     ensures { λ r. ⌜ r ≡ bookValues (now (fields .entry)) ⌝ }
 {

@@ -1,3 +1,4 @@
 pub mod Request
 pub mod RequestSizes
+pub mod WithRevenues
 pub mod RequestLimits

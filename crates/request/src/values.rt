@@ -110,7 +110,7 @@ fn judge_request(fields: &[u8]) -> Judged
     in_order(letters, in_order(charges, in_order(tiers, later)))
 }
 
-fn request_values(fields: &[u8]) -> Request
+pub fn request_values(fields: &[u8]) -> Request
     requires { ⌜ FieldsWalk requestRows (now fields) ⌝ }
     ensures { λ r. ⌜ r ≡ requestValues (now (fields .entry)) ⌝ }
 {

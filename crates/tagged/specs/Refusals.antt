@@ -56,3 +56,7 @@ ledgerUnsound = 13
 -- "output shorter than the stored form"
 abbrev pub outputTooShort : ℕ
 outputTooShort = 14
+
+-- document 02, E5: "a low above its high"
+abbrev pub lowAboveHigh : ℕ
+lowAboveHigh = 15

@@ -8,3 +8,4 @@ pub mod FieldsWith
 pub mod Impossible
 pub mod TestedAnswers
 pub mod WalkEncoded
+pub mod WithField

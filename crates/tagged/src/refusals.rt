@@ -27,3 +27,5 @@ pub const PAY_OUT_ABOVE_CREDIT: u8 = 12;
 pub const LEDGER_UNSOUND: u8 = 13;
 
 pub const OUTPUT_TOO_SHORT: u8 = 14;
+
+pub const LOW_ABOVE_HIGH: u8 = 15;

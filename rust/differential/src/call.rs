@@ -4,10 +4,11 @@ use fikrem::raw::{self, ANSWER, FIGURES};
 use fikrem::{Refusal, LONGEST_FORM};
 use generate::Call;
 
-/// A call of the library.
+/// A call of the library. The revenues of a band are low and high, distribution then transmission.
 #[derive(Debug, Clone, Copy)]
 pub enum LibraryCall<'a> {
     Price { book: &'a [u8], request: &'a [u8] },
+    PriceBand { book: &'a [u8], request: &'a [u8], revenues: [u64; 4] },
     SlipText { book: &'a [u8], request: &'a [u8] },
     Page { book: &'a [u8], request: &'a [u8] },
     NewLedger,
@@ -32,6 +33,7 @@ impl<'a> LibraryCall<'a> {
         let Buffers { out, figures, answer } = buffers;
         match *self {
             LibraryCall::Price { book, request } => raw::price(book, request, figures),
+            LibraryCall::PriceBand { book, request, revenues } => raw::price_band(book, request, revenues, figures),
             LibraryCall::SlipText { book, request } => raw::slip_text(book, request, out, answer),
             LibraryCall::Page { book, request } => match fikrem::page_into(book, request, out) {
                 Ok(()) => raw::DONE,
@@ -54,6 +56,7 @@ impl<'a> LibraryCall<'a> {
     pub fn name(&self) -> &'static str {
         match self {
             LibraryCall::Price { .. } => "price",
+            LibraryCall::PriceBand { .. } => "price band",
             LibraryCall::SlipText { .. } => "slip text",
             LibraryCall::Page { .. } => "page",
             LibraryCall::NewLedger => "new ledger",

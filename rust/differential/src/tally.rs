@@ -6,8 +6,8 @@ use fikrem::raw;
 use std::collections::BTreeMap;
 use std::time::Instant;
 
-/// The refusals of document 01 have the numbers 1 to 14.
-const NUMBERS: usize = 14;
+/// The refusals have the numbers 1 to 15.
+const NUMBERS: usize = 15;
 /// Those of a stored ledger itself.
 const OF_LEDGER: [usize; 5] = [1, 2, 3, 9, 13];
 

@@ -1,10 +1,11 @@
 //! What a call of the library must come to, by the reference implementation.
 
 use crate::call::{refused, Buffers, LibraryCall};
-use fikrem::raw::{ANSWER, FIGURES};
+use fikrem::raw::{ANSWER, BAND, FIGURES};
 use generate::{Call, Outcome};
 use reference::ledger::MOST_ENTRIES;
-use reference::{page, price, read_ledger, slip, write_ledger, Answer, Bill, Joining, Ledger, Party, Refusal};
+use reference::{page, price, price_band, read_ledger, slip, write_ledger};
+use reference::{Answer, Bill, Joining, Ledger, Party, PriceBand, Refusal};
 
 const OUTPUT: Refusal = Refusal { number: 14, file: 0, place: 0 };
 
@@ -33,9 +34,14 @@ type Places = [u64; ANSWER];
 /// Makes the call by the reference implementation; the result and what stands in the buffers after it. A refusal
 /// changes none of them.
 pub fn run(call: &LibraryCall, buffers: &mut Buffers) -> u64 {
-    let answered = !matches!(call, LibraryCall::Price { .. } | LibraryCall::Page { .. });
-    let figures_written = matches!(call, LibraryCall::Price { .. } | LibraryCall::Accept { .. });
-    if (answered && buffers.answer.len() < ANSWER) || (figures_written && buffers.figures.len() < FIGURES) {
+    let (answered, figures_written) = match call {
+        LibraryCall::Price { .. } => (false, FIGURES),
+        LibraryCall::PriceBand { .. } => (false, BAND),
+        LibraryCall::Page { .. } => (false, 0),
+        LibraryCall::Accept { .. } => (true, FIGURES),
+        _ => (true, 0),
+    };
+    if (answered && buffers.answer.len() < ANSWER) || buffers.figures.len() < figures_written {
         return Refused::from(OUTPUT).result();
     }
     match places_of(call, &mut buffers.out, &mut buffers.figures) {
@@ -50,6 +56,11 @@ fn places_of(call: &LibraryCall, out: &mut [u8], figures: &mut [i64]) -> Result<
     match *call {
         LibraryCall::Price { book, request } => {
             figures[..FIGURES].copy_from_slice(&figures_of(&price(book, request)?));
+            Ok([0; ANSWER])
+        }
+        LibraryCall::PriceBand { book, request, revenues: [low, high, low_transmission, high_transmission] } => {
+            let band = price_band(book, request, low, high, low_transmission, high_transmission)?;
+            figures[..BAND].copy_from_slice(&figures_of_band(&band));
             Ok([0; ANSWER])
         }
         LibraryCall::SlipText { book, request } => {
@@ -131,4 +142,10 @@ pub fn figures_of(bill: &Bill) -> [i64; FIGURES] {
         figures[16 + 2 * index] = percentage.unwrap_or(0);
     }
     figures
+}
+
+/// IR, CC and NC, each lowest then highest.
+pub fn figures_of_band(band: &PriceBand) -> [i64; BAND] {
+    let ([ir, highest_ir], [cc, highest_cc], [nc, highest_nc]) = (band.ir, band.cc, band.nc);
+    [ir as i64, highest_ir as i64, cc as i64, highest_cc as i64, nc, highest_nc]
 }

@@ -1,6 +1,6 @@
-//! Pricing, the slip and the page.
+//! Pricing, the price band, the slip and the page.
 
-use crate::raw::{self, ANSWER, FIGURES};
+use crate::raw::{self, ANSWER, BAND, FIGURES};
 use crate::refusal::Refusal;
 
 /// The most bytes that a slip has.
@@ -83,6 +83,46 @@ pub fn price(book: &[u8], request: &[u8]) -> Result<Bill, Refusal> {
     let mut figures = [0; FIGURES];
     match raw::price(book, request, &mut figures) {
         raw::DONE => Ok(Bill::of(&figures)),
+        result => Err(Refusal::of(result)),
+    }
+}
+
+/// Year-one revenue known only between two figures, in cents: what stands in for the request's field 08.
+#[derive(Debug, Clone, Copy, PartialEq, Eq)]
+pub struct Bands {
+    pub distribution_low: u64,
+    pub distribution_high: u64,
+    pub transmission_low: u64,
+    pub transmission_high: u64,
+}
+
+/// Lowest and highest IR, CC and NC, in cents.
+#[derive(Debug, Clone, Copy, PartialEq, Eq)]
+pub struct PriceBand {
+    pub lowest_ir: u64,
+    pub highest_ir: u64,
+    pub lowest_cc: u64,
+    pub highest_cc: u64,
+    pub lowest_nc: i64,
+    pub highest_nc: i64,
+}
+
+/// What pricing a request by a book comes to at least and at most, for any revenues inside the bands; refused after 5 by
+/// 3, file and place 0, where a figure is above 1,000,000,000, then by 15 where a low is above its high.
+pub fn price_band(book: &[u8], request: &[u8], bands: Bands) -> Result<PriceBand, Refusal> {
+    let Bands { distribution_low, distribution_high, transmission_low, transmission_high } = bands;
+    let revenues = [distribution_low, distribution_high, transmission_low, transmission_high];
+    let mut figures = [0; BAND];
+    match raw::price_band(book, request, revenues, &mut figures) {
+        raw::DONE => Ok(PriceBand {
+            // IR and CC are never below 0
+            lowest_ir: figures[raw::LOWEST_IR] as u64,
+            highest_ir: figures[raw::HIGHEST_IR] as u64,
+            lowest_cc: figures[raw::LOWEST_CC] as u64,
+            highest_cc: figures[raw::HIGHEST_CC] as u64,
+            lowest_nc: figures[raw::LOWEST_NC],
+            highest_nc: figures[raw::HIGHEST_NC],
+        }),
         result => Err(Refusal::of(result)),
     }
 }

@@ -22,6 +22,7 @@ pub const NO_ENTRY: u64 = 11;
 pub const ABOVE_CREDIT: u64 = 12;
 pub const UNSOUND: u64 = 13;
 pub const SHORT_BUFFER: u64 = 14;
+pub const LOW_ABOVE_HIGH: u64 = 15;
 
 /// The number of the refusal that a result is.
 pub fn number(result: u64) -> u64 {
@@ -87,6 +88,15 @@ pub const HAS_NCRATIO: usize = 19;
 pub const NCRATIO: usize = 20;
 pub const FIGURES: usize = 21;
 
+// Places of the figures of a band, and how many they are.
+pub const LOWEST_IR: usize = 0;
+pub const HIGHEST_IR: usize = 1;
+pub const LOWEST_CC: usize = 2;
+pub const HIGHEST_CC: usize = 3;
+pub const LOWEST_NC: usize = 4;
+pub const HIGHEST_NC: usize = 5;
+pub const BAND: usize = 6;
+
 // The most bytes of a book, a request, a slip and a stored ledger, the bytes of a page, and the records of the longest
 // party table.
 pub const BOOK_SIZE: usize = 313;
@@ -103,6 +113,18 @@ mod declared {
             book_size: usize,
             request: *const u8,
             request_size: usize,
+            figures: *mut i64,
+            figures_places: usize,
+        ) -> u64;
+        pub fn fikrem_price_band(
+            book: *const u8,
+            book_size: usize,
+            request: *const u8,
+            request_size: usize,
+            distribution_low: u64,
+            distribution_high: u64,
+            transmission_low: u64,
+            transmission_high: u64,
             figures: *mut i64,
             figures_places: usize,
         ) -> u64;
@@ -183,6 +205,25 @@ pub fn price(book: &[u8], request: &[u8], figures: &mut [i64]) -> u64 {
             book.len(),
             request.as_ptr(),
             request.len(),
+            figures.as_mut_ptr(),
+            figures.len(),
+        )
+    }
+}
+
+/// The figures are low and high year-one revenue, distribution then transmission.
+pub fn price_band(book: &[u8], request: &[u8], revenues: [u64; 4], figures: &mut [i64]) -> u64 {
+    let [distribution_low, distribution_high, transmission_low, transmission_high] = revenues;
+    unsafe {
+        declared::fikrem_price_band(
+            book.as_ptr(),
+            book.len(),
+            request.as_ptr(),
+            request.len(),
+            distribution_low,
+            distribution_high,
+            transmission_low,
+            transmission_high,
             figures.as_mut_ptr(),
             figures.len(),
         )

@@ -4,7 +4,7 @@ use crate::raw;
 use std::fmt;
 
 /// The refusals in the header's words, from number 1 on.
-const WORDS: [&str; 14] = [
+const WORDS: [&str; 15] = [
     "a field can't stand at the place, or the file's last five bytes are wrong",
     "the file's check differs",
     "a value is past its limits, or the file's letters differ; in a stored ledger only the letters",
@@ -19,15 +19,17 @@ const WORDS: [&str; 14] = [
     "the pay-out is above the standing credit",
     "the stored ledger is unsound",
     "the output, the answer or the figures are too short",
+    "a low revenue is above its high",
 ];
 
-/// A refusal: its number, 1 to 14, the file it is about and the place in it.
+/// A refusal: its number, 1 to 15, the file it is about and the place in it.
 #[derive(Debug, Clone, Copy, PartialEq, Eq)]
 pub struct Refusal {
     pub number: u8,
-    /// "1 book or a file read alone; 2 request, and for 4 and 5; 0 from 6 on"
+    /// "1 book or a file read alone; 2 request, and for 4 and 5; 0 from 6 on"; 0 too for 3 where a band's figure is past
+    /// its limit
     pub file: u8,
-    /// An offset in the file for 1 to 3, the tier for 5, otherwise 0.
+    /// An offset in the file for 1 to 3 (0 where that is 0), the tier for 5, otherwise 0.
     pub place: usize,
 }
 

@@ -9,6 +9,7 @@ const HEADER: &str = "../../include/fikrem.h";
 const RAW: &str = "src/raw.rs";
 const LIBRARY: &str = "../../crates/quoting_unit/src/lib.rt";
 const PAGE_LIBRARY: &str = "../../crates/fikrem_page/src/lib.rt";
+const BAND_LIBRARY: &str = "../../crates/fikrem_price_band/src/lib.rt";
 
 /// A function's parameters, each with its kind, and the kind of its result.
 type Function = (Vec<(String, String)>, String);
@@ -97,7 +98,7 @@ fn as_pointer((name, kind): (String, String)) -> Vec<(String, String)> {
 }
 
 fn functions_of_library() -> BTreeMap<String, Function> {
-    let library = text(LIBRARY) + &text(PAGE_LIBRARY);
+    let library = text(LIBRARY) + &text(PAGE_LIBRARY) + &text(BAND_LIBRARY);
     let exported = library.split("#[no_mangle]").skip(1).map(|part| split(part, "pub extern \"C\" fn ").1);
     exported
         .map(function_of_rust)
@@ -108,7 +109,7 @@ fn functions_of_library() -> BTreeMap<String, Function> {
 #[test]
 fn the_same_functions() {
     let (header, raw, library) = (functions_of_header(), functions_of_raw(), functions_of_library());
-    assert_eq!(library.len(), 9);
+    assert_eq!(library.len(), 10);
     let names = |functions: &BTreeMap<String, Function>| functions.keys().cloned().collect::<Vec<_>>();
     assert_eq!(names(&header), names(&library), "names of {HEADER} and {LIBRARY}");
     assert_eq!(names(&raw), names(&library), "names of {RAW} and {LIBRARY}");
@@ -145,9 +146,11 @@ fn numbers_of_rust(text: &str) -> BTreeMap<String, String> {
 fn the_same_numbers() {
     let (header, raw) = (numbers_of_header(), numbers_of_rust(&text(RAW)));
     assert_eq!(raw, header, "{RAW} and {HEADER}");
-    let library = numbers_of_rust(&text(LIBRARY));
-    for name in ["ANSWER", "FIGURES"] {
-        assert_eq!(library.get(name), header.get(name), "{name} of {LIBRARY} and {HEADER}");
+    for (library, names) in [(LIBRARY, &["ANSWER", "FIGURES"][..]), (BAND_LIBRARY, &["BAND"])] {
+        let numbers = numbers_of_rust(&text(library));
+        for &name in names {
+            assert_eq!(numbers.get(name), header.get(name), "{name} of {library} and {HEADER}");
+        }
     }
     assert_eq!(fikrem::LONGEST_SLIP.to_string(), header["TEXT_SIZE"]);
     assert_eq!(fikrem::PAGE.to_string(), header["PAGE_SIZE"]);
@@ -186,7 +189,7 @@ fn the_same_words() {
     let header = text(HEADER);
     let results = split(split(&header, "enum fikrem_number {").1, "};").0;
     let mut refusals = results.lines().map(str::trim).filter(|line| line.contains("/*"));
-    for number in 1..=14 {
+    for number in 1..=15 {
         let line = refusals.next().unwrap_or_default();
         let (enumerator, comment) = split(line, "/*");
         assert_eq!(split(enumerator, " = ").1.trim_end_matches([' ', ',']), number.to_string());

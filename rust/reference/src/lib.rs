@@ -10,6 +10,7 @@ pub mod file;
 pub mod ledger;
 pub mod page;
 pub mod page_reader;
+pub mod price_band;
 pub mod pricing;
 pub mod rate_book;
 pub mod refusal;
@@ -19,6 +20,7 @@ pub mod stored;
 
 pub use ledger::{accept, hand_over, pay_out, Answer, Joining, Ledger, Party, Scheme};
 pub use page::page;
+pub use price_band::{price_band, PriceBand};
 pub use pricing::{price, Bill, Reconciliation};
 pub use refusal::Refusal;
 pub use slip::slip;

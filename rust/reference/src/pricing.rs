@@ -67,14 +67,32 @@ pub struct Bill {
     pub mark: u8,
 }
 
+/// A book and a request that it prices, and the rate at which each tier is charged.
+pub(crate) struct Priceable {
+    book: RateBook,
+    pub(crate) request: Request,
+    rates: [u32; TIERS],
+}
+
+impl Priceable {
+    /// "book, request, 4, 5"
+    pub(crate) fn read(book: &[u8], request: &[u8]) -> Result<Priceable, Refusal> {
+        let book = RateBook::read(book)?;
+        let request = Request::read(request)?;
+        let zone_refused = Refusal { number: refusal::ZONE, file: refusal::REQUEST, place: 0 };
+        let posted = book.zones.posted_rates(request.zone).ok_or(zone_refused)?;
+        let rates = tier_rates(posted, &request.tiers)?;
+        Ok(Priceable { book, request, rates })
+    }
+
+    pub(crate) fn bill(&self) -> Bill {
+        bill(&self.book, &self.request, &self.rates)
+    }
+}
+
 /// Prices a request by a book. "Pricing (slip): book, request, 4, 5."
 pub fn price(book: &[u8], request: &[u8]) -> Result<Bill, Refusal> {
-    let book = RateBook::read(book)?;
-    let request = Request::read(request)?;
-    let zone_refused = Refusal { number: refusal::ZONE, file: refusal::REQUEST, place: 0 };
-    let posted = book.zones.posted_rates(request.zone).ok_or(zone_refused)?;
-    let rates = tier_rates(posted, &request.tiers)?;
-    Ok(bill(&book, &request, &rates))
+    Ok(Priceable::read(book, request)?.bill())
 }
 
 /// The rate at which each tier is charged, 0 where it costs nothing.

@@ -36,9 +36,11 @@ pub const STANDING_CREDIT: u8 = 12;
 pub const UNSOUND: u8 = 13;
 /// "output shorter than the stored form"; of a page, "An output under 768 bytes"
 pub const OUTPUT: u8 = 14;
+/// Of a price band, "a low above its high"
+pub const BAND: u8 = 15;
 
 /// The refusals in words that stand by themselves, from number 1 on.
-const WORDS: [&str; 14] = [
+const WORDS: [&str; 15] = [
     "file doesn't walk as tagged fields",
     "check differs",
     "value past its limits or letters that differ; in a stored ledger only the letters",
@@ -53,9 +55,10 @@ const WORDS: [&str; 14] = [
     "pay-out above standing credit",
     "ledger unsound, or table shorter than its entries",
     "output shorter than the stored form or the page",
+    "low revenue above its high",
 ];
 
-/// A refusal: its number, 1 to 14, the file it is about and the place in it.
+/// A refusal: its number, 1 to 15, the file it is about and the place in it.
 #[derive(Debug, Clone, Copy, PartialEq, Eq)]
 pub struct Refusal {
     pub number: u8,
@@ -65,7 +68,7 @@ pub struct Refusal {
 }
 
 impl Refusal {
-    /// A refusal from 6 on: no file, no place.
+    /// A refusal that is about no file: one from 6 on, or of a price band's figures.
     pub const fn of_call(number: u8) -> Self {
         Refusal { number, file: 0, place: 0 }
     }

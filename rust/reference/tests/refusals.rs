@@ -51,11 +51,12 @@ const PLAIN: Result<Answer, Refusal> = Ok(Answer { joining: None, opened: None }
 
 #[test]
 fn words_for_every_number() {
-    let words: Vec<_> = (1..=14).map(|number| call(number).words()).collect();
+    let words: Vec<_> = (1..=15).map(|number| call(number).words()).collect();
     assert_eq!(words[0], "file doesn't walk as tagged fields");
     assert_eq!(words[13], "output shorter than the stored form or the page");
+    assert_eq!(words[14], "low revenue above its high");
     assert!(words.iter().enumerate().all(|(index, word)| !words[..index].contains(word)));
-    assert_eq!([0, 15, 255].map(|number| call(number).words()), ["no refusal"; 3]);
+    assert_eq!([0, 16, 255].map(|number| call(number).words()), ["no refusal"; 3]);
 }
 
 #[test]

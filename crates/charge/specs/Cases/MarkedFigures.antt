@@ -26,9 +26,9 @@ use Rattle.charge.specs.declared.Pricing.{Pricing}
 use Rattle.charge.specs.declared.Pricing.the-variants.{Priced, NotPriced}
 
 -- The slip's book: "b 0, opex 0, revenue 1 in each pair, all factors 10,000, capacity charged, share 6,500, zone 1 at 0, 0, 8500, 38000, 10000."
--- with these for b, opex and revenue
-abbrev pub slipBookWith : ℕ → ℕ → ℕ → List ℕ
-slipBookWith rate opex revenue =
+-- with these for b, opex, revenue, capacity charged and share
+abbrev pub slipBookBy : ℕ → ℕ → ℕ → ℕ → ℕ → List ℕ
+slipBookBy rate opex revenue charged share =
     closed
     ((1, bookLetters) ∷
     (2, bytesOf 2 rate) ∷
@@ -36,9 +36,12 @@ slipBookWith rate opex revenue =
     (4, bytesOf 2 10000) ∷
     (5, bytesOf 2 10000) ∷
     (6, flatMap (bytesOf 4) (5000000 ∷ 20000 ∷ 20000 ∷ []) ++ bytesOf 2 84) ∷
-    (7, 1 ∷ bytesOf 2 6500) ∷
+    (7, charged ∷ bytesOf 2 share) ∷
     (8, 1 ∷ flatMap (bytesOf 4) (0 ∷ 0 ∷ 8500 ∷ 38000 ∷ 10000 ∷ [])) ∷
     [])
+
+abbrev pub slipBookWith : ℕ → ℕ → ℕ → List ℕ
+slipBookWith rate opex revenue = slipBookBy rate opex revenue 1 6500
 
 abbrev pub slipBook : List ℕ
 slipBook = slipBookWith 0 0 1
@@ -51,10 +54,10 @@ tier mode demand bespoke = mode ∷ (bytesOf 4 demand ++ bytesOf 4 bespoke)
 abbrev pub connection : ℕ → ℕ → ℕ → ℕ → List ℕ
 connection month capacity scheme mark = bytesOf 2 month ++ (bytesOf 4 capacity ++ (bytesOf 2 scheme ++ (mark ∷ [])))
 
--- a request of this class in a zone with these amounts, tiers and field 0C, otherwise the slip's: "non-residential, .. none added, revenue 57,320 and 0,
--- part-year 0 then 10,000, tariffs 10,000."
-abbrev pub requestOfClass : ℕ → ℕ → List ℕ → List (List ℕ) → List ℕ → List ℕ
-requestOfClass class zone amounts tiers asked =
+-- a request with these revenues, of this class in a zone with these amounts, tiers and field 0C, otherwise the slip's: "non-residential, .. none added,
+-- revenue 57,320 and 0, part-year 0 then 10,000, tariffs 10,000."
+abbrev pub requestOfRevenues : List ℕ → ℕ → ℕ → List ℕ → List (List ℕ) → List ℕ → List ℕ
+requestOfRevenues revenues class zone amounts tiers asked =
     closed
     ((1, requestLetters) ∷
     (2, bytesOf 4 4711) ∷
@@ -63,12 +66,15 @@ requestOfClass class zone amounts tiers asked =
     (5, flatMap (bytesOf 4) amounts) ∷
     (6, flatMap (λ t. t) tiers) ∷
     (7, replicate 20 0) ∷
-    (8, flatMap (bytesOf 4) (57320 ∷ 0 ∷ [])) ∷
+    (8, flatMap (bytesOf 4) revenues) ∷
     (9, flatMap (bytesOf 2) (0 ∷ 10000 ∷ [])) ∷
     (10, bytesOf 2 10000) ∷
     (11, bytesOf 2 10000) ∷
     (12, asked) ∷
     [])
+
+abbrev pub requestOfClass : ℕ → ℕ → List ℕ → List (List ℕ) → List ℕ → List ℕ
+requestOfClass = requestOfRevenues (57320 ∷ 0 ∷ [])
 
 abbrev pub requestBy : ℕ → List ℕ → List (List ℕ) → List ℕ → List ℕ
 requestBy = requestOfClass 1

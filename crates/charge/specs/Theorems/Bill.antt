@@ -62,12 +62,14 @@ zone-found-below k (suc zones) numbers number zone e = by (eqb (getD numbers k 0
     by true p later = let same : k ≡ zone = cc in omega arith
     by false p later = omega (arith, later p)
 
--- the values that a bill comes from: the book and the request are accepted, and the zone is one of the book's
+-- the values that a bill comes from: the book and the request are accepted, the zone is one of the book's, and each bespoke rate is allowed
 pub record PricedBy (bookFile requestFile : List ℕ) (bill : Bill) : Type 0 where
   pub book-accepted : bookOf 1 bookFile .answer ≡ Stands
   pub request-accepted : requestOf 2 requestFile .answer ≡ Stands
   pub zone : ℕ
   pub zone-below : zone < bookOf 1 bookFile .book .zones
+  pub found : zoneFound 0 (bookOf 1 bookFile .book .zones) (bookOf 1 bookFile .book .«zone_numbers») (requestOf 2 requestFile .request .zone) ≡ At zone
+  pub allowed : firstNotAllowed (tiersOf (getD (zoneRates (fieldsPart bookFile)) zone []) (requestOf 2 requestFile .request)) ≡ Allowed
   pub is :
       let book = bookOf 1 bookFile .book in
       let request = requestOf 2 requestFile .request in
@@ -98,7 +100,7 @@ priced-by bookFile requestFile bill e = by-book (bookOf 1 bookFile .answer) refl
         (allowed : BespokeRates) → firstNotAllowed (tiersOf (getD rates zone []) request) ≡ allowed → PricedBy bookFile requestFile bill
     by-allowed b r zone f Allowed a =
         let priced = sym (bill-in-zone book rates request (request .«distribution_revenue») (request .«transmission_revenue») zone f a) ∙ priced-so b r in
-        record { book-accepted = b; request-accepted = r; zone = zone; zone-below = omega (arith, zone-found-below 0 (book .zones) (book .«zone_numbers») (request .zone) zone f); is = cc priced }
+        record { book-accepted = b; request-accepted = r; zone = zone; zone-below = omega (arith, zone-found-below 0 (book .zones) (book .«zone_numbers») (request .zone) zone f); found = f; allowed = a; is = cc priced }
     by-allowed b r zone f (NotAllowed tier) a =
         absurd (no-bill (sym (bespoke-not-allowed book rates request (request .«distribution_revenue») (request .«transmission_revenue») zone f tier a) ∙ priced-so b r))
 
@@ -135,13 +137,27 @@ module _ (bookFile requestFile : List ℕ) (bill : Bill) (priced : priceOf bookF
       ⊎-elim (λ e. inl (refused _ (ap (λ r. r .answer) e))) (λ e. inr (refused _ (ap (λ r. r .answer) e)))
       (altered-request-refused 2 requestFile i b bytes within below other (by .request-accepted))
 
--- the bill of values within document 01's limits
-bill-within : (book : Book) (rates : List (List ℕ)) (request : Request) (zone distribution transmission : ℕ) → BookWithin book → RatesWithin rates (book .zones) →
+-- the costs, and the bill, of values within document 01's limits
+pub costs-within : (book : Book) (rates : List (List ℕ)) (request : Request) (zone : ℕ) → RatesWithin rates (book .zones) → RequestWithin request → zone < book .zones →
+    CostsWithin (costsOf (tiersOf (getD rates zone []) request) request)
+costs-within book rates request zone s r h =
+    let tiers = tiersOf (getD rates zone []) request in
+    let tiers-within : TiersWithin tiers = record { posted = λ tier. s .each zone tier h; bespoke = r .bespoke-rates } in
+    record {
+      me = r .me;
+      mc = capacity-cost-at-most tiers (request .demands) tiers-within (r .demands);
+      ce = r .ce;
+      cc2 = capacity-cost-at-most tiers (request .«added_demands») tiers-within (r .added-demands);
+      de = r .de;
+      tw = r .tw;
+      hr = r .hr;
+      ol = r .ol;
+    }
+
+pub bill-within : (book : Book) (rates : List (List ℕ)) (request : Request) (zone distribution transmission : ℕ) → BookWithin book → RatesWithin rates (book .zones) →
     RequestWithin request → zone < book .zones → distribution ≤ highestRevenue → transmission ≤ highestRevenue →
     BillWithin (billOf book (tiersOf (getD rates zone []) request) request (incrementalRevenueOf book request distribution transmission))
 bill-within book rates request zone distribution transmission b s r h d t =
-    let tiers = tiersOf (getD rates zone []) request in
-    let tiers-within : TiersWithin tiers = record { posted = λ tier. s .each zone tier h; bespoke = r .bespoke-rates } in
     let distributed : StreamWithin (distributionOf book request distribution) =
     record {
       revenue = d;
@@ -158,17 +174,7 @@ bill-within book rates request zone distribution transmission b s r h d t =
       revenue-factors = b .transmission;
       tariff-factors = r .transmission-tariff;
     } in
-    let costs : CostsWithin (costsOf tiers request) =
-    record {
-      me = r .me;
-      mc = capacity-cost-at-most tiers (request .demands) tiers-within (r .demands);
-      ce = r .ce;
-      cc2 = capacity-cost-at-most tiers (request .«added_demands») tiers-within (r .added-demands);
-      de = r .de;
-      tw = r .tw;
-      hr = r .hr;
-      ol = r .ol;
-    } in
+    let costs = costs-within book rates request zone s r h in
     record {
       figures = reconciliation-bounded costs (incremental-revenue-bounded (book .rate) distributed transmitted (life-at-most (request .class))) (b .charged) (b .share);
       threshold = b .threshold;

@@ -36,14 +36,14 @@ use Rattle.quoting_unit.specs.UnitResults.{Results, IsDone, pricingNumbe
 
 -- ---- by the case
 
--- numbers 1 to 14: document 01, 'The numbers'
-abbrev InTable : List ℕ → Type 0
+-- numbers 1 to 15
+abbrev pub InTable : List ℕ → Type 0
 InTable refusals = Among refusals (oneTo lastNumber)
 
-is-done : {done : Type 0} {refusals : List ℕ} → done → Results done refusals 0
+pub is-done : {done : Type 0} {refusals : List ℕ} → done → Results done refusals 0
 is-done h = record { done-gives-0 = λ _. refl; only-done-gives-0 = λ _. h; others-refuse = λ other. absurd (other refl); in-table = omega arith }
 
-is-refused : {done : Type 0} {refusals : List ℕ} (r : Refusal) (ofLedger : ℕ) → InTable refusals → (done → _≡_ {A = ℕ} 0 1) →
+pub is-refused : {done : Type 0} {refusals : List ℕ} (r : Refusal) (ofLedger : ℕ) → InTable refusals → (done → _≡_ {A = ℕ} 0 1) →
     oneOf refusals (r .number) ≡ true → Results done refusals (resultOf r ofLedger)
 is-refused {refusals} r ofLedger numbers not-done told =
     let within = one-to-within lastNumber (r .number) (one-of-more refusals (oneTo lastNumber) (r .number) numbers told) in

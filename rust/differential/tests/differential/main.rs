@@ -1,6 +1,7 @@
 //! Seeded cases on both sides. FIKREM_CASES multiplies their number.
 
 mod alterations;
+mod bands;
 mod buffers;
 mod damage;
 mod faults;
@@ -44,5 +45,9 @@ fn main() {
     tally.section("pages of values past their limits", page::past_limits);
     tally.section("pages with several faults at once", page::faults_at_once);
     tally.section("pages on outputs of every length", page::every_length);
+    tally.section("bands of books and requests within their limits", bands::random_bands);
+    tally.section("bands at and past their limits", bands::about_limits);
+    tally.section("bands with several faults at once", bands::faults_at_once);
+    tally.section("bands on figures of every length", bands::every_length);
     tally.finish();
 }

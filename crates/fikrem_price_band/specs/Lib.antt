@@ -1,0 +1,4 @@
+pub mod BandResult
+pub mod BandResults
+pub mod Cases
+pub mod Theorems

@@ -1,0 +1,2 @@
+pub mod PriceBand
+pub mod BandEnding

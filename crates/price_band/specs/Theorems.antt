@@ -1,0 +1,3 @@
+pub mod PriceBand
+pub mod Band
+pub mod BandEnding
