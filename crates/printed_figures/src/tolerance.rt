@@ -16,7 +16,8 @@ use revenue::TRANSMISSION_OPEX_FACTOR;
 use tagged::file::FileAnswer;
 ghost use Prim.Native.Nat.{_<_, _≤_};
 ghost use Rattle.field_values.specs.Limits.{tierCount, highestFactor, highestShare, sumsBelow};
-ghost use Rattle.revenue.specs.RevenueLimits.{highestDiscount, longestLife};
+ghost use Rattle.discount.specs.DiscountLimits.{highestDiscount};
+ghost use Rattle.revenue.specs.RevenueLimits.{longestLife};
 ghost use Rattle.revenue.specs.Revenue.{StreamWithin};
 ghost use Rattle.rate_book.specs.BookLimits.{BookWithin};
 ghost use Rattle.request.specs.RequestLimits.{RequestWithin};
@@ -178,7 +179,7 @@ fn near_stream(stream: Stream, offs: Offs, b: u16, life: usize) -> Near
     let mut n: usize = 0;
     while n <= life {
         sum = plus(sum, near_year(stream, offs, n, f));
-        f = revenue::next_discount(b, n, f);
+        f = discount::next_discount(b, n, f);
         n += 1;
     }
     sum

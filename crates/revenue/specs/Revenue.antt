@@ -1,4 +1,4 @@
--- Document 01, 'Charge and reconciliation': the opex factor, the discount factors, and the revenue of the years.
+-- Document 01, 'Charge and reconciliation': the opex factor and the revenue of the years.
 use Prim.Native.Nat.{ℕ, zero, suc, _+_, _*_, _-_, _/_, _≤_, min}
 use mathlib.Core.Bool.{cond}
 use lib.ListN.{getD}
@@ -6,6 +6,7 @@ use lib.Dec.{eqb}
 use Rattle.field_values.specs.declared.factors.Factors.{Factors}
 use Rattle.field_values.specs.FactorLimits.{FactorsWithin}
 use Rattle.field_values.specs.Limits.{specialPricing, highestRevenue}
+use Rattle.discount.specs.Discount.{discount}
 use Rattle.revenue.specs.RevenueLimits.{highestOpexFactor}
 use Rattle.revenue.specs.declared.Stream.{Stream}
 
@@ -19,11 +20,6 @@ transmissionOpexFactor = 10000
 -- Document 02, E3: "special pricing, life 15, O taken as 10,000 for distribution too"
 abbrev pub distributionOpexFactor : ℕ → ℕ → ℕ → ℕ
 distributionOpexFactor class opex revenue = cond (eqb class specialPricing) transmissionOpexFactor (opexFactor opex revenue)
-
--- "F(0) = 100,000,000; F(n+1) = ⌊F(n) × 10,000 / (10,000 + b)⌋."
-unfoldable pub discount : ℕ → ℕ → ℕ
-discount b zero = 100000000
-discount b (suc n) = discount b n * 10000 / (10000 + b)
 
 -- "A list's first factor is year 0's, its last holds for all later years."
 abbrev pub factorOf : Factors → ℕ → ℕ

@@ -6,10 +6,6 @@ use Rattle.field_values.specs.Limits.{highestRevenue}
 abbrev pub highestOpexFactor : ℕ
 highestOpexFactor = 10000
 
--- F(0); every later factor is at most the one before
-abbrev pub highestDiscount : ℕ
-highestDiscount = 100000000
-
 -- "0 residential, life 30"
 abbrev pub longestLife : ℕ
 longestLife = 30

@@ -1,2 +1,1 @@
-pub mod DiscountBounds
 pub mod Revenue

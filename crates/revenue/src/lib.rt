@@ -5,8 +5,9 @@ ghost use mathlib.Core.Path.{_≡_};
 ghost use Prim.Native.Nat.{suc, _*_, _<_, _≤_, min};
 ghost use Rattle.field_values.specs.FactorLimits.{FactorsWithin};
 ghost use Rattle.field_values.specs.Limits.{highestFactor, highestRevenue, sumsBelow};
-ghost use Rattle.revenue.specs.RevenueLimits.{highestOpexFactor, highestDiscount, longestLife, highestYearRevenue, highestIncrementalRevenue};
-ghost use Rattle.revenue.specs.Revenue.{opexFactor, distributionOpexFactor, discount, factorOf, lifeOf, scaled, streamYear, incrementalRevenue, StreamWithin};
+ghost use Rattle.discount.specs.DiscountLimits.{highestDiscount};
+ghost use Rattle.revenue.specs.RevenueLimits.{highestOpexFactor, longestLife, highestYearRevenue, highestIncrementalRevenue};
+ghost use Rattle.revenue.specs.Revenue.{opexFactor, distributionOpexFactor, factorOf, lifeOf, scaled, streamYear, incrementalRevenue, StreamWithin};
 
 // "10,000 for transmission": no opex is taken from it.
 pub const TRANSMISSION_OPEX_FACTOR: u16 = 10_000;
@@ -39,14 +40,6 @@ pub fn distribution_opex_factor(class: u8, opex: u64, revenue: u64) -> u16
     } else {
         opex_factor(opex, revenue)
     }
-}
-
-// The discount factor of year n + 1 from that of year n.
-pub fn next_discount(b: u16, n: usize, f: u64) -> u64
-    requires { ⌜ (f ≡ discount b n) × (f ≤ highestDiscount) ⌝ }
-    ensures { λ r. ⌜ (r ≡ discount b (suc n)) × (r ≤ highestDiscount) ⌝ }
-{
-    f * 10_000 / (10_000 + b as u64)
 }
 
 // The factor of year n: the first is year 0's, the last holds for all later years.
@@ -108,17 +101,17 @@ pub fn life_of(class: u8) -> usize
     if class == 0 { 30 } else { 15 }
 }
 
-// IR: both streams over the years 0 to life, in one pass that carries the discount factor along.
+// IR: both streams over the years 0 to life.
 pub fn incremental_revenue(distribution: Stream, transmission: Stream, b: u16, life: usize) -> u64
     requires { ⌜ StreamWithin distribution × StreamWithin transmission × (life ≤ longestLife) ⌝ }
     ensures { λ r. ⌜ (r ≡ incrementalRevenue distribution transmission b (suc life)) × (r ≤ highestIncrementalRevenue) ⌝ }
 {
+    let factors = discount_table::factors_of(b, life);
     let mut sum: u64 = 0;
-    let mut f: u64 = 100_000_000;
     let mut n: usize = 0;
     while n <= life {
+        let f = factors[n] as u64;
         sum += stream_year(distribution, n, f) + stream_year(transmission, n, f);
-        f = next_discount(b, n, f);
         n += 1;
     }
     sum

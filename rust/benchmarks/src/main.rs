@@ -92,6 +92,25 @@ fn byte_by_byte(bytes: &[u8]) -> u32 {
     bytes.iter().fold(0, |h, &byte| (h * 257 + u32::from(byte) + 1) % 65_521)
 }
 
+/// Rates of the table of discount factors and outside it, and the classes with the shorter and the longer life.
+const TABLE_RATE: u16 = 475;
+const OTHER_RATE: u16 = 476;
+const CLASSES: [(u8, &str); 2] = [(1, "16 years"), (0, "31 years")];
+
+/// A book at the rate and a request of the class, the slip's in all else.
+fn slip_at(discount_rate: u16, class: u8) -> (Vec<u8>, Vec<u8>) {
+    (Book { discount_rate, ..Book::slip() }.encode(), Request { class, ..Request::slip() }.encode())
+}
+
+/// Pricing at a rate of the table, beside the library's own pricing at a rate outside it.
+fn table_beside_recurrence(class: u8) -> Times {
+    let ((table_book, request), (other_book, _)) = (slip_at(TABLE_RATE, class), slip_at(OTHER_RATE, class));
+    let (mut table_figures, mut other_figures) = ([0; FIGURES], [0; FIGURES]);
+    let mut table = || assert_eq!(raw::price(black_box(&table_book), black_box(&request), &mut table_figures), 0);
+    let mut other = || assert_eq!(raw::price(black_box(&other_book), black_box(&request), &mut other_figures), 0);
+    measure(&mut table, &mut other)
+}
+
 /// A stored ledger, the calls that are measured on it, and the buffers.
 struct Bench {
     stored: Vec<u8>,
@@ -111,6 +130,12 @@ impl Bench {
         // its mark keeps it from opening a scheme
         let request = Request { scheme: 1, mark: 1, ..Request::slip() }.encode();
         Bench { stored, book, request }
+    }
+
+    /// The slip's request of a class, at a rate.
+    fn at_rate(discount_rate: u16, class: u8) -> Bench {
+        let (book, request) = slip_at(discount_rate, class);
+        Bench { book, request, ..Bench::of(1, 1) }
     }
 
     fn price(&self) -> Times {
@@ -190,6 +215,12 @@ fn beside() {
     );
     println!("{:<60} {:>8} {:>9}   ratio", "", "library", "reference");
     Bench::of(1, 1).price().print("pricing (the slip's request)");
+    for (class, years) in CLASSES {
+        let name = |rate: &str| format!("pricing at a rate {rate}, {years}");
+        Bench::at_rate(TABLE_RATE, class).price().print(&name("of the table"));
+        Bench::at_rate(OTHER_RATE, class).price().print(&name("outside the table"));
+        table_beside_recurrence(class).print(&name("of the table, beside the library's outside it"));
+    }
     Bench::of(1, 511).joining().print("accept: the 512th party joins its scheme, stored in and out");
     Bench::of(64, 512).check().print("check of a stored ledger of 64 schemes, 512 entries");
     Bench::of(64, 512).hand_over().print("read, hand-over and write of the same");

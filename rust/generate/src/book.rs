@@ -45,7 +45,7 @@ impl Book {
     pub fn random(random: &mut Random) -> Book {
         let minimum = random.edge_u32(0, 1_000_000_000);
         Book {
-            discount_rate: random.edge_u16(0, 10_000),
+            discount_rate: discount_rate(random),
             pairs: pairs(random),
             distribution_factors: random.factors(),
             transmission_factors: random.factors(),
@@ -88,6 +88,16 @@ impl Book {
             }
         }
     }
+}
+
+/// Every other rate is one of the library's table of discount factors or beside one: 300 to 600 in steps of 25, one
+/// step before and after these, and one hundredth of a percent to either side.
+fn discount_rate(random: &mut Random) -> u16 {
+    if random.once_in(2) {
+        return random.edge_u16(0, 10_000);
+    }
+    let step = 275 + 25 * random.edge_u16(0, 14);
+    random.choose(&[step - 1, step, step, step + 1])
 }
 
 /// Pairs whose opex sum is at most their revenue sum, which isn't 0.

@@ -47,6 +47,8 @@ fn pairs_cover_their_edges() {
         (*seen.first().unwrap(), *seen.last().unwrap())
     };
     assert_eq!(edges(&|book, _| book.discount_rate.into()), (0, 10_000));
+    let rates: BTreeSet<u64> = seen(&|book, _| vec![book.discount_rate.into()]);
+    assert!((275..=625).step_by(25).all(|rate| (rate - 1..=rate + 1).all(|beside| rates.contains(&beside))));
     assert_eq!(edges(&|book, _| book.threshold.into()), (0, 5_000_000));
     assert_eq!(edges(&|book, _| book.fee.into()), (0, 1_000_000_000));
     assert_eq!(edges(&|book, _| book.term.into()), (84, 65_535));

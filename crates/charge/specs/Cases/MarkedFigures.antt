@@ -15,7 +15,8 @@ use Rattle.field_values.specs.Judged.{judgeNumbers, sameBytes}
 use Rattle.book_zones.specs.Zones.{judgeZonesFrom}
 use Rattle.rate_book.specs.Book.{bookLetters, bookOf}
 use Rattle.request.specs.Request.{requestLetters, requestOf}
-use Rattle.revenue.specs.Revenue.{discount, opexFactor, incrementalRevenue}
+use Rattle.discount.specs.Discount.{discount}
+use Rattle.revenue.specs.Revenue.{opexFactor, incrementalRevenue}
 use Rattle.capacity.specs.Capacity.{bespokeAllowed}
 use Rattle.reconciliation.specs.Percent.{percentOf}
 use Rattle.reconciliation.specs.Reconciliation.{reconciliationOf}

@@ -15,7 +15,8 @@ use Rattle.field_values.specs.Judged.{judgeNumbers, sameBytes}
 use Rattle.book_zones.specs.Zones.{judgeZonesFrom}
 use Rattle.rate_book.specs.Book.{bookLetters, bookOf}
 use Rattle.request.specs.Request.{requestLetters, requestOf}
-use Rattle.revenue.specs.Revenue.{discount, incrementalRevenue}
+use Rattle.discount.specs.Discount.{discount}
+use Rattle.revenue.specs.Revenue.{incrementalRevenue}
 use Rattle.reconciliation.specs.Cases.Reconciliation.{figures, capacityCharged, capacityNotCharged, withoutLoading, creditIsM, creditAboveM}
 use Rattle.reconciliation.specs.declared.Reconciliation.{Reconciliation}
 use Rattle.reconciliation.specs.declared.Percent.the-variants.{None}

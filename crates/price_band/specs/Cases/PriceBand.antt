@@ -12,7 +12,8 @@ use Rattle.field_values.specs.Judged.{judgeNumbers, sameBytes}
 use Rattle.book_zones.specs.Zones.{judgeZonesFrom}
 use Rattle.rate_book.specs.Book.{bookOf}
 use Rattle.request.specs.Request.{requestOf}
-use Rattle.revenue.specs.Revenue.{discount, incrementalRevenue}
+use Rattle.discount.specs.Discount.{discount}
+use Rattle.revenue.specs.Revenue.{incrementalRevenue}
 use Rattle.charge.specs.Price.{zoneFound, valuesPriced, requestPriced, priceOf}
 use Rattle.charge.specs.Cases.MarkedFigures.{slipBookBy, slipBookWith, slipBook, slipRequest, slipTiers, connection, requestOfRevenues, requestWith, bespokeRequest}
 use Rattle.price_band.specs.PriceBand.{bandOf}

@@ -1,9 +1,10 @@
--- Document 01, 'Marked figures', M2 and M3, and boundary cases, by computation.
+-- Document 01, 'Marked figures', M3 and M4, and boundary cases, by computation.
 use Prim.Native.Nat.{ℕ, suc, _*_, _/_}
 use mathlib.Core.Path.{_≡_, refl}
 use mathlib.Core.List.{List, [], _∷_, map}
 use Rattle.field_values.specs.declared.factors.Factors.{Factors}
-use Rattle.revenue.specs.Revenue.{opexFactor, transmissionOpexFactor, distributionOpexFactor, discount, factorOf, lifeOf, yearRevenue, incrementalRevenue}
+use Rattle.discount.specs.Discount.{discount}
+use Rattle.revenue.specs.Revenue.{opexFactor, transmissionOpexFactor, distributionOpexFactor, factorOf, lifeOf, yearRevenue, incrementalRevenue}
 use Rattle.revenue.specs.declared.Stream.{Stream}
 
 abbrev pub factors : ℕ → List ℕ → Factors
@@ -27,14 +28,49 @@ slipStream revenue o =
       «tariff_factors» = always 10000;
     }
 
-abbrev pub slipRevenue : ℕ
-slipRevenue = incrementalRevenue (slipStream 57320 (opexFactor 0 (5 * 1))) (slipStream 0 transmissionOpexFactor) 0 (suc (lifeOf 1))
+abbrev pub slipRevenue : ℕ → ℕ → ℕ
+slipRevenue b class =
+    incrementalRevenue (slipStream 57320 (opexFactor 0 (5 * 1))) (slipStream 0 transmissionOpexFactor) b (suc (lifeOf class))
 
--- M2: "b 463: F(1) 95,574,882; F(2) 91,345,581." M3: "opex 19,300 and revenue 153,800, five times: O 8,745." M4: "the slip's .. IR 859,800".
+-- M3: "opex 19,300 and revenue 153,800, five times: O 8,745." M4: "the slip's .. IR 859,800".
 pub revenue-marked-figures :
-    (discount 463 1 ≡ 95574882) × (discount 463 2 ≡ 91345581) × (opexFactor (5 * 19300) (5 * 153800) ≡ 8745) × (slipRevenue ≡ 859800)
+    (opexFactor (5 * 19300) (5 * 153800) ≡ 8745) × (slipRevenue 0 1 ≡ 859800)
 unfolding discount incrementalRevenue
-revenue-marked-figures = (refl, refl, refl, refl)
+revenue-marked-figures = (refl, refl)
+
+-- The slip's IR at rates of the table of discount factors, at the rates beside them and at others: rate, and IR.
+abbrev pub nonResidentialSlips : List (ℕ × ℕ)
+nonResidentialSlips =
+    (275, 696814) ∷
+    (299, 684770) ∷
+    (300, 684276) ∷
+    (301, 683779) ∷
+    (312, 678374) ∷
+    (325, 672063) ∷
+    (475, 605138) ∷
+    (575, 565906) ∷
+    (600, 556698) ∷
+    (601, 556335) ∷
+    (625, 547718) ∷
+    []
+
+-- only the years 16 to 30 of a residential connection read the later half of the table
+abbrev pub residentialSlips : List (ℕ × ℕ)
+residentialSlips =
+    (275, 1160676) ∷
+    (300, 1123482) ∷
+    (325, 1088027) ∷
+    (475, 906811) ∷
+    (575, 810547) ∷
+    (600, 788983) ∷
+    (625, 768321) ∷
+    []
+
+pub slips-at-rates :
+    (map (λ t. slipRevenue (t .0) 1) nonResidentialSlips ≡ map (λ t. t .1) nonResidentialSlips) ×
+    (map (λ t. slipRevenue (t .0) 0) residentialSlips ≡ map (λ t. t .1) residentialSlips)
+unfolding discount incrementalRevenue
+slips-at-rates = (refl, refl)
 
 -- "A list's first factor is year 0's, its last holds for all later years." In each row count, year and factor, of a list whose first value is 1, the
 -- second 2, and so on.
@@ -86,11 +122,6 @@ pub opex-factors-of-classes :
     (distributionOpexFactor 0 96500 769000 ≡ 8745) × (distributionOpexFactor 1 96500 769000 ≡ 8745) × (distributionOpexFactor 2 96500 769000 ≡ 10000)
     × (distributionOpexFactor 1 1 1 ≡ 0) × (distributionOpexFactor 2 1 1 ≡ 10000)
 opex-factors-of-classes = (refl, refl, refl, refl, refl)
-
--- the rate's limits, 0 and 10,000
-pub discounts-at-limits : (discount 0 30 ≡ 100000000) × (discount 10000 1 ≡ 50000000) × (discount 10000 26 ≡ 1) × (discount 10000 27 ≡ 0)
-unfolding discount
-discounts-at-limits = (refl, refl, refl, refl)
 
 -- "rounded down after each division". In each row one of the first four divisions leaves a part that would make a cent more, if only the end were rounded.
 abbrev pub roundedAtEnd : ℕ → ℕ → ℕ → ℕ → ℕ → ℕ → ℕ

@@ -7,8 +7,10 @@ use lib.Dec.{eqb}
 use Rattle.field_values.specs.declared.factors.Factors.{Factors}
 use Rattle.field_values.specs.FactorLimits.{FactorsWithin}
 use Rattle.field_values.specs.Limits.{specialPricing, highestFactor}
-use Rattle.revenue.specs.RevenueLimits.{highestOpexFactor, highestDiscount, longestLife, highestYearRevenue, highestIncrementalRevenue}
-use Rattle.revenue.specs.Revenue.{opexFactor, transmissionOpexFactor, distributionOpexFactor, discount, factorOf, scaled, yearRevenue, streamYear, incrementalRevenue, StreamWithin}
+use Rattle.discount.specs.DiscountLimits.{highestDiscount}
+use Rattle.discount.specs.Theorems.Discount.{discount-at-most}
+use Rattle.revenue.specs.RevenueLimits.{highestOpexFactor, longestLife, highestYearRevenue, highestIncrementalRevenue}
+use Rattle.revenue.specs.Revenue.{opexFactor, transmissionOpexFactor, distributionOpexFactor, factorOf, scaled, yearRevenue, streamYear, incrementalRevenue, StreamWithin}
 use Rattle.revenue.specs.declared.Stream.{Stream}
 
 pub opex-factor-at-most : (opex revenue : ℕ) → opexFactor opex revenue ≤ highestOpexFactor
@@ -20,15 +22,6 @@ distribution-opex-factor-at-most class opex revenue = by (eqb class specialPrici
     by : (special : Bool) → cond special transmissionOpexFactor (opexFactor opex revenue) ≤ highestOpexFactor
     by true = le-refl _
     by false = opex-factor-at-most opex revenue
-
-pub discount-falls : (b n : ℕ) → discount b (suc n) ≤ discount b n
-unfolding discount
-discount-falls b n = div-le-of-le-mul _ (omega arith)
-
-pub discount-at-most : (b n : ℕ) → discount b n ≤ highestDiscount
-unfolding discount
-discount-at-most b zero = le-refl _
-discount-at-most b (suc n) = omega (arith, discount-falls b n, discount-at-most b n)
 
 pub factor-at-most : {list : Factors} (n : ℕ) → FactorsWithin list → factorOf list n ≤ highestFactor
 factor-at-most n within = within .each _

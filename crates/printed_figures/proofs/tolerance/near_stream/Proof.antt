@@ -2,8 +2,8 @@
 use Prim.Native.Nat.{_+_, _-_, _≤_}
 use mathlib.Core.Path.{_≡_, refl}
 use native.Mathlib.Numerals.{add-one}
-use Rattle.revenue.specs.Revenue.{discount}
-use Rattle.revenue.specs.RevenueLimits.{highestDiscount}
+use Rattle.discount.specs.Discount.{discount}
+use Rattle.discount.specs.DiscountLimits.{highestDiscount}
 use Rattle.printed_figures.specs.Tolerance.{NearWithin}
 use borrow.Author.Needs.{needs}
 use Rattle.printed_figures.proofs.tolerance.near_stream.Statement.{statement}

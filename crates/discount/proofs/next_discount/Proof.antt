@@ -1,10 +1,10 @@
 -- The quotient is the definition's step from F(n) to F(n+1), and no discount factor is above 100,000,000.
 use Prim.Native.Nat.{suc}
-use Rattle.revenue.specs.Revenue.{discount}
-use Rattle.revenue.specs.Theorems.Revenue.{discount-at-most}
+use Rattle.discount.specs.Discount.{discount}
+use Rattle.discount.specs.Theorems.Discount.{discount-at-most}
 use borrow.Author.Needs.{needs}
-use Rattle.revenue.proofs.next_discount.Statement.{statement}
-use Rattle.revenue.proofs.next_discount.Tie as tie
+use Rattle.discount.proofs.next_discount.Statement.{statement}
+use Rattle.discount.proofs.next_discount.Tie as tie
 
 mul-result : tie.Need-mul-result
 mul-result c = search needs

@@ -4,7 +4,7 @@ use Prim.Native.Nat.{ℕ, zero, suc, _+_, _*_, _^_, _<_, _≤_}
 use mathlib.Core.Path.{_≡_}
 use native.Mathlib.Nat.{le-of-lt, mul-le-mul-right, mul-lt-mul-of-pos-right, div-mul-le-self, lt-div-mul-add, one-le-pow, pow-zero, pow-suc}
 use native.Mathlib.Omega.{arith}
-use Rattle.revenue.specs.Revenue.{discount}
+use Rattle.discount.specs.Discount.{discount}
 
 -- One more year: f is F(n), g is F(n + 1), d is 10,000 + b, p and q are the powers of d and 10,000.
 above-next : (f g d p q : ℕ) → g * d ≤ f * 10000 → f * p ≤ 100000000 * q → g * (p * d) ≤ 100000000 * (q * 10000)

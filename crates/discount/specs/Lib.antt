@@ -1,0 +1,4 @@
+pub mod DiscountLimits
+pub mod Discount
+pub mod Cases
+pub mod Theorems

@@ -1,0 +1,3 @@
+pub mod DiscountTable
+pub mod Cases
+pub mod Theorems
