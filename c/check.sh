@@ -12,8 +12,8 @@ data=$here/../crates/slip/data
 
 flags=(-Wall -Wextra -Werror -pedantic -I "$here/../include")
 for program in quote every_call stack page; do
-  gcc -std=c11 -O2 "${flags[@]}" -o "$build/$program" "$here/$program.c" "$libraries/libfikrem_page.a" \
-    "$libraries/libfikrem_price_band.a" "$libraries/libquoting_unit.a"
+  gcc -std=c11 -O2 "${flags[@]}" -o "$build/$program" "$here/$program.c" \
+    "$libraries/"lib{fikrem_page,fikrem_price_band,fikrem_files,quoting_unit}.a
 done
 if command -v g++ >/dev/null 2>&1; then
   g++ -fsyntax-only -x c++ "${flags[@]}" "$here/../include/fikrem.h"

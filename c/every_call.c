@@ -97,6 +97,18 @@ static uint64_t check_ledger(size_t answer_places)
     return fikrem_check_ledger(lent.stored, stored_size, table_size, lent.answer, answer_places);
 }
 
+static uint64_t check_book(const uint8_t *file, size_t size)
+{
+    mark();
+    return fikrem_check_book(file, size);
+}
+
+static uint64_t check_request(const uint8_t *file, size_t size)
+{
+    mark();
+    return fikrem_check_request(file, size);
+}
+
 /* How they end. */
 
 static void tell_refusal(const char *call, uint64_t result)
@@ -267,6 +279,22 @@ static void try_check(void)
            kept, fikrem_check(lent.stored, 0));
 }
 
+/* The two files read alone: as they are, each as the other, and a request with a mark that there isn't. */
+static void try_check_files(void)
+{
+    if (check_book(lent.book, book_size) == FIKREM_DONE && check_request(lent.request, request_size) == FIKREM_DONE) {
+        puts("check of a book and of a request: done");
+    }
+    tell("check of a book, which is a request", check_book(lent.request, request_size));
+    tell("check of a request, which is a book", check_request(lent.book, book_size));
+    value_of(lent.request, 0x0C)[8] = 3;
+    tell("check of a request, a byte altered", check_request(lent.request, request_size));
+    set_check(lent.request, request_size);
+    tell("check of a request, mark 3", check_request(lent.request, request_size));
+    value_of(lent.request, 0x0C)[8] = 0;
+    set_check(lent.request, request_size);
+}
+
 /* Each call on a stored ledger that is refused itself. */
 static void try_unread_ledger(void)
 {
@@ -294,6 +322,7 @@ int main(int count, char **names)
     try_hand_over();
     try_check_ledger();
     try_check();
+    try_check_files();
 
     puts("a table of one record, two entries stored");
     table_size = 1;

@@ -70,6 +70,16 @@ static void check_ledger(void)
     result = fikrem_check_ledger(stored, stored_size, FIKREM_TABLE_SIZE, answer, FIKREM_ANSWER);
 }
 
+static void check_book(void)
+{
+    result = fikrem_check_book(book, book_size);
+}
+
+static void check_request(void)
+{
+    result = fikrem_check_request(request, request_size);
+}
+
 static void check(void)
 {
     uint32_t kept = 256u * stored[stored_size - 2] + stored[stored_size - 1];
@@ -147,5 +157,7 @@ int main(int count, char **names)
     tell("hand-over", hand_over, 112);
     tell("check", check_ledger, 80);
     tell("check of bytes", check, 1);
+    tell("check of a book", check_book, 1);
+    tell("check of a request", check_request, 1);
     return 0;
 }

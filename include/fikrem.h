@@ -1,9 +1,10 @@
 /* Fikrem for the firmware of quoting units: connection charges and pioneer ledgers on lent buffers.
  *
- * Link target/staticlib/libquoting_unit.a (x86-64), and beside it libfikrem_page.a for fikrem_page and libfikrem_price_band.a for
- * fikrem_price_band. They need memcpy and memset, which every C library has, and nothing else. No call allocates, keeps anything or
- * writes past the sizes that it is handed. Every buffer is a pointer and its size in elements. No pointer is NULL, also where its size
- * is 0, and no two buffers of one call overlap where one of them is written.
+ * Link target/staticlib/libquoting_unit.a (x86-64), and before it libfikrem_page.a for fikrem_page, libfikrem_price_band.a for
+ * fikrem_price_band, and libfikrem_files.a for fikrem_check_book and fikrem_check_request. They need memcpy and memset, which every C
+ * library has, and nothing else. No call allocates, keeps anything or writes past the sizes that it is handed. Every buffer is a
+ * pointer and its size in elements. No pointer is NULL, also where its size is 0, and no two buffers of one call overlap where one of
+ * them is written.
  *
  * docs/FORMAT.md has the bytes of a rate book, a request and a stored ledger with every limit; docs/RULES.md the rules: which bespoke
  * rates are allowed ('Charge and reconciliation'), when a scheme opens or is joined ('Accept'), which ledgers are sound ('Soundness').
@@ -11,7 +12,8 @@
  * Money is in whole cents, capacity in hundredths of a kVA; a month is year * 12 + (month - 1), so that April 2026 is 24315.
  *
  * A call takes at most this much stack, in KiB, as c/stack.c measures it on a painted stack with the longest ledger: price 4, price
- * band 4, page 4, slip text 12, new ledger 40, check of a ledger 80, pay-out and hand-over 112, accept 136, check of bytes 1.
+ * band 4, page 4, slip text 12, new ledger 40, check of a ledger 80, pay-out and hand-over 112, accept 136, check of bytes, of a book
+ * and of a request 1.
  */
 #ifndef FIKREM_H
 #define FIKREM_H
@@ -159,6 +161,11 @@ uint64_t fikrem_slip_text(const uint8_t *book, size_t book_size, const uint8_t *
  * book's 1 to 3, the request's 1 to 3; 4, 5; 14 for out. In libfikrem_page.a. */
 uint64_t fikrem_page(const uint8_t *book, size_t book_size, const uint8_t *request, size_t request_size,
                      uint8_t *out, size_t out_size);
+
+/* Whether a rate book or a request can be read, for whoever writes one. A file read alone is file 1, a request too. Refusals in
+ * turn: 1, 2, 3. In libfikrem_files.a. */
+uint64_t fikrem_check_book(const uint8_t *book, size_t book_size);
+uint64_t fikrem_check_request(const uint8_t *request, size_t request_size);
 
 /* The calls on a ledger take its stored form and write the ledger after them into out, FIKREM_LEDGER_SIZE bytes at most. After a
  * done call out holds the ledger: its first answer[FIKREM_WRITTEN] bytes are the next call's stored, and that number is its

@@ -24,9 +24,9 @@ done < <(find "$root" \( -path "$root/target" -o -path "$root/.git" \) -prune -o
 if cargo fmt --version >/dev/null 2>&1; then
   cargo fmt --all --check
 fi
-# The wrapper's lints: nothing in it panics.
+# The lints of the wrapper and of the program for the desk: nothing in them panics.
 if cargo clippy --version >/dev/null 2>&1; then
-  cargo clippy --offline --locked --quiet -p fikrem -j "$jobs"
+  cargo clippy --offline --locked --quiet -p fikrem -p desk -j "$jobs"
 fi
 # This builds every library, program, example and test, and runs the tests; the benchmarks are built and not run, but for their test.
 cargo test --offline --locked --workspace -j "$jobs"

@@ -13,7 +13,8 @@ root = pathlib.Path(__file__).resolve().parent.parent
 ROOTS = "numbers/Check charge/Price price_band/PriceBand price_band/BandPromises slip_text/Slip page_text/Page page_text/AmountGrammar " \
     "page_text/PageColumns calls/Calls " \
     "accept_rules/AcceptAnswers stored/Reading stored/Writing pioneer_accept/AcceptResult pioneer/ReadResult stored_calls/StoredCalls " \
-    "quoting_unit/Unit fikrem_page/PageResult fikrem_price_band/BandResult history/DemandThree stored_history/StoredDemandThree"
+    "quoting_unit/Unit fikrem_page/PageResult fikrem_price_band/BandResult fikrem_files/FileResult history/DemandThree " \
+    "stored_history/StoredDemandThree"
 MOST_LINES = 4000
 WORD = re.compile(r"[^\s(){}\[\],;:.&«»⌜⌝λ]+")
 DECLARED = re.compile(r"(\s*)((?:(?:abbrev|unfoldable|pub) )*)(record |data )?«?([^\s«»]+)»?( :| where| \(| \{|$)")

@@ -1,5 +1,5 @@
-//! The connection charge and the pioneer ledger: a safe wrapper of the proved libraries `quoting_unit`, `fikrem_page`
-//! and `fikrem_price_band`.
+//! The connection charge and the pioneer ledger: a safe wrapper of the proved libraries `quoting_unit`, `fikrem_page`,
+//! `fikrem_price_band` and `fikrem_files`.
 //!
 //! Money is in whole cents, capacity in hundredths of a kVA, a month is year × 12 + (month − 1). Books, requests and
 //! stored ledgers are bytes; a call on a stored ledger leaves it as it is and gives the new one. Each call is given a
@@ -15,7 +15,7 @@ pub mod pricing;
 pub mod raw;
 pub mod refusal;
 
-pub use file::check;
+pub use file::{check, check_book, check_request};
 pub use ledger::{accept, check_ledger, hand_over, new_ledger, pay_out, Accepted, Answer, Holdings, Joining};
 pub use ledger::{accept_into, hand_over_into, new_ledger_into, pay_out_into, LONGEST_FORM, LONGEST_TABLE};
 pub use pricing::{page, page_into, price, slip_text, slip_text_into, Bill, LONGEST_SLIP, PAGE};

@@ -146,6 +146,8 @@ mod declared {
             out: *mut u8,
             out_size: usize,
         ) -> u64;
+        pub fn fikrem_check_book(book: *const u8, book_size: usize) -> u64;
+        pub fn fikrem_check_request(request: *const u8, request_size: usize) -> u64;
         pub fn fikrem_new_ledger(out: *mut u8, out_size: usize, answer: *mut u64, answer_places: usize) -> u64;
         pub fn fikrem_accept(
             stored: *const u8,
@@ -249,6 +251,14 @@ pub fn page(book: &[u8], request: &[u8], out: &mut [u8]) -> u64 {
     unsafe {
         declared::fikrem_page(book.as_ptr(), book.len(), request.as_ptr(), request.len(), out.as_mut_ptr(), out.len())
     }
+}
+
+pub fn check_book(book: &[u8]) -> u64 {
+    unsafe { declared::fikrem_check_book(book.as_ptr(), book.len()) }
+}
+
+pub fn check_request(request: &[u8]) -> u64 {
+    unsafe { declared::fikrem_check_request(request.as_ptr(), request.len()) }
 }
 
 pub fn new_ledger(out: &mut [u8], answer: &mut [u64]) -> u64 {

@@ -10,6 +10,7 @@ const RAW: &str = "src/raw.rs";
 const LIBRARY: &str = "../../crates/quoting_unit/src/lib.rt";
 const PAGE_LIBRARY: &str = "../../crates/fikrem_page/src/lib.rt";
 const BAND_LIBRARY: &str = "../../crates/fikrem_price_band/src/lib.rt";
+const FILES_LIBRARY: &str = "../../crates/fikrem_files/src/lib.rt";
 
 /// A function's parameters, each with its kind, and the kind of its result.
 type Function = (Vec<(String, String)>, String);
@@ -98,7 +99,7 @@ fn as_pointer((name, kind): (String, String)) -> Vec<(String, String)> {
 }
 
 fn functions_of_library() -> BTreeMap<String, Function> {
-    let library = text(LIBRARY) + &text(PAGE_LIBRARY) + &text(BAND_LIBRARY);
+    let library = [LIBRARY, PAGE_LIBRARY, BAND_LIBRARY, FILES_LIBRARY].map(text).concat();
     let exported = library.split("#[no_mangle]").skip(1).map(|part| split(part, "pub extern \"C\" fn ").1);
     exported
         .map(function_of_rust)
@@ -109,7 +110,7 @@ fn functions_of_library() -> BTreeMap<String, Function> {
 #[test]
 fn the_same_functions() {
     let (header, raw, library) = (functions_of_header(), functions_of_raw(), functions_of_library());
-    assert_eq!(library.len(), 10);
+    assert_eq!(library.len(), 12);
     let names = |functions: &BTreeMap<String, Function>| functions.keys().cloned().collect::<Vec<_>>();
     assert_eq!(names(&header), names(&library), "names of {HEADER} and {LIBRARY}");
     assert_eq!(names(&raw), names(&library), "names of {RAW} and {LIBRARY}");

@@ -1,0 +1,3 @@
+pub mod FileResult
+pub mod Cases
+pub mod Theorems
