@@ -120,8 +120,8 @@ enum fikrem_band {
 };
 
 /* The longest book and request, in bytes; longer ones are refused by 1 or 2. */
-#define FIKREM_BOOK_SIZE 313
-#define FIKREM_REQUEST_SIZE 205
+#define FIKREM_BOOK_SIZE 321
+#define FIKREM_REQUEST_SIZE 206
 
 /* The longest slip, and the longest stored ledger: 7 + 25 + 64 * 27 + 512 * 33 + 5 bytes. */
 #define FIKREM_TEXT_SIZE 256

@@ -23,6 +23,7 @@ BOOK = {
     0x06: ("pioneer terms", [(4, "threshold"), (4, "fee"), (4, "minimum"), (2, "term")]),
     0x07: ("charging", [(1, "capacity charged"), (2, "credit share")]),
     0x08: ("zone", [(1, "zone number")] + [(4, f"{tier}, rate") for tier in TIERS]),
+    0x09: ("zone", [(2, "zone number")] + [(4, f"{tier}, rate") for tier in TIERS]),
 }
 REQUEST = {
     0x01: ("identity", [(4, None)]),
@@ -37,6 +38,7 @@ REQUEST = {
     0x0A: ("distribution tariff factors", [FACTOR]),
     0x0B: ("transmission tariff factors", [FACTOR]),
     0x0C: ("connection", [(2, "month"), (4, "capacity"), (2, "scheme joined"), (1, "mark")]),
+    0x0D: ("zone", [(2, "zone number")]),
 }
 LEDGER = {
     0x01: ("identity", [(4, None)]),

@@ -50,6 +50,18 @@ def slip_request(class_=1, zone=1, extension=1_598_500, loading=0, tiers=POSTED_
     ]
 
 
+def wide_book():
+    """Zones 1 and 1,400 in fields 09."""
+    rates = numbers(4, [0, 0, 8_500, 38_000, 10_000])
+    return slip_book()[:7] + [field(0x09, number(2, zone) + rates) for zone in (1, 1_400)]
+
+
+def wide_request(zone=1_400):
+    """The slip's request with 0D in place of 04."""
+    fields = slip_request()
+    return fields[:3] + fields[4:] + [field(0x0D, number(2, zone))]
+
+
 def listed_files():
     """What the program list_fields walks. Every damaged file but three has a right check, so that the walk is what refuses it."""
     book, request, ledger = slip_book(), slip_request(), ledgers.one_scheme()
@@ -73,6 +85,11 @@ def listed_files():
         "book_long_factors.bin": closed(book[:3] + [field(0x04, number(2, 10_000) * 9)] + book[4:]),
         "book_past_end.bin": closed(book[:7] + [b"\x08\x00\x15" + bytes(20)]),
         "book_two_bytes_over.bin": closed(book + [b"\x08\x00"]),
+        "book_wide.bin": closed(wide_book()),
+        "request_wide.bin": closed(wide_request()),
+        "book_both_forms.bin": closed(book + wide_book()[8:]),
+        "request_both_forms.bin": closed(request + wide_request()[11:]),
+        "request_neither_form.bin": closed(wide_request()[:11]),
         "request_as_book.bin": closed(request),
         "ledger_as_new.bin": closed(ledger[:2]),
     }

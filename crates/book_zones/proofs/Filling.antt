@@ -6,10 +6,10 @@ use native.Mathlib.Numerals.{add-one}
 use native.Mathlib.Omega.{arith}
 use lib.ListN.{length, getD, set, take, replicate, length-append, length-replicate, length-map}
 use lib.Seq.{set-at, append-snoc, take-suc, take-length, take-set-lt, take-append-le, length-take-le}
-use Rattle.tagged.specs.Find.{fieldStart}
 use Rattle.field_values.specs.Limits.{mostZones}
-use Rattle.book_zones.specs.Zones.{zoneStarts, zoneArray}
-use Rattle.book_zones.specs.Theorems.ZoneFields.{ZonesStand, every24-getD}
+use Rattle.book_zones.specs.Zones.{numberWidth, zoneStarts, firstZone, zonesApart, zoneArray}
+use Rattle.book_zones.specs.Theorems.ZoneFields.{ZonesStand, every-getD}
+use Rattle.book_zones.proofs.Scanning.{zone-below}
 
 zone-array-more : {A : Type 0} (nothing : A) (xs : List A) (x : A) (i : ℕ) → length xs ≡ i → i < mostZones → set (zoneArray nothing xs) i x ≡ zoneArray nothing (xs ++ (x ∷ []))
 zone-array-more nothing xs x i l h =
@@ -25,10 +25,11 @@ abbrev pub filledTo : {A : Type 0} → A → (ℕ → A) → List ℕ → ℕ �
 filledTo nothing f s i = zoneArray nothing (map f (take i (zoneStarts s)))
 
 module _ {A : Type 0} (nothing : A) (f : ℕ → A) (s : List ℕ) (stand : ZonesStand s) where
-  pub filled-more : (i : ℕ) → i < length (zoneStarts s) → set (filledTo nothing f s i) i (f (fieldStart 8 s + 24 * i)) ≡ filledTo nothing f s (i + 1)
+  pub filled-more : (i : ℕ) → i < length (zoneStarts s) → set (filledTo nothing f s i) i (f (firstZone s + zonesApart s * i)) ≡ filledTo nothing f s (i + 1)
   filled-more i h =
       let starts = zoneStarts s in
-      let at : fieldStart 8 s + 24 * i ≡ getD starts i 0 = sym (ap (λ l. getD l i 0) (stand .apart) ∙ every24-getD (fieldStart 8 s) (length starts) i 0 h) in
+      let at : firstZone s + zonesApart s * i ≡ getD starts i 0 =
+      sym (ap (λ l. getD l i 0) (stand .apart) ∙ every-getD (zonesApart s) (firstZone s) (length starts) i 0 h) in
       let count : length (map f (take i starts)) ≡ i = length-map (take i starts) f ∙ length-take-le i starts (omega arith) in
       let more : map f (take i starts) ++ (f (getD starts i 0) ∷ []) ≡ map f (take (i + 1) starts) =
       sym (ap (map f) (ap (λ k. take k starts) (add-one i) ∙ take-suc starts i 0 h) ∙ map-append f (take i starts) (getD starts i 0 ∷ [])) in
@@ -36,3 +37,9 @@ module _ {A : Type 0} (nothing : A) (f : ℕ → A) (s : List ℕ) (stand : Zone
 
   pub filled-all : (i : ℕ) → i ≡ length (zoneStarts s) → filledTo nothing f s i ≡ zoneArray nothing (map f (zoneStarts s))
   filled-all i e = ap (λ l. zoneArray nothing (map f l)) (ap (λ k. take k (zoneStarts s)) e ∙ take-length (zoneStarts s))
+
+-- a zone's value lies within the fields
+pub zone-place : (s : List ℕ) → ZonesStand s → (first width zone : ℕ) → first ≡ firstZone s → width ≡ numberWidth s → zone < length (zoneStarts s) →
+    first + (width + 23) * zone + width + 20 ≤ length s
+zone-place s stand first width zone at wide h =
+    rw (at, wide) (omega (arith, stand .ends, zone-below (zonesApart s) (length (zoneStarts s)) zone h))

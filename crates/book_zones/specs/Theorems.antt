@@ -1,3 +1,4 @@
 pub mod ZoneFields
 pub mod Zones
 pub mod ZoneLimits
+pub mod OlderBooks

@@ -1,44 +1,79 @@
 // The zones of a rate book: their numbers, and their rates as a row of five tiers for each zone.
-// The fields 08 stand last and are 24 bytes long each, so the values stand 24 bytes apart.
+// The fields 08, or the fields 09 in their place, stand last and are all of one length, so the values
+// stand 24 bytes apart, or 25.
 use field_values::judged::Judged;
 use field_values::limits::HIGHEST_RATE;
 use field_values::limits::MOST_ZONES;
 use field_values::limits::Rates;
 use field_values::limits::TIERS;
+use numbers::big_endian::read_u8;
+use numbers::big_endian::read_u16;
+use numbers::big_endian::read_u32;
+use tagged::find::Place;
 ghost use mathlib.Core.Path.{_≡_};
 ghost use Prim.Native.Nat.{_+_, _*_, _<_, _≤_, _^_};
 ghost use lib.ListN.{length, take};
-ghost use Rattle.tagged.specs.Find.{fieldStart};
+ghost use Rattle.numbers.specs.BigEndian.{numberAt};
 ghost use Rattle.field_values.specs.Limits.{mostZones};
 ghost use Rattle.book_zones.specs.BookRows.{bookRows};
-ghost use Rattle.book_zones.specs.Zones.{zoneStarts, zoneNumbers, zoneRates, rateRow, judgeRows, judgeRise, judgeZones, lower};
+ghost use Rattle.book_zones.specs.Zones.{zoneTag, numberWidth, firstZone, zoneStarts, zonesApart, zoneNumbers, zoneRates, ratesFrom, judgeRows, judgeRise, judgeZones, lower};
 ghost use Rattle.field_walk.specs.Walk.{FieldsWalk};
+
+// The tag of the zones' fields: 09 where there is one, otherwise 08.
+fn zone_tag(fields: &[u8]) -> u8
+    ensures { λ r. ⌜ (r ≡ zoneTag (now (fields .entry))) × (8 ≤ r) × (r ≤ 9) ⌝ }
+{
+    let wide = tagged::find::place_of(fields, 9);
+    match wide {
+        Place::At { start: _, len: _ } => 9,
+        Place::Nowhere => 8,
+    }
+}
+
+// The bytes of a zone's number: 1 in a field 08, 2 in a field 09.
+fn number_width(fields: &[u8]) -> usize
+    ensures { λ r. ⌜ (r ≡ numberWidth (now (fields .entry))) × (1 ≤ r) × (r ≤ 2) ⌝ }
+{
+    zone_tag(fields) as usize - 7
+}
 
 // The offset of the first zone's value.
 fn first_zone(fields: &[u8]) -> usize
     requires { ⌜ FieldsWalk bookRows (now fields) ⌝ }
-    ensures { λ r. ⌜ (r ≡ fieldStart 8 (now (fields .entry))) × (r + 24 * length (zoneStarts (now (fields .entry))) ≡ length (now (fields .entry)) + 3) ⌝ }
+    ensures { λ r. ⌜ (r ≡ firstZone (now (fields .entry))) × (r + zonesApart (now (fields .entry)) * length (zoneStarts (now (fields .entry))) ≡ length (now (fields .entry)) + 3) ⌝ }
 {
-    tagged::find::start_of(tagged::find::place_of(fields, 8))
+    tagged::find::start_of(tagged::find::place_of(fields, zone_tag(fields)))
 }
 
 pub fn zone_count(fields: &[u8]) -> usize
     requires { ⌜ FieldsWalk bookRows (now fields) ⌝ }
     ensures { λ r. ⌜ (r ≡ length (zoneStarts (now (fields .entry)))) × (r ≤ mostZones) ⌝ }
 {
-    (fields.len() + 3 - first_zone(fields)) / 24
+    let apart = number_width(fields) + 23;
+    (fields.len() + 3 - first_zone(fields)) / apart
 }
 
-fn rate_row(fields: &[u8], start: usize) -> [u32; TIERS]
-    requires { ⌜ start + 21 ≤ length (now fields) ⌝ }
-    ensures { λ r. ⌜ r ≡ rateRow (now (fields .entry)) start ⌝ }
+// The number of the zone whose value starts there.
+fn zone_number(fields: &[u8], start: usize, width: usize) -> u16
+    requires { ⌜ (start + width ≤ length (now fields)) × (1 ≤ width) × (width ≤ 2) ⌝ }
+    ensures { λ r. ⌜ r ≡ numberAt (now (fields .entry)) start width ⌝ }
+{
+    if width == 1 {
+        return read_u8(fields, start) as u16;
+    }
+    read_u16(fields, start)
+}
+
+fn rate_row(fields: &[u8], rates: usize) -> [u32; TIERS]
+    requires { ⌜ rates + 20 ≤ length (now fields) ⌝ }
+    ensures { λ r. ⌜ r ≡ ratesFrom (now (fields .entry)) rates ⌝ }
 {
     [
-        numbers::big_endian::read_u32(fields, start + 1),
-        numbers::big_endian::read_u32(fields, start + 5),
-        numbers::big_endian::read_u32(fields, start + 9),
-        numbers::big_endian::read_u32(fields, start + 13),
-        numbers::big_endian::read_u32(fields, start + 17),
+        read_u32(fields, rates),
+        read_u32(fields, rates + 4),
+        read_u32(fields, rates + 8),
+        read_u32(fields, rates + 12),
+        read_u32(fields, rates + 16),
     ]
 }
 
@@ -49,10 +84,12 @@ pub fn zone_rates(fields: &[u8]) -> Rates
 {
     let first = first_zone(fields);
     let count = zone_count(fields);
+    let width = number_width(fields);
+    let apart = width + 23;
     let mut rates = [[0u32; TIERS]; MOST_ZONES];
     let mut zone: usize = 0;
     while zone < count {
-        rates[zone] = rate_row(fields, first + 24 * zone);
+        rates[zone] = rate_row(fields, first + apart * zone + width);
         zone += 1;
     }
     rates
@@ -65,19 +102,22 @@ pub fn zone_numbers(fields: &[u8]) -> [u16; MOST_ZONES]
 {
     let first = first_zone(fields);
     let count = zone_count(fields);
+    let width = number_width(fields);
+    let apart = width + 23;
     let mut numbers = [0u16; MOST_ZONES];
     let mut zone: usize = 0;
     while zone < count {
-        numbers[zone] = numbers::big_endian::read_u8(fields, first + 24 * zone) as u16;
+        numbers[zone] = zone_number(fields, first + apart * zone, width);
         zone += 1;
     }
     numbers
 }
 
-// The first zone, and in it the first tier, over the limit gives the place.
-fn first_rate_over(rates: Rates, zones: usize, first: usize) -> Judged
-    requires { ⌜ (zones ≤ mostZones) × (first + 24 * zones < 2 ^ 64) ⌝ }
-    ensures { λ r. ⌜ r ≡ judgeRows first (take zones rates) ⌝ }
+// The first zone, and in it the first tier, over the limit gives the place; the first zone's rates
+// start at `first`.
+fn first_rate_over(rates: Rates, zones: usize, first: usize, apart: usize) -> Judged
+    requires { ⌜ (zones ≤ mostZones) × (20 ≤ apart) × (apart ≤ 25) × (first + apart * zones < 2 ^ 64) ⌝ }
+    ensures { λ r. ⌜ r ≡ judgeRows apart first (take zones rates) ⌝ }
 {
     let mut judged = Judged::Passes;
     let mut zone: usize = 0;
@@ -85,7 +125,7 @@ fn first_rate_over(rates: Rates, zones: usize, first: usize) -> Judged
         let mut tier: usize = 0;
         while tier < TIERS {
             if HIGHEST_RATE < rates[zone][tier] {
-                judged = Judged::Fails(first + 24 * zone + 4 * tier + 1);
+                judged = Judged::Fails(first + apart * zone + 4 * tier);
                 break 'zones;
             }
             tier += 1;
@@ -96,16 +136,21 @@ fn first_rate_over(rates: Rates, zones: usize, first: usize) -> Judged
 }
 
 // The first zone whose number isn't above the last one's.
-fn first_number_not_above(numbers: [u16; MOST_ZONES], zones: usize, first: usize) -> Judged
-    requires { ⌜ (zones ≤ mostZones) × (first + 24 * zones < 2 ^ 64) ⌝ }
-    ensures { λ r. ⌜ r ≡ judgeRise 0 first (take zones numbers) ⌝ }
+fn first_number_not_above(
+    numbers: [u16; MOST_ZONES],
+    zones: usize,
+    first: usize,
+    apart: usize,
+) -> Judged
+    requires { ⌜ (zones ≤ mostZones) × (apart ≤ 25) × (first + apart * zones < 2 ^ 64) ⌝ }
+    ensures { λ r. ⌜ r ≡ judgeRise apart 0 first (take zones numbers) ⌝ }
 {
     let mut least: usize = 0;
     let mut zone: usize = 0;
     while zone < zones {
         let number = wide(numbers[zone]);
         if number < least {
-            return Judged::Fails(first + 24 * zone);
+            return Judged::Fails(first + apart * zone);
         }
         least = number + 1;
         zone += 1;
@@ -144,6 +189,8 @@ pub fn judge_zones(fields: &[u8], rates: Rates) -> Judged
 {
     let first = first_zone(fields);
     let zones = zone_count(fields);
-    let number = first_number_not_above(zone_numbers(fields), zones, first);
-    lower(number, first_rate_over(rates, zones, first))
+    let width = number_width(fields);
+    let apart = width + 23;
+    let number = first_number_not_above(zone_numbers(fields), zones, first, apart);
+    lower(number, first_rate_over(rates, zones, first + width, apart))
 }

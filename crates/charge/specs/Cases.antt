@@ -2,3 +2,4 @@ pub mod MarkedFigures
 pub mod Classes
 pub mod PriceEnding
 pub mod Price
+pub mod ZoneForms

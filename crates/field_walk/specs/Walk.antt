@@ -1,9 +1,10 @@
 -- Document 01, 'Tagged fields': "A field is a one-byte tag, a two-byte length, then the value. Every field listed occurs once, in rising
 -- tag order, except where a count is given. Its permitted lengths stand in one constant table for each kind of file."
 -- A kind of file is its rows; the walk is one definition over any rows. It sees the file without the last five bytes, the field FF.
+-- A kind may have files of two forms: a row of one form permits its field in files of that form alone.
 use Prim.Native.Nat.{ℕ, zero, suc, _+_, _-_, _%_, _<_, _≤_}
 use mathlib.Core.Path.{_≡_}
-use mathlib.Core.List.{List, [], _∷_}
+use mathlib.Core.List.{List, [], _∷_, map}
 use mathlib.Core.Bool.{Bool, true, false, cond}
 use lib.ListN.{length, getD, take, drop}
 use lib.Dec.{ltb, leb, eqb}
@@ -15,7 +16,7 @@ use Rattle.field_walk.specs.declared.walk.Front.the-variants.{End, Field
 use Rattle.field_walk.specs.declared.walk.Walked.{Walked}
 use Rattle.field_walk.specs.declared.walk.Walked.the-variants.{Walks, Stops}
 
--- A row: tag, lowest, highest and step of length, how often at least and at most.
+-- A row: tag, lowest, highest and step of length, how often at least and at most, and the form that it is of: 0 for both.
 abbrev pub tagOf : List ℕ → ℕ
 tagOf row = getD row 0 0
 
@@ -33,6 +34,31 @@ leastOf row = getD row 4 0
 
 abbrev pub mostOf : List ℕ → ℕ
 mostOf row = getD row 5 0
+
+abbrev pub formOf : List ℕ → ℕ
+formOf row = getD row 6 0
+
+-- Document 02, E6: "A book may carry field 09 .. in place of every 08 .. A request may carry 0D .. in place of 04." What is carried in place of another
+-- is the file's second form.
+abbrev pub firstForm : ℕ
+firstForm = 1
+
+abbrev pub secondForm : ℕ
+secondForm = 2
+
+-- what both forms have
+abbrev pub neitherForm : ℕ
+neitherForm = 0
+
+abbrev pub inForm : ℕ → List ℕ → Bool
+inForm form row = cond (eqb (formOf row) 0) true (eqb (formOf row) form)
+
+-- a row in files of a form: a row of the other form permits no field
+abbrev pub rowIn : ℕ → List ℕ → List ℕ
+rowIn form row = cond (inForm form row) row (tagOf row ∷ lowestOf row ∷ highestOf row ∷ stepOf row ∷ 0 ∷ 0 ∷ [])
+
+abbrev pub rowsIn : ℕ → List (List ℕ) → List (List ℕ)
+rowsIn form rows = map (rowIn form) rows
 
 -- the row, at or after row k, that a field with this tag counts to, where n fields of row k have come
 unfoldable pub dueFrom : List (List ℕ) → ℕ → ℕ → ℕ → Due
@@ -105,8 +131,20 @@ walkFrom (suc most) rows k n at s =
     andThen (record { tag = getD s 0 0; start = at + 3; len = len })
     (walkFrom most rows k′ n′ (at + (len + 3)) (drop (len + 3) s)))
 
+-- by the rows of one form
+abbrev pub walkBy : List (List ℕ) → List ℕ → Walk
+walkBy rows s = walkFrom (length s + 1) rows 0 0 0 s
+
+-- A file walks by its first form or by its second. "(Both forms in one file, or neither, is 1, at the second form or at the place where the first was due if
+-- the rest walks.)" Otherwise a field can stand as long as a file of either form can begin so: the further of the two places.
+abbrev pub byForms : Walk → Walk → Walk → Walk
+byForms (fields fs) second neither = fields fs
+byForms (stops at) (fields fs) neither = fields fs
+byForms (stops at) (stops at′) (fields fs) = stops at
+byForms (stops at) (stops at′) (stops _) = stops (cond (ltb at at′) at′ at)
+
 abbrev pub walk : List (List ℕ) → List ℕ → Walk
-walk rows s = walkFrom (length s + 1) rows 0 0 0 s
+walk rows s = byForms (walkBy (rowsIn firstForm rows) s) (walkBy (rowsIn secondForm rows) s) (walkBy (rowsIn neitherForm rows) s)
 
 -- the fields walk
 abbrev pub FieldsWalk : List (List ℕ) → List ℕ → Type 0

@@ -1,12 +1,23 @@
 // The walk over a file's fields: one walker for every kind of file, by the rows that it is handed.
 ghost use mathlib.Core.Path.{_≡_};
 ghost use mathlib.Core.List.{[]};
+ghost use mathlib.Core.Bool.{cond};
+ghost use lib.Dec.{ltb};
 ghost use Prim.Native.Nat.{_<_};
 ghost use lib.ListN.{length, getD, drop};
-ghost use Rattle.field_walk.specs.Walk.{dueFrom, allHad, permittedBy, frontOf, walk, walked, RowBelow, EndsWithin};
+ghost use Rattle.field_walk.specs.Walk.{leastOf, mostOf, inForm, rowIn, rowsIn, dueFrom, allHad, permittedBy, frontOf, walkBy, walk, walked, RowBelow, EndsWithin};
 
-// A row of a kind's table: tag; lowest, highest and step of length; least and most times.
-pub type Row = [u16; 6];
+// A row of a kind's table: tag; lowest, highest and step of length; least and most times; the form
+// that it is of, 0 for both.
+pub type Row = [u16; 7];
+
+// The forms of a kind's files: a field of the second stands in place of one of the first.
+pub const FIRST_FORM: u16 = 1;
+
+pub const SECOND_FORM: u16 = 2;
+
+// What both forms have.
+const NEITHER_FORM: u16 = 0;
 
 // Which row a field's tag counts to, and how many fields of that row have then come.
 pub enum Due {
@@ -37,16 +48,51 @@ fn wide(x: u16) -> usize
     x as usize
 }
 
-// The row that a field with this tag counts to, where `had` fields of the row `from` have come.
-fn row_due(rows: &[Row], from: usize, had: usize, tag: u8) -> Due
-    ensures { λ r. ⌜ r ≡ dueFrom (drop from (now (rows .entry))) from had tag ⌝ }
+// Whether files of a form may have fields of the row.
+fn in_form(rows: &[Row], row: usize, form: u16) -> bool
+    requires { ⌜ row < length (now rows) ⌝ }
+    ensures { λ r. ⌜ r ≡ inForm form (getD (now (rows .entry)) row []) ⌝ }
+{
+    let of = rows[row][6];
+    if of == 0 {
+        return true;
+    }
+    of == form
+}
+
+// How often a field of the row comes at least in files of a form.
+fn least_in(rows: &[Row], row: usize, form: u16) -> usize
+    requires { ⌜ row < length (now rows) ⌝ }
+    ensures { λ r. ⌜ r ≡ leastOf (rowIn form (getD (now (rows .entry)) row [])) ⌝ }
+{
+    if in_form(rows, row, form) {
+        return wide(rows[row][4]);
+    }
+    0
+}
+
+// How often it comes at most.
+fn most_in(rows: &[Row], row: usize, form: u16) -> usize
+    requires { ⌜ row < length (now rows) ⌝ }
+    ensures { λ r. ⌜ r ≡ mostOf (rowIn form (getD (now (rows .entry)) row [])) ⌝ }
+{
+    if in_form(rows, row, form) {
+        return wide(rows[row][5]);
+    }
+    0
+}
+
+// The row that a field with this tag counts to in a file of this form, where `had` fields of the row
+// `from` have come.
+fn row_due(rows: &[Row], form: u16, from: usize, had: usize, tag: u8) -> Due
+    ensures { λ r. ⌜ r ≡ dueFrom (drop from (rowsIn form (now (rows .entry)))) from had tag ⌝ }
     ensures { λ r. ⌜ RowBelow (length (now (rows .entry))) r ⌝ }
 {
     let mut row = from;
     let mut count = had;
     while row < rows.len() {
         if wide(rows[row][0]) == tag as usize {
-            if count < wide(rows[row][5]) {
+            if count < most_in(rows, row, form) {
                 return Due::Row {
                     row,
                     count: count + 1,
@@ -54,7 +100,7 @@ fn row_due(rows: &[Row], from: usize, had: usize, tag: u8) -> Due
             }
             return Due::NotDue;
         }
-        if count < wide(rows[row][4]) {
+        if count < least_in(rows, row, form) {
             return Due::NotDue;
         }
         row += 1;
@@ -64,13 +110,13 @@ fn row_due(rows: &[Row], from: usize, had: usize, tag: u8) -> Due
 }
 
 // Whether no field is due any more, where `had` fields of the row `from` have come.
-fn all_had(rows: &[Row], from: usize, had: usize) -> bool
-    ensures { λ r. ⌜ r ≡ allHad (drop from (now (rows .entry))) had ⌝ }
+fn all_had(rows: &[Row], form: u16, from: usize, had: usize) -> bool
+    ensures { λ r. ⌜ r ≡ allHad (drop from (rowsIn form (now (rows .entry)))) had ⌝ }
 {
     let mut row = from;
     let mut count = had;
     while row < rows.len() {
-        if count < wide(rows[row][4]) {
+        if count < least_in(rows, row, form) {
             return false;
         }
         row += 1;
@@ -99,12 +145,12 @@ fn permitted(rows: &[Row], row: usize, len: usize) -> bool
 }
 
 // What the rest of a file starts with, where `had` fields of the row `from` have come.
-fn front_of(rows: &[Row], from: usize, had: usize, rest: &[u8]) -> Front
-    ensures { λ r. ⌜ r ≡ frontOf (now (rows .entry)) from had (now (rest .entry)) ⌝ }
+fn front_of(rows: &[Row], form: u16, from: usize, had: usize, rest: &[u8]) -> Front
+    ensures { λ r. ⌜ r ≡ frontOf (rowsIn form (now (rows .entry))) from had (now (rest .entry)) ⌝ }
     ensures { λ r. ⌜ EndsWithin (length (now (rest .entry))) r ⌝ }
 {
     if rest.len() == 0 {
-        if all_had(rows, from, had) {
+        if all_had(rows, form, from, had) {
             return Front::End;
         }
         return Front::CannotStand;
@@ -112,7 +158,7 @@ fn front_of(rows: &[Row], from: usize, had: usize, rest: &[u8]) -> Front
     if rest.len() < 3 {
         return Front::CannotStand;
     }
-    let due = row_due(rows, from, had, rest[0]);
+    let due = row_due(rows, form, from, had, rest[0]);
     match due {
         Due::Row { row, count } => {
             let len = numbers::big_endian::read_u16(rest, 1) as usize;
@@ -128,16 +174,17 @@ fn front_of(rows: &[Row], from: usize, had: usize, rest: &[u8]) -> Front
     }
 }
 
-// The walk: after a field, the part of the file from its end onward is what the next step sees.
-pub fn walk(rows: &[Row], fields: &[u8]) -> Walked
-    ensures { λ r. ⌜ r ≡ walked (walk (now (rows .entry)) (now (fields .entry))) ⌝ }
+// The walk by the rows of a form: after a field, the part of the file from its end onward is what the
+// next step sees.
+fn walk_by(rows: &[Row], form: u16, fields: &[u8]) -> Walked
+    ensures { λ r. ⌜ r ≡ walked (walkBy (rowsIn form (now (rows .entry))) (now (fields .entry))) ⌝ }
 {
     let mut rest = fields;
     let mut at: usize = 0;
     let mut row: usize = 0;
     let mut count: usize = 0;
     loop {
-        let first = front_of(rows, row, count, rest);
+        let first = front_of(rows, form, row, count, rest);
         match first {
             Front::End => {
                 return Walked::Walks;
@@ -155,6 +202,40 @@ pub fn walk(rows: &[Row], fields: &[u8]) -> Walked
             }
             Front::CannotStand => {
                 return Walked::Stops(at);
+            }
+        }
+    }
+}
+
+// The further of two places.
+fn further(at: usize, other: usize) -> usize
+    ensures { λ r. ⌜ r ≡ cond (ltb at other) other at ⌝ }
+{
+    if at < other {
+        return other;
+    }
+    at
+}
+
+// The walk by either form; where neither form's field has come and the rest walks, the place is where
+// the first form's was due.
+pub fn walk(rows: &[Row], fields: &[u8]) -> Walked
+    ensures { λ r. ⌜ r ≡ walked (walk (now (rows .entry)) (now (fields .entry))) ⌝ }
+{
+    let first = walk_by(rows, FIRST_FORM, fields);
+    match first {
+        Walked::Walks => Walked::Walks,
+        Walked::Stops(at) => {
+            let second = walk_by(rows, SECOND_FORM, fields);
+            match second {
+                Walked::Walks => Walked::Walks,
+                Walked::Stops(at_second) => {
+                    let neither = walk_by(rows, NEITHER_FORM, fields);
+                    match neither {
+                        Walked::Walks => Walked::Stops(at),
+                        Walked::Stops(_) => Walked::Stops(further(at, at_second)),
+                    }
+                }
             }
         }
     }

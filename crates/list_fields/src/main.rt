@@ -76,6 +76,8 @@ fn right_files() {
     show(Kind::Request, b"request.bin");
     show(Kind::Ledger, b"ledger.bin");
     show(Kind::Ledger, b"ledger_as_new.bin");
+    show(Kind::Book, b"book_wide.bin");
+    show(Kind::Request, b"request_wide.bin");
 }
 
 fn bad_tails_and_checks() {
@@ -102,8 +104,16 @@ fn files_that_do_not_walk() {
     show(Kind::Request, b"book.bin");
 }
 
+fn files_of_both_forms_and_of_neither() {
+    show(Kind::Book, b"book_both_forms.bin");
+    show(Kind::Book, b"book_ends_early.bin");
+    show(Kind::Request, b"request_both_forms.bin");
+    show(Kind::Request, b"request_neither_form.bin");
+}
+
 fn main() {
     right_files();
     bad_tails_and_checks();
     files_that_do_not_walk();
+    files_of_both_forms_and_of_neither();
 }

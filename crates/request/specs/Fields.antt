@@ -5,7 +5,9 @@ use mathlib.Core.List.{List, [], _∷_, _++_}
 use lib.ListN.{replicate}
 use lib.Dec.{eqb}
 use Rattle.numbers.specs.BigEndian.{numberAt}
-use Rattle.tagged.specs.Find.{fieldValue}
+use Rattle.tagged.specs.Find.{firstPlace, fieldValue}
+use Rattle.tagged.specs.declared.find.Place.{Place}
+use Rattle.tagged.specs.declared.find.Place.the-variants.{At, Nowhere}
 use Rattle.field_values.specs.Limits.{tierCount, highestClass, specialPricing, highestAmount, highestMode, highestDemand, highestRate, highestRevenue, lowestCapacity, highestCapacity, highestMark, highestOfTwoBytes}
 use Rattle.request.specs.declared.fields.Amounts.{Amounts}
 use Rattle.request.specs.declared.fields.Tiers.{Tiers}
@@ -23,9 +25,13 @@ classLimits = (1 ∷ 0 ∷ highestClass ∷ []) ∷ []
 abbrev pub classIn : List ℕ → ℕ
 classIn s = numberAt (fieldValue 3 s) 0 1
 
--- 04, "zone number": any value of its width
+-- 04, "zone number", or 0D in its place: any value of its width. Document 02, E6: "a two-byte number up to 255 means the same zone as the one-byte number"
+abbrev pub zoneBy : Place → List ℕ → ℕ
+zoneBy Nowhere s = numberAt (fieldValue 4 s) 0 1
+zoneBy (At start len) s = numberAt (fieldValue 13 s) 0 2
+
 abbrev pub zoneIn : List ℕ → ℕ
-zoneIn s = numberAt (fieldValue 4 s) 0 1
+zoneIn s = zoneBy (firstPlace 13 s) s
 
 -- 05, "six 4-byte amounts, each at most 1,000,000,000: minimum scheme extension ME, customer enhancement extension CE, distributor enhancement DE,
 -- transmission works TW, historical cost recovery HR, operating loading OL"

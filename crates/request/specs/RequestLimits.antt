@@ -10,7 +10,7 @@ use Rattle.request.specs.declared.values.Request.{Request}
 pub record RequestWithin (request : Request) : Type 0 where
   pub person : request .person < 2 ^ 32
   pub class : request .class ≤ highestClass
-  pub zone : request .zone < 256
+  pub zone : request .zone < 65536
   pub me : request .me ≤ highestAmount
   pub ce : request .ce ≤ highestAmount
   pub de : request .de ≤ highestAmount

@@ -15,7 +15,9 @@ use field_values::limits::TIERS;
 use numbers::big_endian::read_u8;
 use numbers::big_endian::read_u16;
 use numbers::big_endian::read_u32;
+use tagged::find::Place;
 use tagged::find::find;
+use tagged::find::place_of;
 ghost use mathlib.Core.Path.{_≡_};
 ghost use Prim.Native.Nat.{_+_, _*_, _<_, _≤_};
 ghost use lib.ListN.{length};
@@ -124,11 +126,16 @@ pub fn read_class(fields: &[u8]) -> u8
     read_u8(find(fields, 3), 0)
 }
 
+// Field 04, or 0D in its place.
 pub fn read_zone(fields: &[u8]) -> u16
     requires { ⌜ FieldsWalk requestRows (now fields) ⌝ }
     ensures { λ r. ⌜ r ≡ zoneIn (now (fields .entry)) ⌝ }
 {
-    read_u8(find(fields, 4), 0) as u16
+    let wide = place_of(fields, 13);
+    match wide {
+        Place::At { start: _, len: _ } => read_u16(find(fields, 13), 0),
+        Place::Nowhere => read_u8(find(fields, 4), 0) as u16,
+    }
 }
 
 pub fn read_amounts(fields: &[u8]) -> Amounts

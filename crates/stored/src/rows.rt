@@ -7,12 +7,12 @@ ghost use mathlib.Core.Path.{_≡_};
 ghost use Rattle.tagged.specs.File.{fileAnswer};
 ghost use Rattle.stored.specs.StoredRows.{storedRows};
 
-// Tag; lowest, highest and step of length; least and most times.
+// Tag; lowest, highest and step of length; least and most times; the form, 0 for both.
 pub const STORED_ROWS: [Row; 4] = [
-    [1, 4, 4, 1, 1, 1],
-    [2, 22, 22, 1, 1, 1],
-    [3, 24, 24, 1, 0, MOST_SCHEMES as u16],
-    [4, 30, 30, 1, 0, MOST_ENTRIES as u16],
+    [1, 4, 4, 1, 1, 1, 0],
+    [2, 22, 22, 1, 1, 1, 0],
+    [3, 24, 24, 1, 0, MOST_SCHEMES as u16, 0],
+    [4, 30, 30, 1, 0, MOST_ENTRIES as u16, 0],
 ];
 
 // Whether a file stands as a stored ledger: its last five bytes, its check and its fields. `number` is the

@@ -8,4 +8,5 @@ pub mod FieldsWith
 pub mod Impossible
 pub mod TestedAnswers
 pub mod WalkEncoded
+pub mod WalkFurther
 pub mod WithField

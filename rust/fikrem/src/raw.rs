@@ -99,8 +99,8 @@ pub const BAND: usize = 6;
 
 // The most bytes of a book, a request, a slip and a stored ledger, the bytes of a page, and the records of the longest
 // party table.
-pub const BOOK_SIZE: usize = 313;
-pub const REQUEST_SIZE: usize = 205;
+pub const BOOK_SIZE: usize = 321;
+pub const REQUEST_SIZE: usize = 206;
 pub const TEXT_SIZE: usize = 256;
 pub const LEDGER_SIZE: usize = 18_661;
 pub const PAGE_SIZE: usize = 768;

@@ -4,6 +4,7 @@ use crate::book::Book;
 use crate::damage::damaged;
 use crate::random::Random;
 use crate::request::{refused_bespoke_rate, Request};
+use crate::zone_numbers::{book_in_either_form, request_in_either_form};
 use reference::{Answer, Ledger, Party, Reconciliation, Refusal};
 
 /// A call on a ledger and its table.
@@ -128,9 +129,10 @@ impl Maker<'_> {
         if self.random.once_in(2) {
             (request.distribution_revenue, request.transmission_revenue) = (0, 0);
         }
-        let (threshold, mut book) = (book.threshold, book.encode());
+        let threshold = book.threshold;
+        let mut book = book_in_either_form(self.random, book);
         self.apply_to_ledger(&mut request, threshold);
-        let mut request = request.encode();
+        let mut request = request_in_either_form(self.random, &request);
         if self.random.once_in(40) {
             book = damaged(self.random, &book);
         }

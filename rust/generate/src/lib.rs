@@ -16,6 +16,7 @@ pub mod fields;
 pub mod ledgers;
 pub mod random;
 pub mod request;
+pub mod zone_numbers;
 
 pub use book::Book;
 pub use calls::{Call, Outcome};

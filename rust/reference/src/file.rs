@@ -1,4 +1,5 @@
-//! Document 01, 'Tagged fields': the check, the walk over a file's fields, and the values in them.
+//! Document 01, 'Tagged fields': the check, the walk over a file's fields, and the values in them. Document 02, E6: the
+//! two forms of zone numbers.
 
 use crate::refusal::{self, Refusal};
 use std::ops::RangeInclusive;
@@ -14,6 +15,15 @@ pub const MOST_FACTORS: usize = 8;
 /// The highest factor.
 pub const HIGHEST_FACTOR: u16 = 40_000;
 
+/// The forms in which a file may give its zone numbers, each in place of the other.
+#[derive(Debug, Clone, Copy, PartialEq, Eq)]
+pub enum Form {
+    /// One-byte numbers: 08 of a book, 04 of a request.
+    Narrow,
+    /// Two-byte numbers: 09 of a book, 0D of a request.
+    Wide,
+}
+
 /// "Its permitted lengths stand in one constant table for each kind of file": a row of that table.
 #[derive(Debug, Clone, Copy)]
 pub struct Row {
@@ -25,6 +35,8 @@ pub struct Row {
     /// Least and most times that the field occurs.
     pub least: usize,
     pub most: usize,
+    /// The form that the field belongs to, if it isn't in every file.
+    pub form: Option<Form>,
 }
 
 impl Row {
@@ -35,12 +47,17 @@ impl Row {
 
     /// A field of one length that occurs `least` to `most` times.
     pub const fn times(tag: u8, length: usize, least: usize, most: usize) -> Row {
-        Row { tag, lowest: length, highest: length, step: 1, least, most }
+        Row { tag, lowest: length, highest: length, step: 1, least, most, form: None }
     }
 
     /// A list of 1 to 8 factors of 2 bytes.
     pub const fn factors(tag: u8) -> Row {
-        Row { tag, lowest: 2, highest: 2 * MOST_FACTORS, step: 2, least: 1, most: 1 }
+        Row { tag, lowest: 2, highest: 2 * MOST_FACTORS, step: 2, least: 1, most: 1, form: None }
+    }
+
+    /// The row in the files of one form alone.
+    pub const fn in_form(self, form: Form) -> Row {
+        Row { form: Some(form), ..self }
     }
 
     /// Where the field at `place` ends, if this row permits it and it ends within `body`.
@@ -77,7 +94,20 @@ pub fn open<'a>(bytes: &'a [u8], rows: &[Row], file: u8) -> Result<Fields<'a>, R
 }
 
 /// Walks the fields before the check; the offset of the first that can't stand there otherwise.
+///
+/// A field stands if it does in one of the forms, so the form that goes further has the place. "Both forms in one file, or
+/// neither, is 1, at the second form or at the place where the first was due if the rest walks."
 fn walk(body: &[u8], rows: &[Row]) -> Result<(), usize> {
+    let by = |form| walk_rows(body, rows.iter().filter(|row| row.form.is_none() || row.form == form));
+    match (by(Some(Form::Narrow)), by(Some(Form::Wide))) {
+        (Ok(()), _) | (_, Ok(())) => Ok(()),
+        (Err(first_due), Err(_)) if by(None).is_ok() => Err(first_due),
+        (Err(narrow), Err(wide)) => Err(narrow.max(wide)),
+    }
+}
+
+/// Walks the fields before the check by these rows; the offset of the first that can't stand by them otherwise.
+fn walk_rows<'a>(body: &[u8], rows: impl Iterator<Item = &'a Row>) -> Result<(), usize> {
     let mut place = 0;
     for row in rows {
         let mut times = 0;
@@ -111,6 +141,11 @@ impl<'a> Fields<'a> {
     /// If no field is left; a file that walks has every field that is due.
     pub fn due(&mut self) -> Value<'a> {
         self.next().expect("the file walks").1
+    }
+
+    /// The value of the next field, if it has this tag.
+    pub fn due_if(&mut self, tag: u8) -> Option<Value<'a>> {
+        (self.rest.first() == Some(&tag)).then(|| self.due())
     }
 }
 

@@ -1,6 +1,6 @@
 //! Document 01, 'Rate book'.
 
-use crate::file::{self, Factors, Row, Value};
+use crate::file::{self, Factors, Form, Row, Value};
 use crate::refusal::{Refusal, BOOK};
 
 /// The tiers: LV mains, distribution substation, HV feeder, zone substation, sub-transmission.
@@ -18,8 +18,13 @@ pub const LOWEST_TERM: u16 = 84;
 /// A factor of one, and a share of all.
 pub const ONE: u16 = 10_000;
 
+/// A zone with a one-byte number.
+const NARROW_ZONE_TAG: u8 = 0x08;
+/// Document 02, E6: "22 bytes, two-byte zone number, else as 08".
+const WIDE_ZONE_TAG: u8 = 0x09;
+
 /// The permitted lengths of a rate book.
-pub const ROWS: [Row; 8] = [
+pub const ROWS: [Row; 9] = [
     Row::once(0x01, 4),
     Row::once(0x02, 2),
     Row::once(0x03, 40),
@@ -27,7 +32,8 @@ pub const ROWS: [Row; 8] = [
     Row::factors(0x05),
     Row::once(0x06, 14),
     Row::once(0x07, 3),
-    Row::times(0x08, 21, 1, MOST_ZONES),
+    Row::times(NARROW_ZONE_TAG, 21, 1, MOST_ZONES).in_form(Form::Narrow),
+    Row::times(WIDE_ZONE_TAG, 22, 1, MOST_ZONES).in_form(Form::Wide),
 ];
 
 /// A rate book whose values are within their limits.
@@ -60,7 +66,7 @@ pub struct SchemeTerms {
 #[derive(Debug, Clone, Copy, PartialEq, Eq)]
 pub struct Zones {
     count: usize,
-    numbers: [u8; MOST_ZONES],
+    numbers: [u16; MOST_ZONES],
     rates: [[u32; TIERS]; MOST_ZONES],
 }
 
@@ -84,7 +90,7 @@ impl RateBook {
             scheme_terms,
             capacity_charged: charging.u8_within(0..=1)? == 1,
             credit_share: charging.u16_within(0..=ONE)?,
-            zones: Zones::read(fields.map(|(_, value)| value))?,
+            zones: Zones::read(fields)?,
         })
     }
 }
@@ -119,17 +125,17 @@ impl SchemeTerms {
 }
 
 impl Zones {
-    /// "zone number (1), each above the last; five 4-byte rates"
-    fn read<'a>(values: impl Iterator<Item = Value<'a>>) -> Result<Zones, Refusal> {
+    /// "zone number (1), each above the last; five 4-byte rates", or document 02's two-byte number
+    fn read<'a>(fields: impl Iterator<Item = (u8, Value<'a>)>) -> Result<Zones, Refusal> {
         let mut zones = Zones { count: 0, numbers: [0; MOST_ZONES], rates: [[0; TIERS]; MOST_ZONES] };
-        let mut lowest = 0;
-        for mut value in values {
+        let mut last = None;
+        for (tag, mut value) in fields {
             let refused = value.refused();
-            let number = value.u8();
-            if u16::from(number) < lowest {
+            let number = if tag == WIDE_ZONE_TAG { value.u16() } else { u16::from(value.u8()) };
+            if last.is_some_and(|last| number <= last) {
                 return Err(refused);
             }
-            lowest = u16::from(number) + 1;
+            last = Some(number);
             for rate in &mut zones.rates[zones.count] {
                 *rate = value.u32_within(0..=HIGHEST_RATE)?;
             }
@@ -140,7 +146,7 @@ impl Zones {
     }
 
     /// The posted rates of a zone, if it is in the book.
-    pub fn posted_rates(&self, zone: u8) -> Option<&[u32; TIERS]> {
+    pub fn posted_rates(&self, zone: u16) -> Option<&[u32; TIERS]> {
         let index = self.numbers[..self.count].iter().position(|&number| number == zone)?;
         Some(&self.rates[index])
     }

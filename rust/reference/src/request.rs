@@ -1,6 +1,6 @@
 //! Document 01, 'Request'.
 
-use crate::file::{self, Factors, Row, Value};
+use crate::file::{self, Factors, Form, Row, Value};
 use crate::rate_book::{HIGHEST_RATE, TIERS};
 use crate::refusal::{Refusal, REQUEST};
 
@@ -11,12 +11,17 @@ pub const HIGHEST_DEMAND: u32 = 1_000_000;
 /// "capacity (4), 1 to 1,000,000"
 pub const HIGHEST_CAPACITY: u32 = 1_000_000;
 
+/// The zone by a one-byte number.
+const NARROW_ZONE_TAG: u8 = 0x04;
+/// Document 02, E6: "0D (2 bytes) in place of 04".
+const WIDE_ZONE_TAG: u8 = 0x0D;
+
 /// The permitted lengths of a request.
-pub const ROWS: [Row; 12] = [
+pub const ROWS: [Row; 13] = [
     Row::once(0x01, 4),
     Row::once(0x02, 4),
     Row::once(0x03, 1),
-    Row::once(0x04, 1),
+    Row::once(NARROW_ZONE_TAG, 1).in_form(Form::Narrow),
     Row::once(0x05, 24),
     Row::once(0x06, 45),
     Row::once(0x07, 20),
@@ -25,6 +30,7 @@ pub const ROWS: [Row; 12] = [
     Row::factors(0x0A),
     Row::factors(0x0B),
     Row::once(0x0C, 9),
+    Row::once(WIDE_ZONE_TAG, 2).in_form(Form::Wide),
 ];
 
 /// A request whose values are within their limits.
@@ -32,7 +38,8 @@ pub const ROWS: [Row; 12] = [
 pub struct Request {
     pub person: u32,
     pub class: Class,
-    pub zone: u8,
+    /// One of one byte is the zone of the same number in two bytes.
+    pub zone: u16,
     pub amounts: Amounts,
     pub tiers: [Tier; TIERS],
     /// "five added demands of the customer's enhancement"
@@ -106,7 +113,7 @@ impl Request {
         fields.due().letters(b"CONN")?;
         let person = fields.due().u32();
         let class = Class::read(fields.due())?;
-        let zone = fields.due().u8();
+        let narrow_zone = fields.due_if(NARROW_ZONE_TAG).map(|mut zone| u16::from(zone.u8()));
         let amounts = Amounts::read(fields.due(), class)?;
         let tiers = tiers(fields.due())?;
         let mut added_demands = [0; TIERS];
@@ -118,7 +125,6 @@ impl Request {
         Ok(Request {
             person,
             class,
-            zone,
             amounts,
             tiers,
             added_demands,
@@ -128,6 +134,7 @@ impl Request {
             distribution_tariff_factors: fields.due().factors()?,
             transmission_tariff_factors: fields.due().factors()?,
             joining: Joining::read(fields.due())?,
+            zone: narrow_zone.unwrap_or_else(|| fields.due().u16()),
         })
     }
 }

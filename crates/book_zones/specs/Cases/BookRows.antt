@@ -52,6 +52,47 @@ bookFiles =
     (zones 9, stops 286) ∷
     []
 
+-- Document 02, E6: the two forms, of a book whose zones start at 88. Both in one file stop at the second form that comes, neither at the place where the
+-- first was due.
+abbrev head : List (ℕ × List ℕ)
+head = zeros ((1, 4) ∷ (2, 2) ∷ (3, 40) ∷ (4, 2) ∷ (5, 2) ∷ (6, 14) ∷ (7, 3) ∷ [])
+
+abbrev narrow : ℕ × List ℕ
+narrow = (8, replicate 21 0)
+
+abbrev wide : ℕ × List ℕ
+wide = (9, replicate 22 0)
+
+-- the fields after 07
+abbrev formFiles : List (List (ℕ × List ℕ) × FileAnswer)
+formFiles =
+    (narrow ∷ [], Stands) ∷
+    (wide ∷ [], Stands) ∷
+    (replicate 8 narrow, Stands) ∷
+    (replicate 8 wide, Stands) ∷
+    ([], stops 88) ∷
+    (narrow ∷ wide ∷ [], stops 112) ∷
+    (narrow ∷ wide ∷ narrow ∷ [], stops 112) ∷
+    (narrow ∷ wide ∷ (10, 0 ∷ []) ∷ [], stops 112) ∷
+    (wide ∷ narrow ∷ [], stops 113) ∷
+    (wide ∷ wide ∷ narrow ∷ wide ∷ [], stops 138) ∷
+    (replicate 8 narrow ++ (wide ∷ []), stops 280) ∷
+    (replicate 8 wide ++ (narrow ∷ []), stops 288) ∷
+    (replicate 9 narrow, stops 280) ∷
+    (replicate 9 wide, stops 288) ∷
+    ((255, 0 ∷ 0 ∷ []) ∷ [], stops 88) ∷
+    ((10, 0 ∷ []) ∷ [], stops 88) ∷
+    -- a field 09 of another length, and a field 08 of a field 09's
+    ((9, replicate 21 0) ∷ [], stops 88) ∷
+    ((9, replicate 23 0) ∷ [], stops 88) ∷
+    ((8, replicate 22 0) ∷ [], stops 88) ∷
+    (wide ∷ (9, replicate 21 0) ∷ [], stops 113) ∷
+    []
+
+pub form-files-stand : map (λ t. fileAnswer bookRows 1 (closed (head ++ t .0))) formFiles ≡ map (λ t. t .1) formFiles
+unfolding flatMap number bytesOf checkFrom dueFrom allHad frontOf walkFrom
+form-files-stand = refl
+
 pub book-files-stand : map (λ t. fileAnswer bookRows 1 (closed (t .0))) bookFiles ≡ map (λ t. t .1) bookFiles
 unfolding flatMap number bytesOf checkFrom dueFrom allHad frontOf walkFrom
 book-files-stand = refl

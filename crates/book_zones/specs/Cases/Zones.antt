@@ -1,10 +1,10 @@
 -- Small zones at their limits: equal and falling numbers, rates at the limit and one past it, and the place of the first that fails.
 use Prim.Native.Nat.{ℕ}
 use mathlib.Core.Path.{_≡_, refl}
-use mathlib.Core.List.{List, [], _∷_, map, flatMap}
+use mathlib.Core.List.{List, [], _∷_, _++_, map, flatMap}
 use lib.ListN.{set, replicate}
 use Rattle.numbers.specs.BigEndian.{number, bytesOf}
-use Rattle.tagged.specs.Find.{fieldsFrom, fieldsWith}
+use Rattle.tagged.specs.Find.{fieldsFrom, fieldsWith, firstWith}
 use Rattle.tagged.specs.Encoded.{encodedParts}
 use Rattle.field_values.specs.declared.judged.Judged.{Judged}
 use Rattle.field_values.specs.declared.judged.Judged.the-variants.{Passes, Fails}
@@ -56,6 +56,59 @@ zonesJudged =
     (threeZones (zone 3 free) (zone 5 (over 4)) (zone 5 free), Fails 50) ∷
     []
 
+-- the same with fields 09, whose values stand at 9, 34 and 59
+abbrev pub wideZone : ℕ → List ℕ → List ℕ
+wideZone n rates = bytesOf 2 n ++ flatMap (bytesOf 4) rates
+
+abbrev threeWide : List ℕ → List ℕ → List ℕ → List ℕ
+threeWide one another third = encodedParts ((7, replicate 3 0) ∷ (9, one) ∷ (9, another) ∷ (9, third) ∷ [])
+
+abbrev wideJudged : List (List ℕ × Judged)
+wideJudged =
+    -- "Numbers rise as 16-bit numbers": the lowest and the highest, about 255, and those that differ in their high byte alone
+    (threeWide (wideZone 0 free) (wideZone 255 free) (wideZone 65535 free), Passes) ∷
+    (threeWide (wideZone 255 free) (wideZone 256 free) (wideZone 257 free), Passes) ∷
+    (threeWide (wideZone 7 free) (wideZone 263 free) (wideZone 519 free), Passes) ∷
+    (threeWide (wideZone 256 free) (wideZone 255 free) (wideZone 257 free), Fails 34) ∷
+    (threeWide (wideZone 1400 free) (wideZone 1400 free) (wideZone 65535 free), Fails 34) ∷
+    (threeWide (wideZone 1 free) (wideZone 1400 free) (wideZone 1400 free), Fails 59) ∷
+    (threeWide (wideZone 1 free) (wideZone 1400 free) (wideZone 1399 free), Fails 59) ∷
+    -- each of the five rates, in the first zone and in the third
+    (threeWide (wideZone 3 full) (wideZone 5 full) (wideZone 9 full), Passes) ∷
+    (threeWide (wideZone 3 (over 0)) (wideZone 5 free) (wideZone 9 free), Fails 11) ∷
+    (threeWide (wideZone 3 (over 1)) (wideZone 5 free) (wideZone 9 free), Fails 15) ∷
+    (threeWide (wideZone 3 (over 2)) (wideZone 5 free) (wideZone 9 free), Fails 19) ∷
+    (threeWide (wideZone 3 (over 3)) (wideZone 5 free) (wideZone 9 free), Fails 23) ∷
+    (threeWide (wideZone 3 (over 4)) (wideZone 5 free) (wideZone 9 free), Fails 27) ∷
+    (threeWide (wideZone 3 free) (wideZone 5 free) (wideZone 9 (over 0)), Fails 61) ∷
+    (threeWide (wideZone 3 free) (wideZone 5 free) (wideZone 9 (over 4)), Fails 77) ∷
+    -- numbers and rates in byte order
+    (threeWide (wideZone 3 (over 4)) (wideZone 3 free) (wideZone 9 free), Fails 27) ∷
+    (threeWide (wideZone 3 free) (wideZone 3 (over 0)) (wideZone 9 free), Fails 34) ∷
+    (threeWide (wideZone 3 free) (wideZone 5 (over 4)) (wideZone 5 free), Fails 52) ∷
+    []
+
+abbrev otherWide : List ℕ
+otherWide =
+    threeWide
+    (wideZone 263 (31001 ∷ 31002 ∷ 31003 ∷ 31004 ∷ 31005 ∷ []))
+    (wideZone 1400 (32001 ∷ 32002 ∷ 32003 ∷ 32004 ∷ 32005 ∷ []))
+    (wideZone 65535 (33001 ∷ 33002 ∷ 33003 ∷ 33004 ∷ 33005 ∷ []))
+
+pub record WideCasesHold : Type 0 where
+  pub judged : map (λ t. judgeZones (t .0)) wideJudged ≡ map (λ t. t .1) wideJudged
+  pub numbers : zoneNumbers otherWide ≡ 263 ∷ 1400 ∷ 65535 ∷ replicate 5 0
+  pub rates :
+      zoneRates otherWide
+      ≡ (31001 ∷ 31002 ∷ 31003 ∷ 31004 ∷ 31005 ∷ []) ∷
+      (32001 ∷ 32002 ∷ 32003 ∷ 32004 ∷ 32005 ∷ []) ∷
+      (33001 ∷ 33002 ∷ 33003 ∷ 33004 ∷ 33005 ∷ []) ∷
+      replicate 5 free
+
+pub wide-cases-hold : WideCasesHold
+unfolding flatMap number bytesOf fieldsFrom fieldsWith firstWith judgeZonesFrom
+wide-cases-hold = record { judged = refl; numbers = refl; rates = refl }
+
 -- no two numbers and no two rates are the same
 abbrev otherZones : List ℕ
 otherZones =
@@ -75,5 +128,5 @@ pub record ZonesCasesHold : Type 0 where
       replicate 5 free
 
 pub zones-cases-hold : ZonesCasesHold
-unfolding flatMap number bytesOf fieldsFrom fieldsWith judgeZonesFrom
+unfolding flatMap number bytesOf fieldsFrom fieldsWith firstWith judgeZonesFrom
 zones-cases-hold = record { judged = refl; numbers = refl; rates = refl }

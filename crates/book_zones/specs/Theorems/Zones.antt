@@ -8,15 +8,14 @@ use lib.ListN.{length, getD, take, replicate, length-append, length-take, length
 use lib.Seq.{take-append-seam, take-take, getD-take, getD-append-add}
 use lib.Dec.{leb}
 use borrow.Author.Tests.{lt-ltb, le-ltb}
-use Rattle.numbers.specs.BigEndian.{numberAt}
-use Rattle.tagged.specs.Find.{fieldStart}
+use Rattle.tagged.specs.Find.{firstPlace}
 use Rattle.field_values.specs.Limits.{mostZones, tierCount, highestRate}
 use Rattle.field_values.specs.Judged.{judge, inOrder}
 use Rattle.field_values.specs.Theorems.Judged.{in-order-end}
 use Rattle.field_values.specs.declared.judged.Judged.{Judged}
 use Rattle.field_values.specs.declared.judged.Judged.the-variants.{Passes, Fails}
-use Rattle.book_zones.specs.Zones.{zoneStarts, zoneArray, zoneNumbers, rateRow, zoneRates, judgeRow, judgeZonesFrom, judgeZones, judgeRise, judgeRows, lower}
-use Rattle.book_zones.specs.Theorems.ZoneFields.{every24, ZonesStand}
+use Rattle.book_zones.specs.Zones.{numberWidth, zoneStarts, firstZone, zonesApart, zoneArray, zoneNumber, zoneNumbers, rateRow, zoneRates, judgeRow, judgeZonesFrom, judgeZones, judgeRise, judgeRows, lower}
+use Rattle.book_zones.specs.Theorems.ZoneFields.{every, tag-narrow-or-wide, ZonesStand}
 
 -- ---- arrays with a place for each zone
 module _ {A : Type 0} (nothing : A) (elements : List A) where
@@ -55,27 +54,30 @@ judge-fails-at : {P : ℕ → Type 0} (b : Bool) (at : ℕ) {later : Judged} →
 judge-fails-at true at h k = k
 judge-fails-at false at h k = fails h
 
--- a zone's rates stand behind its number and before the next zone
-row-fails-at : (at : ℕ) (row : List ℕ) → FailsAt (λ p. (at < p) × (p < at + 24)) (judgeRow at row)
-row-fails-at at row = on 0 1 (omega arith) (on 1 5 (omega arith) (on 2 9 (omega arith) (on 3 13 (omega arith) (on 4 17 (omega arith) passes))))
+-- a zone's rates stand behind one another
+row-fails-at : (rates : ℕ) (row : List ℕ) → FailsAt (λ p. (rates ≤ p) × (p ≤ rates + 16)) (judgeRow rates row)
+row-fails-at rates row =
+    judge-fails-at (leb (getD row 0 0) highestRate) rates (omega arith, omega arith)
+    (on 1 4 (omega arith, omega arith) (on 2 8 (omega arith, omega arith) (on 3 12 (omega arith, omega arith) (on 4 16 (omega arith, omega arith) passes))))
   where
     P : ℕ → Type 0
-    P p = (at < p) × (p < at + 24)
+    P p = (rates ≤ p) × (p ≤ rates + 16)
 
-    on : (tier k : ℕ) {later : Judged} → P (at + k) → FailsAt P later → FailsAt P (inOrder (judge (leb (getD row tier 0) highestRate) (at + k)) later)
-    on tier k = judge-fails-at (leb (getD row tier 0) highestRate) (at + k)
+    on : (tier k : ℕ) {later : Judged} → P (rates + k) → FailsAt P later → FailsAt P (inOrder (judge (leb (getD row tier 0) highestRate) (rates + k)) later)
+    on tier k = judge-fails-at (leb (getD row tier 0) highestRate) (rates + k)
 
-rise-fails-at : (from least at : ℕ) (numbers : List ℕ) → from ≤ at → FailsAt (λ p. from ≤ p) (judgeRise least at numbers)
-unfolding judgeRise
-rise-fails-at from least at [] h = passes
-rise-fails-at from least at (number ∷ numbers) h =
-    judge-fails-at (leb least number) at h (rise-fails-at from (number + 1) (at + 24) numbers (omega arith))
+module _ (apart : ℕ) where
+  rise-fails-at : (from least at : ℕ) (numbers : List ℕ) → from ≤ at → FailsAt (λ p. from ≤ p) (judgeRise apart least at numbers)
+  unfolding judgeRise
+  rise-fails-at from least at [] h = passes
+  rise-fails-at from least at (number ∷ numbers) h =
+      judge-fails-at (leb least number) at h (rise-fails-at from (number + 1) (at + apart) numbers (omega arith))
 
-rows-fail-at : (from at : ℕ) (rows : List (List ℕ)) → from ≤ at → FailsAt (λ p. from < p) (judgeRows at rows)
-unfolding judgeRows
-rows-fail-at from at [] h = passes
-rows-fail-at from at (row ∷ rows) h =
-    in-order-fails-at (weaken (λ p k. omega arith) (row-fails-at at row)) (rows-fail-at from (at + 24) rows (omega arith))
+  rows-fail-at : (from rates : ℕ) (rows : List (List ℕ)) → from < rates → FailsAt (λ p. from < p) (judgeRows apart rates rows)
+  unfolding judgeRows
+  rows-fail-at from rates [] h = passes
+  rows-fail-at from rates (row ∷ rows) h =
+      in-order-fails-at (weaken (λ p k. omega arith) (row-fails-at rates row)) (rows-fail-at from (rates + apart) rows (omega arith))
 
 -- ---- the lower of two failures
 lower-first : {at : ℕ} {other : Judged} → FailsAt (λ p. at < p) other → lower (Fails at) other ≡ Fails at
@@ -87,40 +89,48 @@ lower-later c x passes = refl
 lower-later c passes (fails k) = refl
 lower-later c (fails {at = p} h) (fails {at = q} k) = rw (lt-ltb q p (omega arith))
 
--- Where the zones stand 24 bytes apart, the lower place of the two scans is the first in byte order.
-pub two-scans : (s : List ℕ) (n least at : ℕ) →
-    lower (judgeRise least at (map (λ a. numberAt s a 1) (every24 at n))) (judgeRows at (map (rateRow s) (every24 at n))) ≡ judgeZonesFrom least s (every24 at n)
-unfolding every24 judgeRise judgeRows judgeZonesFrom
-two-scans s zero least at = refl
-two-scans s (suc n) least at = by-number (leb least number) (two-scans s n (number + 1) (at + 24))
-  where
-    number : ℕ
-    number = numberAt s at 1
+-- Where a zone's rates end before the next zone starts, the lower place of the two scans is the first in byte order.
+module _ (s : List ℕ) (apart : ℕ) (narrow : 1 ≤ numberWidth s) (before-next : numberWidth s + 16 < apart) where
+  pub two-scans : (n least at : ℕ) →
+      lower (judgeRise apart least at (map (zoneNumber s) (every apart at n))) (judgeRows apart (at + numberWidth s) (map (rateRow s) (every apart at n)))
+      ≡ judgeZonesFrom least s (every apart at n)
+  unfolding every judgeRise judgeRows judgeZonesFrom
+  two-scans zero least at = refl
+  two-scans (suc n) least at = by-number (leb least number) (two-scans n (number + 1) (at + apart))
+    where
+      number : ℕ
+      number = zoneNumber s at
 
-    numbers : List ℕ
-    numbers = map (λ a. numberAt s a 1) (every24 (at + 24) n)
+      numbers : List ℕ
+      numbers = map (zoneNumber s) (every apart (at + apart) n)
 
-    rates : List (List ℕ)
-    rates = map (rateRow s) (every24 (at + 24) n)
+      rates : List (List ℕ)
+      rates = map (rateRow s) (every apart (at + apart) n)
 
-    row : Judged
-    row = judgeRow at (rateRow s at)
+      row : Judged
+      row = judgeRow (at + numberWidth s) (rateRow s at)
 
-    rise : Judged
-    rise = judgeRise (number + 1) (at + 24) numbers
+      rise : Judged
+      rise = judgeRise apart (number + 1) (at + apart) numbers
 
-    rows : Judged
-    rows = judgeRows (at + 24) rates
+      rows : Judged
+      rows = judgeRows apart (at + numberWidth s + apart) rates
 
-    later : Judged
-    later = judgeZonesFrom (number + 1) s (every24 (at + 24) n)
+      later : Judged
+      later = judgeZonesFrom (number + 1) s (every apart (at + apart) n)
 
-    by-number : (b : Bool) → lower rise rows ≡ later → lower (inOrder (judge b at) rise) (inOrder row rows) ≡ inOrder (judge b at) (inOrder row (inOrder later Passes))
-    by-number true e =
-        lower-later rows (rise-fails-at (at + 24) (number + 1) (at + 24) numbers (omega arith)) (weaken (λ p k. omega arith) (row-fails-at at (rateRow s at)))
-        ∙ ap (inOrder row) (e ∙ sym (in-order-end later))
-    by-number false e =
-        lower-first (in-order-fails-at (weaken (λ p k. omega arith) (row-fails-at at (rateRow s at))) (rows-fail-at at (at + 24) rates (omega arith)))
+      moved : judgeRows apart (at + apart + numberWidth s) rates ≡ rows
+      moved = ap (λ place. judgeRows apart place rates) (omega arith)
+
+      by-number : (b : Bool) → lower rise (judgeRows apart (at + apart + numberWidth s) rates) ≡ later →
+          lower (inOrder (judge b at) rise) (inOrder row rows) ≡ inOrder (judge b at) (inOrder row (inOrder later Passes))
+      by-number true e =
+          lower-later rows (rise-fails-at apart (at + apart) (number + 1) (at + apart) numbers (omega arith))
+          (weaken (λ p k. omega arith) (row-fails-at (at + numberWidth s) (rateRow s at)))
+          ∙ ap (inOrder row) (ap (lower rise) (sym moved) ∙ e ∙ sym (in-order-end later))
+      by-number false e =
+          lower-first (in-order-fails-at (weaken (λ p k. omega arith) (row-fails-at (at + numberWidth s) (rateRow s at)))
+          (rows-fail-at apart at (at + numberWidth s + apart) rates (omega arith)))
 
 -- the elements of such an array that are a zone's
 pub zones-first : {A : Type 0} (nothing : A) (f : ℕ → A) (s : List ℕ) → ZonesStand s →
@@ -144,11 +154,19 @@ pub zone-past : {A : Type 0} (nothing : A) (f : ℕ → A) (s : List ℕ) (i : �
     getD (zoneArray nothing (map f (zoneStarts s))) i d ≡ nothing
 zone-past nothing f s i d h k = zone-array-past nothing (map f (zoneStarts s)) i d (omega (arith, length-map (zoneStarts s) f)) k
 
+-- the number stands before the rates, and they before the next zone
+pub width-within : (s : List ℕ) → (1 ≤ numberWidth s) × (numberWidth s ≤ 2)
+width-within s = let range = tag-narrow-or-wide (firstPlace 9 s) in (omega (arith, range), omega (arith, range))
+
 pub judge-zones-by-scans : (s : List ℕ) → ZonesStand s →
-    lower (judgeRise 0 (fieldStart 8 s) (take (length (zoneStarts s)) (zoneNumbers s))) (judgeRows (fieldStart 8 s) (take (length (zoneStarts s)) (zoneRates s)))
+    lower (judgeRise (zonesApart s) 0 (firstZone s) (take (length (zoneStarts s)) (zoneNumbers s)))
+    (judgeRows (zonesApart s) (firstZone s + numberWidth s) (take (length (zoneStarts s)) (zoneRates s)))
     ≡ judgeZones s
 judge-zones-by-scans s stand =
-    ap₂ (λ numbers rates. lower (judgeRise 0 (fieldStart 8 s) numbers) (judgeRows (fieldStart 8 s) rates)) (zones-first 0 (λ at. numberAt s at 1) s stand)
+    let apart = zonesApart s in
+    let first = firstZone s in
+    let width = numberWidth s in
+    ap₂ (λ numbers rates. lower (judgeRise apart 0 first numbers) (judgeRows apart (first + width) rates)) (zones-first 0 (zoneNumber s) s stand)
     (zones-first (replicate tierCount 0) (rateRow s) s stand)
-    ∙ subst (λ l. lower (judgeRise 0 (fieldStart 8 s) (map (λ at. numberAt s at 1) l)) (judgeRows (fieldStart 8 s) (map (rateRow s) l)) ≡ judgeZonesFrom 0 s l)
-    (sym (stand .apart)) (two-scans s (length (zoneStarts s)) 0 (fieldStart 8 s))
+    ∙ subst (λ l. lower (judgeRise apart 0 first (map (zoneNumber s) l)) (judgeRows apart (first + width) (map (rateRow s) l)) ≡ judgeZonesFrom 0 s l)
+    (sym (stand .apart)) (two-scans s apart (width-within s .0) (omega (arith, width-within s)) (length (zoneStarts s)) 0 first)

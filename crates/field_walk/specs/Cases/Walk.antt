@@ -49,3 +49,35 @@ smallWalks =
 pub small-walks-hold : map (λ t. walk smallRows (t .0)) smallWalks ≡ map (λ t. t .1) smallWalks
 unfolding number dueFrom allHad frontOf walkFrom
 small-walks-hold = refl
+
+-- Document 02, E6: a kind of two forms. Both have a field 1 and a field 3, of one byte; the first form once or twice a field 2 of one byte, the second a
+-- field 4 of two.
+abbrev formRows : List (List ℕ)
+formRows =
+    (1 ∷ 1 ∷ 1 ∷ 1 ∷ 1 ∷ 1 ∷ 0 ∷ []) ∷ (2 ∷ 1 ∷ 1 ∷ 1 ∷ 1 ∷ 2 ∷ 1 ∷ []) ∷ (3 ∷ 1 ∷ 1 ∷ 1 ∷ 1 ∷ 1 ∷ 0 ∷ []) ∷ (4 ∷ 2 ∷ 2 ∷ 1 ∷ 1 ∷ 1 ∷ 2 ∷ []) ∷ []
+
+abbrev formWalks : List (List ℕ × Walk)
+formWalks =
+    -- the first form, the field 2 once and twice, and the second
+    (1 ∷ 0 ∷ 1 ∷ 7 ∷ 2 ∷ 0 ∷ 1 ∷ 7 ∷ 3 ∷ 0 ∷ 1 ∷ 7 ∷ [], fields (field 1 3 1 ∷ field 2 7 1 ∷ field 3 11 1 ∷ [])) ∷
+    (1 ∷ 0 ∷ 1 ∷ 7 ∷ 2 ∷ 0 ∷ 1 ∷ 7 ∷ 2 ∷ 0 ∷ 1 ∷ 7 ∷ 3 ∷ 0 ∷ 1 ∷ 7 ∷ [], fields (field 1 3 1 ∷ field 2 7 1 ∷ field 2 11 1 ∷ field 3 15 1 ∷ [])) ∷
+    (1 ∷ 0 ∷ 1 ∷ 7 ∷ 3 ∷ 0 ∷ 1 ∷ 7 ∷ 4 ∷ 0 ∷ 2 ∷ 7 ∷ 7 ∷ [], fields (field 1 3 1 ∷ field 3 7 1 ∷ field 4 11 2 ∷ [])) ∷
+    -- both: at the second form that comes
+    (1 ∷ 0 ∷ 1 ∷ 7 ∷ 2 ∷ 0 ∷ 1 ∷ 7 ∷ 3 ∷ 0 ∷ 1 ∷ 7 ∷ 4 ∷ 0 ∷ 2 ∷ 7 ∷ 7 ∷ [], stops 12) ∷
+    (1 ∷ 0 ∷ 1 ∷ 7 ∷ 2 ∷ 0 ∷ 1 ∷ 7 ∷ 3 ∷ 0 ∷ 1 ∷ 7 ∷ 4 ∷ 0 ∷ 2 ∷ 7 ∷ 7 ∷ 4 ∷ 0 ∷ 2 ∷ 7 ∷ 7 ∷ [], stops 12) ∷
+    (1 ∷ 0 ∷ 1 ∷ 7 ∷ 3 ∷ 0 ∷ 1 ∷ 7 ∷ 4 ∷ 0 ∷ 2 ∷ 7 ∷ 7 ∷ 2 ∷ 0 ∷ 1 ∷ 7 ∷ [], stops 13) ∷
+    -- neither, where the rest walks: where the first form was due
+    (1 ∷ 0 ∷ 1 ∷ 7 ∷ 3 ∷ 0 ∷ 1 ∷ 7 ∷ [], stops 4) ∷
+    -- neither, and another field that can't stand: a field 5, the field 2 too late, the field 4 too early, too short and twice, no field 3
+    (1 ∷ 0 ∷ 1 ∷ 7 ∷ 3 ∷ 0 ∷ 1 ∷ 7 ∷ 5 ∷ 0 ∷ 1 ∷ 7 ∷ [], stops 8) ∷
+    (1 ∷ 0 ∷ 1 ∷ 7 ∷ 3 ∷ 0 ∷ 1 ∷ 7 ∷ 2 ∷ 0 ∷ 1 ∷ 7 ∷ [], stops 8) ∷
+    (1 ∷ 0 ∷ 1 ∷ 7 ∷ 4 ∷ 0 ∷ 2 ∷ 7 ∷ 7 ∷ 3 ∷ 0 ∷ 1 ∷ 7 ∷ [], stops 4) ∷
+    (1 ∷ 0 ∷ 1 ∷ 7 ∷ 3 ∷ 0 ∷ 1 ∷ 7 ∷ 4 ∷ 0 ∷ 1 ∷ 7 ∷ [], stops 8) ∷
+    (1 ∷ 0 ∷ 1 ∷ 7 ∷ 3 ∷ 0 ∷ 1 ∷ 7 ∷ 4 ∷ 0 ∷ 2 ∷ 7 ∷ 7 ∷ 4 ∷ 0 ∷ 2 ∷ 7 ∷ 7 ∷ [], stops 13) ∷
+    (1 ∷ 0 ∷ 1 ∷ 7 ∷ [], stops 4) ∷
+    (1 ∷ 0 ∷ 1 ∷ 7 ∷ 2 ∷ 0 ∷ 1 ∷ 7 ∷ [], stops 8) ∷
+    []
+
+pub two-forms-hold : map (λ t. walk formRows (t .0)) formWalks ≡ map (λ t. t .1) formWalks
+unfolding number dueFrom allHad frontOf walkFrom
+two-forms-hold = refl

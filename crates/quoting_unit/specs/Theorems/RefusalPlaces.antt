@@ -7,8 +7,8 @@ use native.Mathlib.Omega.{arith}
 use lib.Dec.{ltb, leb, eqb}
 use lib.ListN.{length, getD, take, drop, length-take, length-drop}
 use borrow.Author.Tests.{ltb-false, leb-true}
-use Rattle.numbers.specs.BigEndian.{number, numberAt}
-use Rattle.field_walk.specs.Walk.{leastOf, tagOf, permittedBy, lengthAt, fieldOf, frontOf, allHad, dueFrom, FieldAt, Walk, fields, stops, andThen, onFront, walkFrom, walk, FieldsWalk, EndsWithin}
+use Rattle.numbers.specs.BigEndian.{number}
+use Rattle.field_walk.specs.Walk.{leastOf, tagOf, permittedBy, lengthAt, fieldOf, frontOf, allHad, dueFrom, FieldAt, Walk, fields, stops, andThen, onFront, walkFrom, firstForm, secondForm, neitherForm, rowIn, rowsIn, walkBy, byForms, walk, FieldsWalk, EndsWithin}
 use Rattle.field_walk.specs.declared.walk.Due.{Due}
 use Rattle.field_walk.specs.declared.walk.Due.the-variants.{NotDue, Row}
 use Rattle.field_walk.specs.declared.walk.Front.{Front}
@@ -31,8 +31,8 @@ use Rattle.field_values.specs.declared.judged.Judged.{Judged}
 use Rattle.field_values.specs.declared.judged.Judged.the-variants.{Passes, Fails}
 use Rattle.book_zones.specs.BookRows.{bookRows}
 use Rattle.book_zones.specs.Cases.BookRows.{book-rows-rise}
-use Rattle.book_zones.specs.Zones.{zoneStarts, rateRow, rowJudgements, judgeRow, judgeZonesFrom}
-use Rattle.book_zones.specs.Theorems.ZoneFields.{every24, zones-stand}
+use Rattle.book_zones.specs.Zones.{numberWidth, zoneStarts, firstZone, zonesApart, zoneNumber, rateRow, rowJudgements, judgeRow, judgeZonesFrom}
+use Rattle.book_zones.specs.Theorems.ZoneFields.{every, zones-stand}
 use Rattle.rate_book.specs.Fields.{rateLimits, sumsIn, sumJudgements, termsIn, termJudgements, chargedLimits}
 use Rattle.rate_book.specs.Book.{bookLetters, bookJudgements, judgeBook, bookValues, refusedBook, acceptedBook, bookOf}
 use Rattle.request.specs.RequestRows.{requestRows}
@@ -81,10 +81,10 @@ numbers-fail (limit ∷ limits) at value =
 
 -- of a file whose fields walk, the field of each row that must be there
 module _ (rows : List (List ℕ)) (s : List ℕ) (rising : risingTags rows ≡ true) (walks : FieldsWalk rows s) where
-  pub start-within : (k : ℕ) → suc k ≤ length rows → 1 ≤ leastOf (getD rows k []) → fieldStart (tagOf (getD rows k [])) s ≤ length s
+  pub start-within : (k : ℕ) → suc k ≤ length rows → 1 ≤ leastOf (rowIn neitherForm (getD rows k [])) → fieldStart (tagOf (getD rows k [])) s ≤ length s
   start-within k h due = let sized = walk-sized rows s rising walks k h due in omega (arith, sized .within)
 
-  field-fails : (k : ℕ) → suc k ≤ length rows → 1 ≤ leastOf (getD rows k []) → (limits : List (List ℕ)) →
+  field-fails : (k : ℕ) → suc k ≤ length rows → 1 ≤ leastOf (rowIn neitherForm (getD rows k [])) → (limits : List (List ℕ)) →
       FailsBy (length s) (judgeField limits (tagOf (getD rows k [])) s)
   field-fails k h due limits =
       let sized = walk-sized rows s rising walks k h due in
@@ -92,27 +92,27 @@ module _ (rows : List (List ℕ)) (s : List ℕ) (rising : risingTags rows ≡ t
       fails-more (judgeField limits tag s) (sized .within) (numbers-fail limits (fieldStart tag s) (fieldValue tag s))
 
 module _ (s : List ℕ) where
-  row-fails : (at : ℕ) (row : List ℕ) → at + 17 ≤ length s → FailsBy (length s) (judgeRow at row)
-  row-fails at row h =
-      first-fails (length s) (rowJudgements at row)
-      (also (judge-fails (length s) (leb (getD row 0 0) highestRate) (at + 1) (omega arith))
-      (also (judge-fails (length s) (leb (getD row 1 0) highestRate) (at + 5) (omega arith))
-      (also (judge-fails (length s) (leb (getD row 2 0) highestRate) (at + 9) (omega arith))
-      (also (judge-fails (length s) (leb (getD row 3 0) highestRate) (at + 13) (omega arith))
-      (also (judge-fails (length s) (leb (getD row 4 0) highestRate) (at + 17) h) none)))))
+  row-fails : (rates : ℕ) (row : List ℕ) → rates + 16 ≤ length s → FailsBy (length s) (judgeRow rates row)
+  row-fails rates row h =
+      first-fails (length s) (rowJudgements rates row)
+      (also (judge-fails (length s) (leb (getD row 0 0) highestRate) rates (omega arith))
+      (also (judge-fails (length s) (leb (getD row 1 0) highestRate) (rates + 4) (omega arith))
+      (also (judge-fails (length s) (leb (getD row 2 0) highestRate) (rates + 8) (omega arith))
+      (also (judge-fails (length s) (leb (getD row 3 0) highestRate) (rates + 12) (omega arith))
+      (also (judge-fails (length s) (leb (getD row 4 0) highestRate) (rates + 16) h) none)))))
 
-  zones-fail : (least at n : ℕ) → at + 24 * n ≤ length s + 3 → FailsBy (length s) (judgeZonesFrom least s (every24 at n))
-  unfolding judgeZonesFrom every24
+  zones-fail : (least at n : ℕ) → at + zonesApart s * n ≤ length s + 3 → FailsBy (length s) (judgeZonesFrom least s (every (zonesApart s) at n))
+  unfolding judgeZonesFrom every
   zones-fail least at zero h = tt
   zones-fail least at (suc n) h =
       first-fails (length s)
-      (judge (leb least (numberAt s at 1)) at ∷
-      judgeRow at (rateRow s at) ∷
-      judgeZonesFrom (numberAt s at 1 + 1) s (every24 (at + 24) n) ∷
+      (judge (leb least (zoneNumber s at)) at ∷
+      judgeRow (at + numberWidth s) (rateRow s at) ∷
+      judgeZonesFrom (zoneNumber s at + 1) s (every (zonesApart s) (at + zonesApart s) n) ∷
       [])
-      (also (judge-fails (length s) (leb least (numberAt s at 1)) at (omega arith))
-      (also (row-fails at (rateRow s at) (omega arith))
-      (also (zones-fail (numberAt s at 1 + 1) (at + 24) n (omega arith)) none)))
+      (also (judge-fails (length s) (leb least (zoneNumber s at)) at (omega arith))
+      (also (row-fails (at + numberWidth s) (rateRow s at) (omega arith))
+      (also (zones-fail (zoneNumber s at + 1) (at + zonesApart s) n (omega arith)) none)))
 
   book-fails : FieldsWalk bookRows s → FailsBy (length s) (judgeBook s)
   book-fails walks =
@@ -141,7 +141,7 @@ module _ (s : List ℕ) where
       (also (field 6 (omega arith) (omega arith) chargedLimits)
       (also
       (subst (λ starts. FailsBy (length s) (judgeZonesFrom 0 s starts)) (sym (zones .apart))
-      (zones-fail 0 (fieldStart 8 s) (length (zoneStarts s)) (omega (arith, zones .ends))))
+      (zones-fail 0 (firstZone s) (length (zoneStarts s)) (omega (arith, zones .ends))))
       none))))))))
 
   request-fails : FieldsWalk requestRows s → FailsBy (length s) (judgeRequest s)
@@ -201,14 +201,24 @@ walk-stops size (suc most) rows k n at s h =
     by (Field k′ n′ len) ends later = then-stops size _ (on k′ n′ len) (later k′ n′ len ends)
     by CannotStand ends later = let here : at ≤ size = omega arith in here
 
+-- by either form, or by neither: each of them stops so, and the place is one of theirs
+forms-stop : (size : ℕ) (first second neither : Walk) → StopsBy size first → StopsBy size second → StopsBy size (byForms first second neither)
+forms-stop size (fields _) second neither a b = tt
+forms-stop size (stops _) (fields _) neither a b = tt
+forms-stop size (stops _) (stops _) (fields _) a b = a
+forms-stop size (stops at) (stops at′) (stops _) a b = by-test (λ place. place ≤ size) (ltb at at′) at′ at (λ _. b) (λ _. a)
+
 fields-within : (file : List ℕ) → length (fieldsPart file) ≤ length file
 fields-within file = omega (arith, length-take (length file - 5) file)
 
 pub file-answer-placed : (rows : List (List ℕ)) (number : ℕ) (file : List ℕ) → number ≤ 2 → FileAnswerBy (length file) (fileAnswer rows number file)
 file-answer-placed rows number file known =
     by (tailStands file) (checkStands file) (walk rows (fieldsPart file))
-    (walk-stops (length file) (length (fieldsPart file) + 1) rows 0 0 0 (fieldsPart file) (omega (arith, fields-within file)))
+    (forms-stop (length file) (walkBy (rowsIn firstForm rows) (fieldsPart file)) (walkBy (rowsIn secondForm rows) (fieldsPart file)) _ (by-form firstForm) (by-form secondForm))
   where
+    by-form : (form : ℕ) → StopsBy (length file) (walkBy (rowsIn form rows) (fieldsPart file))
+    by-form form = walk-stops (length file) (length (fieldsPart file) + 1) (rowsIn form rows) 0 0 0 (fieldsPart file) (omega (arith, fields-within file))
+
     by : (tail checked : Bool) (w : Walk) → StopsBy (length file) w →
         FileAnswerBy (length file)
         (cond tail (cond checked (ofWalk number w) (Refused (refusal checkDiffers number (length file - 2)))) (Refused (refusal fileDoesNotWalk number 0)))

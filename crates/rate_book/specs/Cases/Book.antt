@@ -3,7 +3,7 @@
 use Prim.Native.Nat.{ℕ}
 use mathlib.Core.Path.{_≡_, refl}
 use mathlib.Core.List.{List, [], _∷_, _++_, map, flatMap}
-use lib.ListN.{replicate}
+use lib.ListN.{take, replicate}
 use Rattle.numbers.specs.BigEndian.{number, bytesOf}
 use Rattle.numbers.specs.Check.{checkFrom}
 use Rattle.field_walk.specs.Walk.{dueFrom, allHad, frontOf, walkFrom}
@@ -15,7 +15,7 @@ use Rattle.tagged.specs.declared.file.FileAnswer.{FileAnswer}
 use Rattle.tagged.specs.declared.file.FileAnswer.the-variants.{Stands, Refused}
 use Rattle.field_values.specs.Judged.{judgeNumbers, sameBytes}
 use Rattle.book_zones.specs.Zones.{zoneRates, judgeZonesFrom}
-use Rattle.book_zones.specs.Cases.Zones.{zone, over}
+use Rattle.book_zones.specs.Cases.Zones.{zone, wideZone, over}
 use Rattle.rate_book.specs.Book.{bookOf}
 
 abbrev pairs : List (ℕ × ℕ) → List ℕ
@@ -107,6 +107,30 @@ boundaries =
     (put 0 (82 ∷ 65 ∷ 84 ∷ 70 ∷ []) (put 4 [] sample), stops 62) ∷
     []
 
+-- Document 02, E6: a book with fields 09, whose values stand at 91 and 116
+abbrev wideSample : List ℕ → List ℕ → List (ℕ × List ℕ)
+wideSample one another = take 7 (put 3 (factors (10000 ∷ [])) (put 4 (factors (10000 ∷ [])) sample)) ++ ((9, one) ∷ (9, another) ∷ [])
+
+abbrev free : List ℕ
+free = replicate 5 0
+
+abbrev wideBoundaries : List (List (ℕ × List ℕ) × FileAnswer)
+wideBoundaries =
+    (wideSample (wideZone 0 free) (wideZone 65535 free), Stands) ∷
+    (wideSample (wideZone 1 free) (wideZone 1 free), fails 116) ∷
+    (wideSample (wideZone 255 free) (wideZone 256 free), Stands) ∷
+    (wideSample (wideZone 256 free) (wideZone 255 free), fails 116) ∷
+    (wideSample (wideZone 1 (over 0)) (wideZone 0 free), fails 93) ∷
+    (wideSample (wideZone 1 free) (wideZone 2 (over 4)), fails 134) ∷
+    (wideSample (wideZone 1 free) (wideZone 2 (replicate 5 10000000)), Stands) ∷
+    -- both forms in one file, before any value
+    (put 0 (82 ∷ 65 ∷ 84 ∷ 70 ∷ []) (take 8 (wideSample (wideZone 1 free) free) ++ ((8, zone 5 free) ∷ [])), stops 113) ∷
+    []
+
+pub wide-boundaries-hold : map (λ t. bookOf 1 (closed (t .0)) .answer) wideBoundaries ≡ map (λ t. t .1) wideBoundaries
+unfolding flatMap number bytesOf checkFrom dueFrom allHad frontOf walkFrom fieldsFrom firstWith fieldsWith judgeNumbers sameBytes judgeZonesFrom bookOf
+wide-boundaries-hold = refl
+
 pub boundaries-hold : map (λ t. bookOf 1 (closed (t .0)) .answer) boundaries ≡ map (λ t. t .1) boundaries
 unfolding flatMap number bytesOf checkFrom dueFrom allHad frontOf walkFrom fieldsFrom firstWith fieldsWith judgeNumbers sameBytes judgeZonesFrom bookOf
 boundaries-hold = refl
@@ -142,5 +166,5 @@ pub sample-rates :
     (32001 ∷ 32002 ∷ 32003 ∷ 32004 ∷ 32005 ∷ []) ∷
     (33001 ∷ 33002 ∷ 33003 ∷ 33004 ∷ 33005 ∷ []) ∷
     replicate 5 (replicate 5 0)
-unfolding flatMap number bytesOf checkFrom fieldsFrom fieldsWith
+unfolding flatMap number bytesOf checkFrom fieldsFrom fieldsWith firstWith
 sample-rates = refl

@@ -17,7 +17,7 @@ use Rattle.field_values.specs.Theorems.Judged.{judge-passes, first-failure-pass
 use Rattle.field_values.specs.Theorems.Factors.{factors-within}
 use Rattle.field_values.specs.declared.judged.Judged.the-variants.{Passes}
 use Rattle.book_zones.specs.BookRows.{bookRows}
-use Rattle.book_zones.specs.Zones.{zoneStarts, zoneRates}
+use Rattle.book_zones.specs.Zones.{zoneStarts, zoneNumber, zoneRates}
 use Rattle.book_zones.specs.Theorems.ZoneFields.{zones-stand}
 use Rattle.book_zones.specs.Theorems.Zones.{length-zone-array}
 use Rattle.book_zones.specs.ZoneLimits.{RatesWithin}
@@ -62,7 +62,7 @@ module _ (s : List ℕ) (walks : FieldsWalk bookRows s) (passes : judgeBook s �
         share = charges 1 (omega (arith, sizes .charged)) .1;
         least-zones = stand .least;
         most-zones = stand .most;
-        numbers = length-zone-array 0 (map (λ at. numberAt s at 1) (zoneStarts s));
+        numbers = length-zone-array 0 (map (zoneNumber s) (zoneStarts s));
         rise = zone-numbers-rise s stand (pass 7);
       }
 

@@ -3,7 +3,7 @@ use Prim.Native.Nat.{ℕ, _<_, _≤_}
 use mathlib.Core.List.{List, []}
 use native.Mathlib.Omega.{arith}
 use lib.ListN.{length, getD}
-use Rattle.field_walk.specs.Walk.{leastOf, FieldsWalk}
+use Rattle.field_walk.specs.Walk.{leastOf, neitherForm, rowIn, FieldsWalk}
 use Rattle.tagged.specs.FoundFields.{Sized}
 use Rattle.tagged.specs.Theorems.FoundFields.{walk-sized}
 use Rattle.book_zones.specs.BookRows.{bookRows}
@@ -12,7 +12,7 @@ use Rattle.rate_book.specs.BookSizes.{BookSizes}
 
 pub book-sizes : (s : List ℕ) → FieldsWalk bookRows s → BookSizes s
 book-sizes s walks =
-    let sized : (k : ℕ) → k < length bookRows → 1 ≤ leastOf (getD bookRows k []) → Sized (getD bookRows k []) s = walk-sized bookRows s book-rows-rise walks in
+    let sized : (k : ℕ) → k < length bookRows → 1 ≤ leastOf (rowIn neitherForm (getD bookRows k [])) → Sized (getD bookRows k []) s = walk-sized bookRows s book-rows-rise walks in
     record {
       rate = omega (arith, sized 1 (omega arith) (omega arith));
       figures = omega (arith, sized 2 (omega arith) (omega arith));

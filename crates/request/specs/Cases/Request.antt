@@ -8,6 +8,7 @@ use Rattle.numbers.specs.Check.{checkFrom}
 use Rattle.field_walk.specs.Walk.{dueFrom, allHad, frontOf, walkFrom}
 use Rattle.tagged.specs.Find.{fieldsFrom, firstWith}
 use Rattle.tagged.specs.File.{refusal}
+use Rattle.tagged.specs.Cases.AlteredFields.{without}
 use Rattle.tagged.specs.Encoded.{closed}
 use Rattle.tagged.specs.declared.file.FileAnswer.{FileAnswer}
 use Rattle.tagged.specs.declared.file.FileAnswer.the-variants.{Stands, Refused}
@@ -198,6 +199,35 @@ pub sample-read :
     }
 unfolding number bytesOf flatMap checkFrom dueFrom allHad frontOf walkFrom fieldsFrom firstWith judgeNumbers sameBytes requestOf
 sample-read = refl
+
+-- Document 02, E6: the sample's request with 0D in place of 04. Its values after 03 stand 4 bytes lower, and the zone number is one of 16 bits.
+abbrev wideFile : ℕ → List (List ℕ) → List ℕ
+wideFile zone values = closed (without 3 (partsFrom 1 requestWidths values) ++ ((13, bytesOf 2 zone) ∷ []))
+
+abbrev wideCases : List (List ℕ × FileAnswer)
+wideCases =
+    (wideFile 0 sample, Stands) ∷
+    (wideFile 65535 sample, Stands) ∷
+    (wideFile 1 (put 3 0 3 sample), refused 17) ∷
+    (wideFile 1 (put 5 5 1000000000 sample), Stands) ∷
+    (wideFile 1 (put 5 5 1000000001 sample), refused 41) ∷
+    (wideFile 1 (put 3 0 1 (put 5 5 1 sample)), refused 41) ∷
+    (wideFile 1 (put 8 0 1000000000 sample), Stands) ∷
+    (wideFile 1 (put 8 0 1000000001 sample), refused 119) ∷
+    (wideFile 1 (put 12 3 3 sample), refused 159) ∷
+    []
+
+pub wide-answers : map (λ row. requestOf 2 (row .0) .answer) wideCases ≡ map (λ row. row .1) wideCases
+unfolding number bytesOf flatMap checkFrom dueFrom allHad frontOf walkFrom fieldsFrom firstWith judgeNumbers sameBytes requestOf
+wide-answers = refl
+
+-- both forms' zone numbers: about 255, and those that have a low byte alike
+abbrev zonesRead : List (List ℕ)
+zonesRead = requestFile (put 4 0 7 sample) ∷ requestFile (put 4 0 255 sample) ∷ map (λ zone. wideFile zone sample) (7 ∷ 255 ∷ 256 ∷ 263 ∷ 1400 ∷ 65535 ∷ [])
+
+pub zones-read : map (λ file. requestOf 2 file .request .zone) zonesRead ≡ 7 ∷ 255 ∷ 7 ∷ 255 ∷ 256 ∷ 263 ∷ 1400 ∷ 65535 ∷ []
+unfolding number bytesOf flatMap checkFrom dueFrom allHad frontOf walkFrom fieldsFrom firstWith judgeNumbers sameBytes requestOf
+zones-read = refl
 
 -- modes, class and mark, of which the sample has some alike: no two of them are alike in both
 abbrev otherCases : List (List ℕ)

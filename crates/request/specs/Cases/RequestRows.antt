@@ -6,12 +6,12 @@ use mathlib.Core.List.{List, [], _∷_, _++_, map, flatMap}
 use Rattle.numbers.specs.BigEndian.{number, bytesOf}
 use Rattle.numbers.specs.Check.{checkFrom}
 use Rattle.field_walk.specs.Walk.{dueFrom, allHad, frontOf, walkFrom}
-use Rattle.tagged.specs.File.{fileAnswer}
+use Rattle.tagged.specs.File.{fileAnswer, refusal}
 use Rattle.tagged.specs.Cases.AlteredFields.{zeros, without, twice, longer, shorter, sized, stopping}
 use Rattle.tagged.specs.Encoded.{closed}
 use Rattle.tagged.specs.RisingTags.{risingTags}
 use Rattle.tagged.specs.declared.file.FileAnswer.{FileAnswer}
-use Rattle.tagged.specs.declared.file.FileAnswer.the-variants.{Stands}
+use Rattle.tagged.specs.declared.file.FileAnswer.the-variants.{Stands, Refused}
 use Rattle.request.specs.RequestRows.{requestRows}
 
 -- "in rising tag order"
@@ -40,6 +40,69 @@ requestFiles =
     (sized 2 8 (sized 2 9 (sized 2 10 someFields)), Stands) ∷
     (sized 16 8 (sized 16 9 (sized 16 10 someFields)), Stands) ∷
     []
+
+-- Document 02, E6: the two forms, of a request of the slip's lengths, in which 04 stands at 18. Both in one file stop at the second form that comes; neither,
+-- at another field that can't stand, and otherwise where 04 was due.
+abbrev head : List (ℕ × List ℕ)
+head = zeros ((1, 4) ∷ (2, 4) ∷ (3, 1) ∷ [])
+
+abbrev zone : List (ℕ × List ℕ)
+zone = zeros ((4, 1) ∷ [])
+
+abbrev wideZone : List (ℕ × List ℕ)
+wideZone = zeros ((13, 2) ∷ [])
+
+abbrev amounts : List (ℕ × List ℕ)
+amounts = zeros ((5, 24) ∷ [])
+
+abbrev usage : List (ℕ × List ℕ)
+usage = zeros ((6, 45) ∷ (7, 20) ∷ (8, 8) ∷ (9, 4) ∷ (10, 2) ∷ (11, 2) ∷ [])
+
+abbrev connection : List (ℕ × List ℕ)
+connection = zeros ((12, 9) ∷ [])
+
+abbrev rest : List (ℕ × List ℕ)
+rest = amounts ++ (usage ++ connection)
+
+abbrev stops : ℕ → FileAnswer
+stops place = Refused (refusal 1 2 place)
+
+-- the fields after 03
+abbrev formFiles : List (List (ℕ × List ℕ) × FileAnswer)
+formFiles =
+    (zone ++ rest, Stands) ∷
+    (rest ++ wideZone, Stands) ∷
+    -- neither; neither and 05 missing too
+    (rest, stops 18) ∷
+    (usage ++ connection, stops 18) ∷
+    -- both; after 04, 0D of length 1; 0D twice after 04
+    (zone ++ (rest ++ wideZone), stops 160) ∷
+    (zone ++ (rest ++ zeros ((13, 1) ∷ [])), stops 160) ∷
+    (zone ++ (rest ++ (wideZone ++ wideZone)), stops 160) ∷
+    -- 0D where 04 was
+    (wideZone ++ rest, stops 18) ∷
+    -- 04 after 05; neither, and 06 of length 46
+    (amounts ++ (zone ++ (usage ++ connection)), stops 45) ∷
+    (amounts ++ (longer 0 usage ++ connection), stops 45) ∷
+    -- 0D twice; 0D, then 04
+    (rest ++ (wideZone ++ wideZone), stops 161) ∷
+    (rest ++ (wideZone ++ zone), stops 161) ∷
+    -- neither, and a field 0E, or an early FF; 0D of length 1 or 3 without 04; 04 at the end
+    (rest ++ zeros ((14, 1) ∷ []), stops 156) ∷
+    (rest ++ zeros ((255, 2) ∷ []), stops 156) ∷
+    (rest ++ zeros ((13, 1) ∷ []), stops 156) ∷
+    (rest ++ zeros ((13, 3) ∷ []), stops 156) ∷
+    (rest ++ zone, stops 156) ∷
+    -- neither, and 0C missing; 0D before 0C
+    (amounts ++ usage, stops 144) ∷
+    (amounts ++ (usage ++ (wideZone ++ connection)), stops 144) ∷
+    -- both, without 0C
+    (zone ++ (amounts ++ (usage ++ wideZone)), stops 148) ∷
+    []
+
+pub form-files-stand : map (λ t. fileAnswer requestRows 2 (closed (head ++ t .0))) formFiles ≡ map (λ t. t .1) formFiles
+unfolding flatMap number bytesOf checkFrom dueFrom allHad frontOf walkFrom
+form-files-stand = refl
 
 pub request-files-stand : map (λ t. fileAnswer requestRows 2 (closed (t .0))) requestFiles ≡ map (λ t. t .1) requestFiles
 unfolding flatMap number bytesOf checkFrom dueFrom allHad frontOf walkFrom

@@ -11,6 +11,8 @@ use borrow.Author.Tests.{eqb-true}
 use Rattle.numbers.specs.BigEndian.{Bytes}
 use Rattle.numbers.specs.Theorems.BigEndian.{Bytes-take, numberAt-below}
 use Rattle.tagged.specs.Find.{fieldStart, fieldValue, firstPlace}
+use Rattle.tagged.specs.declared.find.Place.{Place}
+use Rattle.tagged.specs.declared.find.Place.the-variants.{At, Nowhere}
 use Rattle.tagged.specs.Theorems.FoundFields.{Bytes-part}
 use Rattle.tagged.specs.File.{fieldsPart}
 use Rattle.tagged.specs.Theorems.File.{stands-means}
@@ -21,9 +23,9 @@ use Rattle.field_values.specs.Theorems.Judged.{first-failure-passes, offsetOf, 
 use Rattle.field_values.specs.Theorems.Factors.{factors-within}
 use Rattle.field_values.specs.declared.judged.Judged.the-variants.{Passes}
 use Rattle.request.specs.RequestRows.{requestRows}
-use Rattle.request.specs.Fields.{classLimits, classIn, highestLoading, amountLimits, fiveTierLimits, addedLimits, addedIn, revenueLimits, connectionLimits, tiersIn}
+use Rattle.request.specs.Fields.{zoneBy, classLimits, classIn, highestLoading, amountLimits, fiveTierLimits, addedLimits, addedIn, revenueLimits, connectionLimits, tiersIn}
 use Rattle.request.specs.Request.{chargeJudgements, requestJudgements, judgeRequest, requestValues, requestOf}
-use Rattle.request.specs.RequestSizes.{RequestSizes}
+use Rattle.request.specs.RequestSizes.{ZoneBytes, RequestSizes}
 use Rattle.request.specs.Theorems.RequestSizes.{request-sizes}
 use Rattle.request.specs.Theorems.Request.{request-accepted}
 use Rattle.request.specs.RequestLimits.{RequestWithin}
@@ -65,7 +67,7 @@ values-within s bytes sizes passes =
     record {
       person = numberAt-below (fieldValue 2 s) 0 4 (Bytes-part (firstPlace 2 s) s bytes) (omega (arith, sizes .person));
       class = class 0 tt .1;
-      zone = numberAt-below (fieldValue 4 s) 0 1 (Bytes-part (firstPlace 4 s) s bytes) (omega (arith, sizes .zone));
+      zone = zone-below (firstPlace 13 s) (sizes .zone);
       me = amount 0 tt .1;
       ce = amount 1 tt .1;
       de = amount 2 tt .1;
@@ -92,6 +94,10 @@ values-within s bytes sizes passes =
       scheme = omega (arith, connection 2 tt .1);
       mark = connection 3 tt .1;
     }
+  where
+    zone-below : (place : Place) → ZoneBytes place s → zoneBy place s < 65536
+    zone-below Nowhere long = omega (arith, numberAt-below (fieldValue 4 s) 0 1 (Bytes-part (firstPlace 4 s) s bytes) (omega (arith, long)))
+    zone-below (At start len) long = numberAt-below (fieldValue 13 s) 0 2 (Bytes-part (firstPlace 13 s) s bytes) (omega (arith, long))
 
 -- The values of an accepted request have the lengths that document 01 gives them: a list of factors has an even number of bytes, 2 to 16.
 pub accepted-request-sizes : (number : ℕ) (file : List ℕ) → requestOf number file .answer ≡ Stands → RequestSizes (fieldsPart file)

@@ -11,19 +11,21 @@ use Rattle.numbers.specs.BigEndian.{Bytes, number, numberAt, bytesOf}
 use Rattle.numbers.specs.Theorems.BigEndian.{Bytes-append, bytesOf-bytes, length-bytesOf, number-of-bytesOf}
 use Rattle.tagged.specs.DiffersInField.{DiffersInField}
 use Rattle.tagged.specs.File.{fieldsPart}
+use Rattle.tagged.specs.Find.{firstPlace}
 use Rattle.tagged.specs.Theorems.File.{stands-means}
 use Rattle.tagged.specs.Theorems.FoundFields.{walk-finds-due}
 use Rattle.tagged.specs.Theorems.Walk.{permitted-length}
 use Rattle.tagged.specs.Theorems.WithField.{withField, FieldReplaced, field-replaced}
 use Rattle.tagged.specs.declared.file.FileAnswer.the-variants.{Stands}
-use Rattle.tagged.specs.declared.find.Place.the-variants.{At}
+use Rattle.tagged.specs.declared.find.Place.{Place}
+use Rattle.tagged.specs.declared.find.Place.the-variants.{At, Nowhere}
 use Rattle.field_values.specs.Limits.{highestRevenue}
 use Rattle.field_values.specs.Judged.{judgeNumbers}
 use Rattle.field_values.specs.Theorems.Judged.{first-failure-passes}
 use Rattle.field_values.specs.declared.judged.Judged.the-variants.{Passes}
 use Rattle.request.specs.Cases.RequestRows.{request-rows-rise}
 use Rattle.request.specs.RequestRows.{requestRows}
-use Rattle.request.specs.Fields.{revenueLimits}
+use Rattle.request.specs.Fields.{zoneBy, zoneIn, revenueLimits}
 use Rattle.request.specs.Request.{requestJudgements, judgeRequest, requestValues, acceptedRequest, requestOf}
 use Rattle.request.specs.WithRevenues.{withRevenues}
 use Rattle.request.specs.Theorems.Request.{request-accepted, request-judged}
@@ -64,7 +66,7 @@ module _ (distribution transmission : ℕ) (d : distribution ≤ highestRevenue)
     replaced =
         let stands = stands-means requestRows number file (request-accepted number file accepted .stands) in
         let s = fieldsPart file in
-        let found = walk-finds-due requestRows s (stands .field-list) request-rows-rise (stands .walks) 7 (lit< tt) (lit≤ tt) in
+        let found = walk-finds-due requestRows s (stands .field-list) request-rows-rise 7 (lit< tt) (lit≤ tt) (stands .walks) in
         let size : found .len ≡ length value = omega (arith, permitted-length (getD requestRows 7 []) (found .len) (found .permitted), value-size) in
         field-replaced requestRows 8 value file request-rows-rise bytes value-bytes stands (found .found ∙ ap (At (found .start)) size) (omega (arith, found .within))
 
@@ -75,10 +77,17 @@ module _ (distribution transmission : ℕ) (d : distribution ≤ highestRevenue)
         let same = replaced .others in
         rw (at 1, same 1 (λ e. omega arith), judged 0, at 3, same 3 (λ e. omega arith), at 5, same 5 (λ e. omega arith), judged 1, at 6, same 6 (λ e. omega arith), judged 2, at 7, same 7 (λ e. omega arith), judged 3, replaced .replaced, revenues-pass, at 9, same 9 (λ e. omega arith), judged 5, at 10, same 10 (λ e. omega arith), judged 6, at 11, same 11 (λ e. omega arith), judged 7, at 12, same 12 (λ e. omega arith), judged 8)
 
+    -- in either form
+    zone-kept : (place : Place) → zoneBy place (fieldsPart (fileWithRevenues distribution transmission file)) ≡ zoneBy place (fieldsPart file)
+    zone-kept Nowhere = ap (λ held. numberAt held 0 1) (replaced .others 4 (λ e. omega arith))
+    zone-kept (At start len) = ap (λ held. numberAt held 0 2) (replaced .others 13 (λ e. omega arith))
+
     values-kept : requestValues (fieldsPart (fileWithRevenues distribution transmission file)) ≡ withRevenues distribution transmission (requestValues (fieldsPart file))
     values-kept =
         let same = replaced .others in
-        rw (same 2 (λ e. omega arith), same 3 (λ e. omega arith), same 4 (λ e. omega arith), same 5 (λ e. omega arith), same 6 (λ e. omega arith), same 7 (λ e. omega arith), replaced .replaced, same 9 (λ e. omega arith), same 10 (λ e. omega arith), same 11 (λ e. omega arith), same 12 (λ e. omega arith), distribution-read, transmission-read)
+        let zone : zoneIn (fieldsPart (fileWithRevenues distribution transmission file)) ≡ zoneIn (fieldsPart file) =
+        ap (λ place. zoneBy place (fieldsPart (fileWithRevenues distribution transmission file))) (replaced .found 13) ∙ zone-kept (firstPlace 13 (fieldsPart file)) in
+        rw (zone, same 2 (λ e. omega arith), same 3 (λ e. omega arith), same 5 (λ e. omega arith), same 6 (λ e. omega arith), same 7 (λ e. omega arith), replaced .replaced, same 9 (λ e. omega arith), same 10 (λ e. omega arith), same 11 (λ e. omega arith), same 12 (λ e. omega arith), distribution-read, transmission-read)
 
     pub revenues-replaced : requestOf number (fileWithRevenues distribution transmission file)
         ≡ acceptedRequest (withRevenues distribution transmission (requestOf number file .request))

@@ -3,6 +3,7 @@ use Prim.Native.Nat.{ℕ, _<_, _≤_}
 use mathlib.Core.Path.{_≡_, refl, sym, ap, subst, _∙_}
 use mathlib.Core.List.{List, [], _∷_, _++_, append-nil, map, List·Memᴰ, Memᴰ·append-left, Memᴰ·of-map}
 use mathlib.Core.Bool.{true}
+use mathlib.Core.Logic.{inl}
 use native.Mathlib.Omega.{arith}
 use lib.ListN.{length, getD, take, drop, length-map, length-take, take-append-drop}
 use Rattle.field_walk.specs.Walk.{tagOf, permittedBy, fields, walk}
@@ -12,7 +13,7 @@ use Rattle.tagged.specs.WalkRelations.{Stand, end}
 use Rattle.tagged.specs.Encoded.{encodedParts, partsOf}
 use Rattle.tagged.specs.Theorems.FoundFields.{walk-fieldsOf}
 use Rattle.tagged.specs.WalkEncoded.{placesFrom}
-use Rattle.tagged.specs.Theorems.WalkEncoded.{Stand-parts, Stand-short, walk-of-encoded, walk-parts-of-encoded}
+use Rattle.tagged.specs.Theorems.WalkEncoded.{Stand-parts, Stand-short, walk-in-form, walk-of-encoded, walk-parts-of-encoded}
 use Rattle.tagged.specs.Theorems.ClosedFiles.{fields-of-closed, closed-stands}
 use Rattle.tagged.specs.declared.file.FileAnswer.the-variants.{Stands}
 use Rattle.ledger.specs.Limits.{mostSchemes, mostEntries}
@@ -94,7 +95,9 @@ module _ (ledger : Ledger) (parties : List Party) (count : ledger .count ≤ mos
       (of-row (rowAt 0) (λ (one : Ledger). lettersPart) 4 (λ one. refl) (λ one. refl) refl (ledger ∷ [])) (omega arith) (omega arith) head-stands
 
   form-walks : walk storedRows (encodedParts (storedParts ledger parties)) ≡ fields (placesFrom 0 (storedParts ledger parties))
-  form-walks = walk-of-encoded storedRows (storedParts ledger parties) stored-rows-rise places-stand (Stand-short places-stand refl)
+  form-walks =
+      walk-in-form storedRows (encodedParts (storedParts ledger parties)) (placesFrom 0 (storedParts ledger parties))
+      (inl (walk-of-encoded storedRows (storedParts ledger parties) stored-rows-rise places-stand (Stand-short places-stand refl)))
 
   fields-found : fieldsOf (encodedParts (storedParts ledger parties)) ≡ placesFrom 0 (storedParts ledger parties)
   fields-found = walk-fieldsOf storedRows (encodedParts (storedParts ledger parties)) (placesFrom 0 (storedParts ledger parties)) form-walks

@@ -2,6 +2,7 @@
 use Prim.Native.Nat.{ℕ, _<_, _≤_}
 use mathlib.Core.Path.{_≡_, refl, ap, subst, _∙_}
 use mathlib.Core.List.{List, [], _∷_, _++_, append-nil, List·Memᴰ}
+use mathlib.Core.Logic.{⊎-elim}
 use native.Mathlib.Omega.{arith}
 use lib.ListN.{length, getD, length-map}
 use Rattle.field_walk.specs.Walk.{FieldAt, FieldsWalk, lowestOf, highestOf}
@@ -34,7 +35,7 @@ pub record StoredFields (fs : List FieldAt) : Type 0 where
 
 pub stored-fields : (s : List ℕ) → FieldsWalk storedRows s → StoredFields (fieldsOf s)
 stored-fields s (fs, walks) =
-    let first = Stand-once (walk-stands storedRows s fs walks) refl refl in
+    let first = Stand-once (⊎-elim (λ x. x) (λ x. x) (walk-stands storedRows s fs walks)) refl refl in
     let second = Stand-once (first .rest) refl refl in
     let third = Stand-repeated (second .rest) (omega arith) in
     let last = Stand-last (third .rest) in

@@ -3,21 +3,22 @@ use Prim.Native.Nat.{ℕ, zero, suc, _+_, _-_, _%_, _<_, _≤_}
 use mathlib.Core.Path.{_≡_, refl, sym, ap, ap₂, subst, _∙_}
 use mathlib.Core.List.{List, [], _∷_, _++_, append-assoc, flatMap, List·Memᴰ, List·Memᴰ·head, List·Memᴰ·tail, List·Memᴰ·not-nil, List·Memᴰ·cases-cons}
 use mathlib.Core.Logic.{⊎-elim}
-use mathlib.Core.Bool.{true, false}
+use mathlib.Core.Bool.{Bool, true, false, cond, false≢true}
 use native.Mathlib.Numerals.{add-one}
 use native.Mathlib.Omega.{arith}
-use lib.ListN.{length, getD, take, drop, length-drop, length-take, take-append-drop, drop-of-length-le}
+use lib.ListN.{length, getD, take, drop, length-drop, length-take, take-append-drop, drop-of-length-le, length-map}
 use lib.Seq.{drop-drop, drop-cons, take-all}
 use lib.Dec.{eqb}
 use borrow.Author.Tests.{le-ltb, le-leb, lt-ltb, eq-eqb, ne-eqb}
 use Rattle.numbers.specs.BigEndian.{Bytes, number, bytesOf}
 use Rattle.numbers.specs.Theorems.BigEndian.{Bytes-take, Bytes-drop, bytesOf-number}
-use Rattle.field_walk.specs.Walk.{tagOf, lowestOf, stepOf, leastOf, permittedBy, lengthAt, FieldAt, valueOf, fields, walk, FieldsWalk}
+use Rattle.field_walk.specs.Walk.{tagOf, lowestOf, stepOf, leastOf, mostOf, permittedBy, lengthAt, FieldAt, valueOf, fields, firstForm, secondForm, neitherForm, rowIn, rowsIn, walkBy, walk, FieldsWalk}
+use Rattle.field_walk.specs.Theorems.Forms.{same-in, row-in, of-both}
 use Rattle.tagged.specs.Find.{wholeField, fieldsFrom, fieldsOf, firstWith, firstPlace, valuePlace, restPlace, partOf, startOf, fieldValue, fieldStart}
 use Rattle.tagged.specs.Encoded.{encoded, encodedParts, partsOf}
 use Rattle.tagged.specs.RisingTags.{tagsAbove, risingTags}
 use Rattle.tagged.specs.WalkRelations.{Stand, end, next-row, field, StandsAt, Fields, none, first}
-use Rattle.tagged.specs.Theorems.Walk.{walk-stands, walk-fields, both-hold, rest-tag, rest-length, permitted-length}
+use Rattle.tagged.specs.Theorems.Walk.{walk-by-stands, walk-by-fields, walk-by-form, walk-fields, both-hold, rest-tag, rest-length, permitted-length}
 use Rattle.tagged.specs.FoundFields.{Seen, Next, Found, Sized}
 use Rattle.tagged.specs.declared.find.Place.{Place}
 use Rattle.tagged.specs.declared.find.Place.the-variants.{At, Nowhere}
@@ -105,6 +106,9 @@ unfolding flatMap
 Fields-encoded {s} (none l) b = drop-of-length-le s l
 Fields-encoded {s} (first {at} {f} x r) b = field-encoded s at f x b ∙ ap (λ l. encoded (f .tag) (valueOf s f) ++ l) (Fields-encoded r b)
 
+pub walk-by-fieldsOf : (rows : List (List ℕ)) (s : List ℕ) (fs : List FieldAt) → walkBy rows s ≡ fields fs → fieldsOf s ≡ fs
+walk-by-fieldsOf rows s fs walks = Fields-found (walk-by-fields rows s fs walks) (length s + 1) (omega arith)
+
 module _ (rows : List (List ℕ)) (s : List ℕ) (fs : List FieldAt) (walks : walk rows s ≡ fields fs) where
   -- A file that walks is the bytes of its fields, field after field.
   pub walk-tiles : Bytes s → s ≡ encodedParts (partsOf s fs)
@@ -149,24 +153,82 @@ Stand-finds (field {row} {rows} {f} t p l x) r (suc k) h o z =
     let other : eqb (f .tag) (tagOf (getD rows k [])) ≡ false = ne-eqb (f .tag) (tagOf (getD rows k [])) (λ e. omega arith) in
     record { f = w .f; among = List·Memᴰ·tail (w .among); found = rw other (w .found); permitted = w .permitted }
 
--- A file that walks has each field that must be there, and the search finds it.
-pub walk-finds-due : (rows : List (List ℕ)) (s : List ℕ) (fs : List FieldAt) → risingTags rows ≡ true → walk rows s ≡ fields fs →
+-- A file that walks by some rows has each field that must be there, and the search finds it.
+pub walk-by-finds : (rows : List (List ℕ)) (s : List ℕ) (fs : List FieldAt) → risingTags rows ≡ true → walkBy rows s ≡ fields fs →
     (k : ℕ) → k < length rows → 1 ≤ leastOf (getD rows k []) → Found (getD rows k []) s
-walk-finds-due rows s fs r e k h o =
-    let w = Stand-finds (walk-stands rows s fs e) r k h o (λ _. o) in
-    let i = walk-inside rows s fs e (w .f) (w .among) in
-    record { start = w .f .start; len = w .f .len; found = walk-firstPlace rows s fs e (tagOf (getD rows k [])) ∙ w .found; permitted = w .permitted; within = i .1 .within }
+walk-by-finds rows s fs r e k h o =
+    let are = walk-by-fields rows s fs e in
+    let w = Stand-finds (walk-by-stands rows s fs e) r k h o (λ _. o) in
+    let i = Fields-at are (w .f) (w .among) in
+    record {
+      start = w .f .start;
+      len = w .f .len;
+      found = ap (firstWith (tagOf (getD rows k []))) (walk-by-fieldsOf rows s fs e) ∙ w .found;
+      permitted = w .permitted;
+      within = i .1 .within;
+    }
 
-pub walk-sized : (rows : List (List ℕ)) (s : List ℕ) → risingTags rows ≡ true → FieldsWalk rows s → (k : ℕ) → k < length rows →
-    1 ≤ leastOf (getD rows k []) → Sized (getD rows k []) s
-walk-sized rows s rising (fs, walks) k h due =
-    let row = getD rows k [] in
-    let f = walk-finds-due rows s fs rising walks k h due in
+-- no row permits a field with this tag: a computed test
+abbrev pub noneWith : ℕ → List (List ℕ) → Bool
+noneWith tag [] = true
+noneWith tag (row ∷ rows) = cond (eqb (tagOf row) tag) (cond (eqb (mostOf row) 0) (noneWith tag rows) false) (noneWith tag rows)
+
+Stand-none-with : {rows : List (List ℕ)} {n : ℕ} {fs : List FieldAt} → Stand rows n fs → (tag : ℕ) → noneWith tag rows ≡ true → firstWith tag fs ≡ Nowhere
+unfolding firstWith
+Stand-none-with end tag e = refl
+Stand-none-with (next-row {row} {rows} l x) tag e = Stand-none-with x tag (later (eqb (tagOf row) tag) (eqb (mostOf row) 0) e)
+  where
+    later : (same never : Bool) → cond same (cond never (noneWith tag rows) false) (noneWith tag rows) ≡ true → noneWith tag rows ≡ true
+    later true true h = h
+    later true false h = absurd (false≢true h)
+    later false never h = h
+Stand-none-with (field {row} {rows} {n} {f} t p l x) tag e =
+    rw (ne-eqb (f .tag) tag (λ same. permits (eq-eqb (tagOf row) tag (sym t ∙ same)) (ne-eqb (mostOf row) 0 (λ z. omega arith)) e)) (Stand-none-with x tag e)
+  where
+    permits : {same never : Bool} → same ≡ true → never ≡ false → cond same (cond never (noneWith tag rows) false) (noneWith tag rows) ≡ true → ⊥
+    permits {same} {never} a b h = false≢true (sym (rw (a, b)) ∙ h)
+
+-- A file that walks by some rows has no field that none of them permits, and the search finds none.
+pub walk-by-finds-none : (rows : List (List ℕ)) (s : List ℕ) (fs : List FieldAt) → walkBy rows s ≡ fields fs → (tag : ℕ) → noneWith tag rows ≡ true →
+    firstPlace tag s ≡ Nowhere
+walk-by-finds-none rows s fs e tag none-with = ap (firstWith tag) (walk-by-fieldsOf rows s fs e) ∙ Stand-none-with (walk-by-stands rows s fs e) tag none-with
+
+above-in : (form tag : ℕ) (rows : List (List ℕ)) → tagsAbove tag rows ≡ true → tagsAbove tag (rowsIn form rows) ≡ true
+above-in form tag [] r = refl
+above-in form tag (row ∷ rows) r =
+    let h = both-hold tag (tagOf row) (tagsAbove (tagOf row) rows) r in
+    rw (same-in tagOf row refl form, lt-ltb _ _ (h .0)) (above-in form (tagOf row) rows (h .1))
+
+pub rising-in : (form : ℕ) (rows : List (List ℕ)) → risingTags rows ≡ true → risingTags (rowsIn form rows) ≡ true
+rising-in form [] r = refl
+rising-in form (row ∷ rows) r = rw (same-in tagOf row refl form) (above-in form (tagOf row) rows r)
+
+module _ (rows : List (List ℕ)) (s : List ℕ) (fs : List FieldAt) (rising : risingTags rows ≡ true) (k : ℕ) (h : k < length rows)
+    (due : 1 ≤ leastOf (rowIn neitherForm (getD rows k []))) where
+  finds-in : (form : ℕ) → walkBy (rowsIn form rows) s ≡ fields fs → Found (getD rows k []) s
+  finds-in form e =
+      let same : getD (rowsIn form rows) k [] ≡ getD rows k [] = row-in rows form k ∙ of-both (getD rows k []) due form in
+      let neither : rowIn neitherForm (getD rows k []) ≡ getD rows k [] = of-both (getD rows k []) due neitherForm in
+      subst (λ row. Found row s) same
+      (walk-by-finds (rowsIn form rows) s fs (rising-in form rows rising) e k (omega (arith, length-map rows (rowIn form)))
+      (subst (λ row. 1 ≤ leastOf row) (neither ∙ sym same) due))
+
+  -- A file that walks has each field that must be there in both forms, and the search finds it.
+  pub walk-finds-due : walk rows s ≡ fields fs → Found (getD rows k []) s
+  walk-finds-due e = ⊎-elim (finds-in firstForm) (finds-in secondForm) (walk-by-form rows s fs e)
+
+-- the value that is found for a row
+pub found-sized : {row s : List ℕ} → Found row s → Sized row s
+found-sized {row} {s} f =
     let long : length (take (f .len) (drop (f .start) s)) ≡ f .len = simp (length-take, length-drop) (omega (arith, f .within)) in
     let size : length (fieldValue (tagOf row) s) ≡ f .len = ap (λ p. length (partOf p s)) (f .found) ∙ long in
     let start : fieldStart (tagOf row) s ≡ f .start = ap startOf (f .found) in
     let p = permitted-length row (f .len) (f .permitted) in
     record { lowest = omega arith; highest = omega arith; step = ap (λ n. (n - lowestOf row) % stepOf row) size ∙ p .2; within = omega (arith, f .within) }
+
+pub walk-sized : (rows : List (List ℕ)) (s : List ℕ) → risingTags rows ≡ true → FieldsWalk rows s → (k : ℕ) → k < length rows →
+    1 ≤ leastOf (rowIn neitherForm (getD rows k [])) → Sized (getD rows k []) s
+walk-sized rows s rising (fs, walks) k h due = found-sized (walk-finds-due rows s fs rising k h due walks)
 
 -- a part of bytes is bytes
 pub Bytes-part : (place : Place) (s : List ℕ) → Bytes s → Bytes (partOf place s)

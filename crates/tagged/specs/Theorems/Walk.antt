@@ -1,9 +1,10 @@
 -- Document 01, 'What the reviewer ticks': "The tagged walk's facts are shown once for all three kinds of file." A walk by any rows at all
 -- says two things of its fields: they stand by the rows (`Stand`), and they are the file, one after the other (`Fields`). Every other fact follows from these.
+-- A file of a kind that has two forms walks by the rows of one of them, with the same fields.
 use Prim.Native.Nat.{ℕ, zero, suc, _+_, _-_, _%_, _<_, _≤_}
 use mathlib.Core.Path.{_≡_, refl, sym, ap, subst, _∙_}
 use mathlib.Core.List.{List, [], _∷_, _++_, List·Memᴰ, List·Memᴰ·not-nil, List·Memᴰ·cases-cons, append-nil}
-use mathlib.Core.Logic.{⊎-elim}
+use mathlib.Core.Logic.{_⊎_, inl, inr, ⊎-elim}
 use mathlib.Core.Bool.{Bool, true, false, false≢true, cond}
 use native.Mathlib.Nat.{add-zero}
 use native.Mathlib.Omega.{arith}
@@ -12,11 +13,12 @@ use lib.Seq.{getD-drop, drop-drop}
 use lib.Dec.{ltb, leb, eqb}
 use borrow.Author.Tests.{ltb-true, ltb-false, leb-true, eqb-true}
 use Rattle.numbers.specs.BigEndian.{number, numberAt}
-use Rattle.field_walk.specs.Walk.{tagOf, lowestOf, highestOf, stepOf, leastOf, mostOf, dueFrom, allHad, permittedBy, lengthAt, fieldOf, frontOf, FieldAt, Walk, fields, stops, andThen, onFront, walkFrom, walk}
+use Rattle.field_walk.specs.Walk.{tagOf, lowestOf, highestOf, stepOf, leastOf, mostOf, dueFrom, allHad, permittedBy, lengthAt, fieldOf, frontOf, FieldAt, Walk, fields, stops, andThen, onFront, walkFrom, firstForm, secondForm, rowsIn, walkBy, byForms, walk}
 use Rattle.field_walk.specs.declared.walk.Due.{Due}
 use Rattle.field_walk.specs.declared.walk.Due.the-variants.{Row, NotDue}
 use Rattle.field_walk.specs.declared.walk.Front.{Front}
 use Rattle.field_walk.specs.declared.walk.Front.the-variants.{End, Field, CannotStand}
+use Rattle.tagged.specs.Theorems.Impossible.{impossible}
 use Rattle.tagged.specs.WalkRelations.{Stand, end, next-row, field, Fields, none, first, OfRow, Once, Repeated}
 
 -- what holds of a choice, by its test
@@ -125,18 +127,36 @@ walk-holds (suc most) rows s k n at =
         due k′ n′ len x (subst (DueHolds (drop k rows) k n (getD rest 0 0)) (x .0) (due-holds (drop k rows) k n (getD rest 0 0))) (on k′ n′ len) (ih k′ n′ len)
     front CannotStand x ih = tt
 
-module _ (rows : List (List ℕ)) (s : List ℕ) (fs : List FieldAt) (walks : walk rows s ≡ fields fs) where
+module _ (rows : List (List ℕ)) (s : List ℕ) (fs : List FieldAt) (walks : walkBy rows s ≡ fields fs) where
   walk-both : Stand rows 0 fs × Fields s 0 fs
   unfolding WalkHolds
   walk-both = subst (WalkHolds rows s 0 0 0) walks (walk-holds (length s + 1) rows s 0 0 0)
 
-  -- The fields of a file that walks stand by the rows.
-  pub walk-stands : Stand rows 0 fs
-  walk-stands = walk-both .0
+  -- The fields of a file that walks by some rows stand by them.
+  pub walk-by-stands : Stand rows 0 fs
+  walk-by-stands = walk-both .0
+
+  pub walk-by-fields : Fields s 0 fs
+  walk-by-fields = walk-both .1
+
+either-form : (first second neither : Walk) (fs : List FieldAt) → byForms first second neither ≡ fields fs → (first ≡ fields fs) ⊎ (second ≡ fields fs)
+either-form (fields _) second neither fs e = inl e
+either-form (stops at) (fields _) neither fs e = inr e
+either-form (stops at) (stops at′) (fields _) fs e = impossible cc
+either-form (stops at) (stops at′) (stops _) fs e = impossible cc
+
+module _ (rows : List (List ℕ)) (s : List ℕ) (fs : List FieldAt) (walks : walk rows s ≡ fields fs) where
+  -- A file that walks does so by the rows of one form.
+  pub walk-by-form : (walkBy (rowsIn firstForm rows) s ≡ fields fs) ⊎ (walkBy (rowsIn secondForm rows) s ≡ fields fs)
+  walk-by-form = either-form (walkBy (rowsIn firstForm rows) s) (walkBy (rowsIn secondForm rows) s) _ fs walks
+
+  -- The fields of a file that walks stand by the rows of its form.
+  pub walk-stands : Stand (rowsIn firstForm rows) 0 fs ⊎ Stand (rowsIn secondForm rows) 0 fs
+  walk-stands = ⊎-elim (λ e. inl (walk-by-stands (rowsIn firstForm rows) s fs e)) (λ e. inr (walk-by-stands (rowsIn secondForm rows) s fs e)) walk-by-form
 
   -- A file that walks is its fields, one after the other.
   pub walk-fields : Fields s 0 fs
-  walk-fields = walk-both .1
+  walk-fields = ⊎-elim (walk-by-fields (rowsIn firstForm rows) s fs) (walk-by-fields (rowsIn secondForm rows) s fs) walk-by-form
 
 -- what a permitted length is
 pub permitted-length : (row : List ℕ) (len : ℕ) → permittedBy row len ≡ true → (lowestOf row ≤ len) × (len ≤ highestOf row) × ((len - lowestOf row) % stepOf row ≡ 0)
@@ -151,7 +171,7 @@ permitted-length row len =
     never : {A : Type 0} → A → P false
     never a e = absurd (false≢true e)
 
-Stand-had : {row : List ℕ} {rows : List (List ℕ)} {n : ℕ} {fs : List FieldAt} → Stand (row ∷ rows) n fs → mostOf row ≤ n → Stand rows 0 fs
+pub Stand-had : {row : List ℕ} {rows : List (List ℕ)} {n : ℕ} {fs : List FieldAt} → Stand (row ∷ rows) n fs → mostOf row ≤ n → Stand rows 0 fs
 Stand-had (next-row l x) m = x
 Stand-had (field t p l x) m = absurd (omega arith)
 

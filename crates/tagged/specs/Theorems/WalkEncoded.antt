@@ -2,7 +2,7 @@
 use Prim.Native.Nat.{ℕ, zero, suc, _+_, _-_, _<_, _≤_}
 use mathlib.Core.Path.{_≡_, refl, sym, ap, ap₂, _∙_}
 use mathlib.Core.List.{List, [], _∷_, _++_, append-assoc, flatMap, List·Memᴰ, List·Memᴰ·head, List·Memᴰ·tail, List·Memᴰ·not-nil, List·Memᴰ·cases-cons}
-use mathlib.Core.Logic.{⊎-elim}
+use mathlib.Core.Logic.{_⊎_, ⊎-elim}
 use mathlib.Core.Bool.{Bool, true, false, cond}
 use native.Mathlib.Nat.{add-zero}
 use native.Mathlib.Omega.{arith}
@@ -12,13 +12,13 @@ use lib.Dec.{ltb, eqb}
 use borrow.Author.Tests.{le-ltb, le-leb, lt-ltb, eq-eqb, ne-eqb}
 use Rattle.numbers.specs.BigEndian.{number, bytesOf}
 use Rattle.numbers.specs.Theorems.BigEndian.{length-bytesOf, number-of-bytesOf}
-use Rattle.field_walk.specs.Walk.{tagOf, leastOf, mostOf, highestOf, dueFrom, allHad, permittedBy, frontOf, FieldAt, fields, walkFrom, walk}
+use Rattle.field_walk.specs.Walk.{tagOf, leastOf, mostOf, highestOf, dueFrom, allHad, permittedBy, frontOf, FieldAt, Walk, fields, stops, walkFrom, firstForm, secondForm, neitherForm, rowsIn, walkBy, byForms, walk}
 use Rattle.field_walk.specs.declared.walk.Due.the-variants.{Row}
 use Rattle.tagged.specs.WalkRelations.{Stand, end, next-row, field, StandsAt, Fields, none, first}
 use Rattle.tagged.specs.Theorems.Walk.{permitted-length, both-hold, rest-tag}
 use Rattle.tagged.specs.Encoded.{encodedParts, partsOf}
 use Rattle.tagged.specs.RisingTags.{tagsAbove, risingTags}
-use Rattle.tagged.specs.Theorems.FoundFields.{walk-seen, rising-rest}
+use Rattle.tagged.specs.Theorems.FoundFields.{walk-seen, walk-by-fieldsOf, rising-rest}
 use Rattle.tagged.specs.WalkEncoded.{Short, placesFrom}
 
 -- a field that stands by rows above a tag is above it
@@ -80,10 +80,21 @@ walk-back rows {s} (first {at} {f} {fs} y z) (suc most) k n m x r =
     rw (some, le-ltb (length (drop at s)) 3 (omega (arith, w .ends)), w .tag, d .due, w .len, permitted, le-leb _ _ (w .ends), drop-drop, ih)
     (λ i. fields (record { tag = f .tag; start = sym (y .start) i; len = f .len } ∷ fs))
 
--- Where the tags rise, fields that stand by the rows and are the file are what the walk gives.
+-- Where the tags rise, fields that stand by the rows and are the file are what the walk by them gives.
 pub walk-of-fields : (rows : List (List ℕ)) (s : List ℕ) (fs : List FieldAt) →
-    risingTags rows ≡ true → Stand rows 0 fs → Fields s 0 fs → walk rows s ≡ fields fs
+    risingTags rows ≡ true → Stand rows 0 fs → Fields s 0 fs → walkBy rows s ≡ fields fs
 walk-of-fields rows s fs r x y = walk-back rows y (length s + 1) 0 0 (omega arith) x r
+
+-- A file that walks by the rows of one form walks: its fields are the same by the other form, if it walks by that too.
+pub walk-in-form : (rows : List (List ℕ)) (s : List ℕ) (fs : List FieldAt) →
+    (walkBy (rowsIn firstForm rows) s ≡ fields fs) ⊎ (walkBy (rowsIn secondForm rows) s ≡ fields fs) → walk rows s ≡ fields fs
+walk-in-form rows s fs = ⊎-elim (λ e. rw e) (λ e. by-first (walkBy (rowsIn firstForm rows) s) refl e)
+  where
+    by-first : (first : Walk) → walkBy (rowsIn firstForm rows) s ≡ first → walkBy (rowsIn secondForm rows) s ≡ fields fs →
+        byForms first (walkBy (rowsIn secondForm rows) s) (walkBy (rowsIn neitherForm rows) s) ≡ fields fs
+    by-first (stops at) same e = rw e
+    by-first (fields other) same e =
+        ap fields (sym (walk-by-fieldsOf (rowsIn firstForm rows) s other same) ∙ walk-by-fieldsOf (rowsIn secondForm rows) s fs e)
 
 -- which holds of fields that stand by rows that permit no other lengths, a computed test
 abbrev pub shortRows : List (List ℕ) → Bool
@@ -157,7 +168,7 @@ encoded-parts s at (part ∷ parts) e =
 
 -- The bytes of tags and values that stand by rows with rising tags walk: each field stands where it was put ..
 pub walk-of-encoded : (rows : List (List ℕ)) (parts : List (ℕ × List ℕ)) → risingTags rows ≡ true → Stand rows 0 (placesFrom 0 parts) →
-    Short (placesFrom 0 parts) → walk rows (encodedParts parts) ≡ fields (placesFrom 0 parts)
+    Short (placesFrom 0 parts) → walkBy rows (encodedParts parts) ≡ fields (placesFrom 0 parts)
 walk-of-encoded rows parts r x h = walk-of-fields rows (encodedParts parts) (placesFrom 0 parts) r x (encoded-fields (encodedParts parts) 0 parts refl h)
 
 -- .. with the value that was put there.

@@ -3,7 +3,7 @@
 use Prim.Native.Nat.{ℕ, _+_, _-_, _<_, _≤_}
 use mathlib.Core.Path.{_≡_, refl, sym, ap, _∙_}
 use mathlib.Core.List.{List, [], _∷_, _++_, append-assoc}
-use mathlib.Core.Logic.{_⊎_, ⊎-elim}
+use mathlib.Core.Logic.{_⊎_, inl, inr, ⊎-elim}
 use mathlib.Core.Bool.{true, false}
 use mathlib.Mathlib.Data.Bool.Basic.{dichotomy}
 use native.Mathlib.Omega.{arith}
@@ -15,7 +15,7 @@ use Rattle.numbers.specs.BigEndian.{Bytes, number, bytesOf, written}
 use Rattle.numbers.specs.Theorems.BigEndian.{Bytes-append, Bytes-take, Bytes-drop, bytesOf-bytes, length-bytesOf, length-written, drop-written, numberAt-one}
 use Rattle.numbers.specs.Check.{check}
 use Rattle.numbers.specs.Theorems.Check.{check-below}
-use Rattle.field_walk.specs.Walk.{FieldAt, fields, walk}
+use Rattle.field_walk.specs.Walk.{FieldAt, fields, firstForm, secondForm, rowsIn, walk}
 use Rattle.tagged.specs.DiffersInField.{DiffersInField}
 use Rattle.tagged.specs.Encoded.{encodedParts, closed, partsOf}
 use Rattle.tagged.specs.File.{fieldsPart, fileAnswer, FileStands}
@@ -23,10 +23,10 @@ use Rattle.tagged.specs.Find.{firstWith, firstPlace, partOf, startOf, fi
 use Rattle.tagged.specs.RisingTags.{risingTags}
 use Rattle.tagged.specs.WalkRelations.{StandsAt, Fields, none, first}
 use Rattle.tagged.specs.Theorems.ClosedFiles.{fields-of-closed, closed-stands, stands-closed}
-use Rattle.tagged.specs.Theorems.FoundFields.{walk-tiles, walk-firstPlace}
+use Rattle.tagged.specs.Theorems.FoundFields.{walk-tiles, walk-firstPlace, rising-in}
 use Rattle.tagged.specs.Theorems.Impossible.{impossible}
 use Rattle.tagged.specs.Theorems.Walk.{by-test, walk-stands, walk-fields}
-use Rattle.tagged.specs.Theorems.WalkEncoded.{walk-of-fields}
+use Rattle.tagged.specs.Theorems.WalkEncoded.{walk-of-fields, walk-in-form}
 use Rattle.tagged.specs.declared.file.FileAnswer.the-variants.{Stands}
 use Rattle.tagged.specs.declared.find.Place.the-variants.{At}
 
@@ -148,6 +148,7 @@ module _ (s v : List ℕ) (start : ℕ) (within : start + length v ≤ length s)
 -- what holds of the file with another value in a field
 pub record FieldReplaced (rows : List (List ℕ)) (tag : ℕ) (value file : List ℕ) : Type 0 where
   pub stands : (number : ℕ) → fileAnswer rows number (withField tag value file) ≡ Stands
+  pub found : (other : ℕ) → firstPlace other (fieldsPart (withField tag value file)) ≡ firstPlace other (fieldsPart file)
   pub places : (other : ℕ) → fieldStart other (fieldsPart (withField tag value file)) ≡ fieldStart other (fieldsPart file)
   pub replaced : fieldValue tag (fieldsPart (withField tag value file)) ≡ value
   pub others : (other : ℕ) → (tag ≡ other → ⊥) → fieldValue other (fieldsPart (withField tag value file)) ≡ fieldValue other (fieldsPart file)
@@ -200,7 +201,11 @@ field-replaced rows tag value file {start} rising bytes spelt stands found withi
     let fields-bytes : Bytes s = Bytes-take (length file - 5) file bytes in
     let with-tag : firstWith tag fs ≡ At start (length value) = sym (walk-firstPlace rows s fs (stands .walks) tag) ∙ found in
     let kept = field-kept s value start within tag (walk-fields rows s fs (stands .walks)) with-tag in
-    let walks : walk rows s′ ≡ fields fs = walk-of-fields rows s′ fs rising (walk-stands rows s fs (stands .walks)) (kept .all) in
+    let walks : walk rows s′ ≡ fields fs =
+    walk-in-form rows s′ fs
+    (⊎-elim (λ stand. inl (walk-of-fields (rowsIn firstForm rows) s′ fs (rising-in firstForm rows rising) stand (kept .all)))
+    (λ stand. inr (walk-of-fields (rowsIn secondForm rows) s′ fs (rising-in secondForm rows rising) stand (kept .all)))
+    (walk-stands rows s fs (stands .walks))) in
     let parts = partsOf s′ fs in
     let tiles : s′ ≡ encodedParts parts = walk-tiles rows s′ fs walks (Bytes-written s start value fields-bytes spelt) in
     let last = bytesOf 2 (check (s ++ checkHead)) in
@@ -222,6 +227,7 @@ field-replaced rows tag value file {start} rising bytes spelt stands found withi
     λ other apart. rw (walk-firstPlace rows s fs (stands .walks) other) (kept .others other apart) in
     record {
       stands = λ number. ap (fileAnswer rows number) is-closed ∙ closed-stands parts rows number fs (ap (walk rows) (sym tiles) ∙ walks);
+      found = λ other. ap (firstPlace other) its-fields ∙ place other;
       places = λ other. ap (fieldStart other) its-fields ∙ ap startOf (place other);
       replaced = ap (fieldValue tag) its-fields ∙ ap (λ p. partOf p s′) (place tag ∙ found) ∙ value-there s value start within;
       others = λ other apart. ap (fieldValue other) its-fields ∙ ap (λ p. partOf p s′) (place other) ∙ part-kept other apart;

@@ -11,6 +11,7 @@ mod page;
 mod pricing;
 mod tables;
 mod wrapper;
+mod zone_numbers;
 
 use differential::Tally;
 
@@ -24,6 +25,9 @@ fn main() {
     let mut tally = Tally::default();
     tally.section("books and requests within their limits", pricing::random_pairs);
     tally.section("values past their limits", pricing::past_limits);
+    tally.section("zone numbers of one byte and of two", zone_numbers::forms);
+    tally.section("fields of both forms and of neither", zone_numbers::mixtures);
+    tally.section("damaged files with two-byte zone numbers", zone_numbers::damage);
     tally.section("every byte altered", alterations::every_byte);
     tally.section("damaged books and requests", damage::books_and_requests);
     tally.section("truncated and extended files", damage::every_size);

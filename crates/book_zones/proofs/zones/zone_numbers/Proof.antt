@@ -1,19 +1,20 @@
--- The loop keeps that the array holds the numbers of the zones passed, and 0 after them; zones stand 24 bytes apart (zones-stand).
-use Prim.Native.Nat.{_-_, _≤_}
+-- The loop keeps that the array holds the numbers of the zones passed, and 0 after them; zones stand equally far apart (zones-stand).
+use Prim.Native.Nat.{_+_, _*_, _-_, _≤_}
 use mathlib.Core.Path.{_≡_, refl, _∙_}
 use native.Mathlib.Omega.{arith}
-use borrow.Author.Needs.{needs}
-use Rattle.numbers.specs.BigEndian.{numberAt}
+use Rattle.book_zones.specs.Zones.{zoneNumber}
 use Rattle.book_zones.specs.Theorems.ZoneFields.{zones-stand}
-use Rattle.book_zones.proofs.Filling.{filledTo, filled-more, filled-all}
+use Rattle.book_zones.proofs.Filling.{filledTo, filled-more, filled-all, zone-place}
+use Rattle.book_zones.proofs.Scanning.{zones-small}
+use borrow.Author.Needs.{needs}
 use Rattle.book_zones.proofs.zones.zone_numbers.Statement.{statement}
 use Rattle.book_zones.proofs.zones.zone_numbers.Tie as tie
 
 abbrev Inv-loop : tie.InvT-loop
-Inv-loop fields first count numbers₀ zone₀ numbers zone = (zone ≤ count) × (numbers ≡ filledTo 0 (λ at. numberAt fields at 1) fields zone)
+Inv-loop fields first count width apart numbers₀ zone₀ numbers zone = (zone ≤ count) × (numbers ≡ filledTo 0 (zoneNumber fields) fields zone)
 
 abbrev μ-loop : tie.MeasureT-loop
-μ-loop fields first count numbers₀ zone₀ numbers zone = count - zone
+μ-loop fields first count width apart numbers₀ zone₀ numbers zone = count - zone
 
 first-zone-requires : tie.Need-first-zone-requires Inv-loop μ-loop
 first-zone-requires c κs = search needs
@@ -21,20 +22,23 @@ first-zone-requires c κs = search needs
 zone-count-requires : tie.Need-zone-count-requires Inv-loop μ-loop
 zone-count-requires c κs = search needs
 
+number-width-requires : tie.Need-number-width-requires Inv-loop μ-loop
+number-width-requires c κs = search needs
+
+add-apart : tie.Need-add-apart Inv-loop μ-loop
+add-apart c = search needs
+
 loop-holds : tie.Need-loop-holds Inv-loop μ-loop
 loop-holds c = (omega arith, refl)
 
-mul-read-u8 : tie.Need-mul-read-u8 Inv-loop μ-loop
-mul-read-u8 c = search needs
+mul-zone-number : tie.Need-mul-zone-number Inv-loop μ-loop
+mul-zone-number c = let small : (c .before .before .number-width .result + 23) * c .before .loop .zone ≤ 200 = zones-small _ _ (omega arith) (omega arith) in omega arith
 
-add-read-u8 : tie.Need-add-read-u8 Inv-loop μ-loop
-add-read-u8 c = search needs
+add-zone-number : tie.Need-add-zone-number Inv-loop μ-loop
+add-zone-number c = let within = zone-place (c .before .before .before .before .before .before .args .fields .now) (zones-stand _ (c .before .before .before .before .before .before .pre)) _ _ (c .before .loop .zone) (c .before .before .before .before .first-zone .ensures .0) (c .before .before .number-width .ensures .0) (omega arith) in omega arith
 
-read-u8-requires : tie.Need-read-u8-requires Inv-loop μ-loop
-read-u8-requires c κs = search needs
-
-cast-numbers : tie.Need-cast-numbers Inv-loop μ-loop
-cast-numbers c = search needs
+zone-number-requires : tie.Need-zone-number-requires Inv-loop μ-loop
+zone-number-requires c κs = let within = zone-place (c .before .before .before .before .before .before .args .fields .now) (zones-stand _ (c .before .before .before .before .before .before .pre)) _ _ (c .before .loop .zone) (c .before .before .before .before .first-zone .ensures .0) (c .before .before .number-width .ensures .0) (omega arith) in (omega arith, omega arith, omega arith)
 
 mul-numbers : tie.Need-mul-numbers Inv-loop μ-loop
 mul-numbers c = search needs
@@ -51,19 +55,20 @@ loop-less c = search needs
 loop-again : tie.Need-loop-again Inv-loop μ-loop
 loop-again c =
     let turn = c .before .before in
-    let entry = turn .before .before .before .before in
+    let found = turn .before .before in
+    let entry = found .before .before .before in
     let s = entry .args .fields .now in (
       omega arith,
-      rw (turn .loop .inv .1, c .read-u8 .ensures, turn .before .before .first-zone .ensures .0)
-          (filled-more 0 (λ at. numberAt s at 1) s (zones-stand s (entry .pre)) (turn .loop .zone) (omega arith)),
+      rw (turn .loop .inv .1, c .zone-number .ensures, turn .before .number-width .ensures .0, found .before .first-zone .ensures .0)
+          (filled-more 0 (zoneNumber s) s (zones-stand s (entry .pre)) (turn .loop .zone) (omega arith)),
     )
 
 returns : tie.Need-returns Inv-loop μ-loop
 returns c =
     let turn = c .before in
-    let entry = turn .before .before .before .before in
+    let entry = turn .before .before .before .before .before in
     let s = entry .args .fields .now in
-    turn .loop .inv .1 ∙ filled-all 0 (λ at. numberAt s at 1) s (zones-stand s (entry .pre)) (turn .loop .zone) (omega arith)
+    turn .loop .inv .1 ∙ filled-all 0 (zoneNumber s) s (zones-stand s (entry .pre)) (turn .loop .zone) (omega arith)
 
 pub zone-numbers-spec : {M : Type 1} → statement M
 zone-numbers-spec =
@@ -73,11 +78,12 @@ zone-numbers-spec =
     μ-loop
     first-zone-requires
     zone-count-requires
+    number-width-requires
+    add-apart
     loop-holds
-    mul-read-u8
-    add-read-u8
-    read-u8-requires
-    cast-numbers
+    mul-zone-number
+    add-zone-number
+    zone-number-requires
     mul-numbers
     array-write-numbers
     add-zone

@@ -5,6 +5,7 @@ use borrow.Author.Tests.{lt-ltb, le-ltb, eq-eqb, ne-eqb, lt-leb, le-leb}
 use borrow.Author.Needs.{needs}
 use Rattle.field_walk.specs.declared.walk.Due.{Due}
 use Rattle.field_walk.specs.Walk.{frontOf, RowBelow}
+use Rattle.field_walk.proofs.Rows.{permitted-in}
 use Rattle.field_walk.proofs.walk.front_of.Statement.{statement}
 use Rattle.field_walk.proofs.walk.front_of.Tie as tie
 
@@ -46,18 +47,18 @@ add-if5 c = search needs
 
 returns-4 : tie.Need-returns-4
 unfolding frontOf
-returns-4 c = (rw (ne-eqb _ _ (c .before .before .before .before .before .before .before .before .before .before .if1 .left), le-ltb _ _ (c .before .before .before .before .before .before .before .before .before .if3 .left), ← c .before .before .before .before .before .before .before .row-due .ensures .0, c .before .before .before .before .before .due .given .1, ← c .before .before .before .read-u16 .ensures, ← c .before .before .permitted .ensures, c .before .if4 .taken, le-leb _ _ (c .if5 .taken)), c .if5 .taken)
+returns-4 c = (rw (ne-eqb _ _ (c .before .before .before .before .before .before .before .before .before .before .if1 .left), le-ltb _ _ (c .before .before .before .before .before .before .before .before .before .if3 .left), ← c .before .before .before .before .before .before .before .row-due .ensures .0, c .before .before .before .before .before .due .given .1, ← c .before .before .before .read-u16 .ensures, permitted-in, ← c .before .before .permitted .ensures, c .before .if4 .taken, le-leb _ _ (c .if5 .taken)), c .if5 .taken)
 
 returns-5 : tie.Need-returns-5
 unfolding frontOf
-returns-5 c = (rw (ne-eqb _ _ (c .before .before .before .before .before .before .before .before .before .before .if1 .left), le-ltb _ _ (c .before .before .before .before .before .before .before .before .before .if3 .left), ← c .before .before .before .before .before .before .before .row-due .ensures .0, c .before .before .before .before .before .due .given .1, ← c .before .before .before .read-u16 .ensures, ← c .before .before .permitted .ensures, c .before .if4 .taken, lt-leb _ _ (c .if5 .left)), tt)
+returns-5 c = (rw (ne-eqb _ _ (c .before .before .before .before .before .before .before .before .before .before .if1 .left), le-ltb _ _ (c .before .before .before .before .before .before .before .before .before .if3 .left), ← c .before .before .before .before .before .before .before .row-due .ensures .0, c .before .before .before .before .before .due .given .1, ← c .before .before .before .read-u16 .ensures, permitted-in, ← c .before .before .permitted .ensures, c .before .if4 .taken, lt-leb _ _ (c .if5 .left)), tt)
 
 enum-told : tie.Need-enum-told
 enum-told c = search needs
 
 returns-6 : tie.Need-returns-6
 unfolding frontOf
-returns-6 c = (rw (ne-eqb _ _ (c .before .before .before .before .before .before .before .before .before .if1 .left), le-ltb _ _ (c .before .before .before .before .before .before .before .before .if3 .left), ← c .before .before .before .before .before .before .row-due .ensures .0, c .before .before .before .before .due .given .1, ← c .before .before .read-u16 .ensures, ← c .before .permitted .ensures, c .if4 .left), tt)
+returns-6 c = (rw (ne-eqb _ _ (c .before .before .before .before .before .before .before .before .before .if1 .left), le-ltb _ _ (c .before .before .before .before .before .before .before .before .if3 .left), ← c .before .before .before .before .before .before .row-due .ensures .0, c .before .before .before .before .due .given .1, ← c .before .before .read-u16 .ensures, permitted-in, ← c .before .permitted .ensures, c .if4 .left), tt)
 
 returns-7 : tie.Need-returns-7
 unfolding frontOf
