@@ -1,7 +1,7 @@
 //! The values of a file, found by the table of fields. Nothing is judged here: of a file that doesn't walk, what can be
 //! found is found.
 
-use crate::table::{Field, Kind, Slot, KINDS};
+use crate::table::{Field, Form, Kind, Slot, KINDS};
 
 /// A field's tag and length.
 pub const HEAD_SIZE: usize = 3;
@@ -67,6 +67,16 @@ pub fn has_letters(file: &[u8], letters: &str) -> bool {
     file.starts_with(&field)
 }
 
+/// The form of a file: two bytes where a field has its tag of that form.
+pub fn form_of(kind: &Kind, file: &[u8]) -> Form {
+    let is_wide = |part: &Part| kind.field_of(part.tag).is_some_and(|(_, form)| form == Form::TwoBytes);
+    if parts(file).iter().any(is_wide) {
+        Form::TwoBytes
+    } else {
+        Form::OneByte
+    }
+}
+
 /// Every value of a file that a field of the kind holds, in the order of the file.
 pub fn values(kind: &Kind, file: &[u8]) -> Vec<Found> {
     let mut found = Vec::new();
@@ -77,24 +87,25 @@ pub fn values(kind: &Kind, file: &[u8]) -> Vec<Found> {
             _ => 0,
         };
         last = Some((part.tag, time));
-        if let Some(field) = kind.fields.iter().find(|field| field.tag == part.tag) {
-            values_of(field, time, file, &part, &mut found);
+        if let Some((field, form)) = kind.field_of(part.tag) {
+            values_of(field, form, time, file, &part, &mut found);
         }
     }
     found
 }
 
-fn values_of(field: &'static Field, time: usize, file: &[u8], part: &Part, found: &mut Vec<Found>) {
+fn values_of(field: &'static Field, form: Form, time: usize, file: &[u8], part: &Part, found: &mut Vec<Found>) {
     let mut offset = part.value();
     for round in 0..field.rounds().1 {
         for value in field.values {
-            match number_at(file, offset, value.width) {
-                Some(number) if offset + value.width <= part.end() && time < field.times() => {
+            let width = value.width(form);
+            match number_at(file, offset, width) {
+                Some(number) if offset + width <= part.end() && time < field.times() => {
                     found.push(Found { slot: Slot { field, time, round, value }, offset, number });
                 }
                 _ => return,
             }
-            offset += value.width;
+            offset += width;
         }
     }
 }

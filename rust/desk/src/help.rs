@@ -32,13 +32,17 @@ quotes), or as `name = value`. Blank lines and lines that start with # are left 
 Money is in dollars, demand and capacity in kVA, shares and the discount rate in percent, factors are decimals, a month is written 2026-04. Nothing is
 rounded: a figure with more decimals than its unit has is an error. Each error names the line, the name and what is allowed.
 
+Zone numbers are 0 to 65535. They are packed in one byte each where every one is at most 255, otherwise in two. A line `zone number bytes = 2` packs
+any of them in two bytes, `zone number bytes = 1` takes none above 255.
+
 FILE is written only where the library takes every byte of it; until then what stood there stays.
 ";
 
 pub const SHOW: &str = "\
 fikrem show FILE
 
-Prints the text that packs to the same bytes; of a file that the library refuses, the refusal in words, with field, value and offset.
+Prints the text that packs to the same bytes; of a file that the library refuses, the refusal in words, with field, value and offset. The line
+`zone number bytes` is there only where zone numbers that fit one byte have two.
 ";
 
 pub const QUOTE: &str = "\

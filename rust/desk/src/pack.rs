@@ -1,10 +1,11 @@
 //! A text's values as the bytes of a file. The library judges them; where it refuses a value, the line that gave it is named.
 
 use crate::file;
-use crate::table::{Kind, Over, Slot, KINDS};
+use crate::table::{Form, Kind, Over, Slot, Value, FORM, FORMS, KINDS};
 use crate::text::{self, Fault, Row};
 use crate::unit::Unread;
 use crate::words;
+use fikrem::Refusal;
 use std::collections::BTreeMap;
 
 /// The rows by their names.
@@ -15,17 +16,31 @@ pub fn packed(text: &str) -> Result<(&'static Kind, Vec<u8>), Vec<Fault>> {
     let (rows, mut faults) = text::rows(text);
     let named = named(&rows, &mut faults);
     let Some(kind) = kind_of(&named, &mut faults) else { return Err(faults) };
-    let numbers = numbers(kind, &named, &mut faults);
+    let said = form_said(&named, &mut faults);
+    let widest = said.unwrap_or(Form::TwoBytes);
+    let numbers = numbers(kind, widest, &named, &mut faults);
     if !faults.is_empty() {
         faults.sort_by_key(|fault| fault.line.unwrap_or(usize::MAX));
         return Err(faults);
     }
-    let bytes = encoded(kind, &numbers);
-    (kind.judge)(&bytes).map(|()| (kind, bytes.clone())).map_err(|refusal| {
-        let wrong = words::wrong_value(kind, &bytes, refusal.place).filter(|_| refusal.number == 3);
-        let row = wrong.and_then(|wrong| named.get(text::plain(&wrong.name).as_str()).copied());
-        vec![Fault { line: row.map(|row| row.line), words: words::of_file(kind, &bytes, refusal).0 }]
-    })
+    let fitting = Form::fitting(numbers.iter().map(|given| (given.slot.value, given.number)));
+    let bytes = encoded(kind, said.unwrap_or(fitting), &numbers);
+    match (kind.judge)(&bytes) {
+        Ok(()) => Ok((kind, bytes)),
+        Err(refusal) => Err(vec![judged(kind, &bytes, refusal, widest, &named)]),
+    }
+}
+
+/// The library's refusal of a text's file, with the line of the value that it is about. What is allowed is said of the
+/// widest form that the text may have.
+fn judged(kind: &Kind, bytes: &[u8], refusal: Refusal, widest: Form, named: &Named) -> Fault {
+    match words::wrong_value(kind, bytes, refusal.place, widest).filter(|_| refusal.number == 3) {
+        Some(wrong) => {
+            let row = named.get(text::plain(&wrong.name).as_str());
+            Fault { line: row.map(|row| row.line), words: wrong.words }
+        }
+        None => Fault { line: None, words: words::of_file(kind, bytes, refusal).0 },
+    }
 }
 
 /// Each name with the row that gives it; a second one is a fault.
@@ -60,17 +75,30 @@ fn kind_of(named: &Named, faults: &mut Vec<Fault>) -> Option<&'static Kind> {
     kind
 }
 
+/// What the line of the form says, if there is one.
+fn form_said(named: &Named, faults: &mut Vec<Fault>) -> Option<Form> {
+    let row = named.get(FORM.name)?;
+    match number(FORM.name, &FORM, Form::OneByte, &row.value) {
+        Ok(number) => FORMS.into_iter().find(|form| form.number() == number),
+        Err(words) => {
+            faults.push(Fault { line: Some(row.line), words });
+            None
+        }
+    }
+}
+
 /// A value, and the number that its row gives.
 struct Given {
     slot: Slot,
     number: u64,
 }
 
-/// The values that the rows give, in the order of the file; unknown and missing names are faults.
-fn numbers(kind: &Kind, named: &Named, faults: &mut Vec<Fault>) -> Vec<Given> {
+/// The values that the rows give, in the table's order; unknown and missing names are faults.
+fn numbers(kind: &Kind, widest: Form, named: &Named, faults: &mut Vec<Fault>) -> Vec<Given> {
     let slots = kind.slots();
     let names: Vec<String> = slots.iter().map(|slot| text::plain(&slot.name())).collect();
-    for row in named.values().filter(|row| row.name != text::FILE && !names.contains(&row.name)) {
+    let known = |name: &String| [text::FILE, FORM.name].contains(&name.as_str()) || names.contains(name);
+    for row in named.values().filter(|row| !known(&row.name)) {
         let words = format!("{} is no name of a {}, allowed are those of `fikrem template`", row.name, kind.name);
         faults.push(Fault { line: Some(row.line), words });
     }
@@ -78,9 +106,9 @@ fn numbers(kind: &Kind, named: &Named, faults: &mut Vec<Fault>) -> Vec<Given> {
     let mut numbers = Vec::new();
     for (slot, row) in slots.iter().zip(&rows) {
         let read = match row {
-            Some(row) => number(slot, &row.value),
+            Some(row) => number(&slot.name(), slot.value, widest, &row.value),
             None if needed(slot, &slots, &rows) => {
-                Err(format!("{} is missing, allowed are {}", slot.name(), words::allowed(slot.value)))
+                Err(format!("{} is missing, allowed are {}", slot.name(), allowed(slot.value, widest)))
             }
             None => continue,
         };
@@ -101,15 +129,24 @@ fn needed(slot: &Slot, slots: &[Slot], rows: &[Option<&Row>]) -> bool {
     given.into_iter().any(|(other, _)| (other.time, other.round) >= (slot.time, slot.round))
 }
 
-/// The number that a value's text says, if it has the value's width.
-fn number(slot: &Slot, text: &str) -> Result<u64, String> {
-    let (name, value) = (slot.name(), slot.value);
-    let allowed = words::allowed(value);
+/// What is allowed for a value of a text in this form; where that is less than in the other, by which line.
+fn allowed(value: &Value, form: Form) -> String {
+    let allowed = words::allowed(value, form);
+    if value.width(form) == value.width(Form::TwoBytes) {
+        allowed
+    } else {
+        format!("{allowed}, where {} is {}", FORM.name, FORM.unit.said(form.number()))
+    }
+}
+
+/// The number that a value's text says, if it has the value's width in this form.
+fn number(name: &str, value: &Value, form: Form, text: &str) -> Result<u64, String> {
+    let allowed = allowed(value, form);
     if text.is_empty() {
         return Err(format!("{name} has no value, allowed are {allowed}"));
     }
     let wrong = match value.unit.read(text) {
-        Ok(number) if file::put(&mut Vec::new(), number, value.width).is_some() => return Ok(number),
+        Ok(number) if number <= value.highest(form) => return Ok(number),
         Ok(_) | Err(Unread::NoFigure) => allowed,
         Err(Unread::Decimals) => format!("at most {} decimals", value.unit.decimals()),
         Err(Unread::Commas) => format!("commas where all {} decimals follow, or none", value.unit.decimals()),
@@ -117,19 +154,19 @@ fn number(slot: &Slot, text: &str) -> Result<u64, String> {
     Err(format!("{name} is {text}, allowed are {wrong}"))
 }
 
-/// The file of these values, with its check.
-fn encoded(kind: &Kind, numbers: &[Given]) -> Vec<u8> {
+/// The file of these values in a form that has room for them, with its check.
+fn encoded(kind: &Kind, form: Form, numbers: &[Given]) -> Vec<u8> {
     let mut bytes = Vec::new();
     put_field(&mut bytes, 1, kind.letters.as_bytes());
-    for field in kind.fields {
+    for (tag, field) in kind.fields_in(form) {
         for time in 0..field.times() {
             let mut value = Vec::new();
             for given in numbers.iter().filter(|given| given.slot.field.tag == field.tag && given.slot.time == time) {
-                // `number` has seen that it has the width
-                let _ = file::put(&mut value, given.number, given.slot.value.width);
+                // no number is above the highest of its width
+                let _ = file::put(&mut value, given.number, given.slot.value.width(form));
             }
             if !value.is_empty() {
-                put_field(&mut bytes, field.tag, &value);
+                put_field(&mut bytes, tag, &value);
             }
         }
     }

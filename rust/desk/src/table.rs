@@ -8,15 +8,27 @@ use fikrem::Refusal;
 pub struct Kind {
     pub name: &'static str,
     pub letters: &'static str,
-    /// Its fields after 01, in the order of their tags.
+    /// Its fields after 01, in the order of their tags where zone numbers have one byte; that is the order of a text in
+    /// both forms.
     pub fields: &'static [Field],
     /// The library's judgement of a file of this kind.
     pub judge: fn(&[u8]) -> Result<(), Refusal>,
 }
 
+/// The two forms of a file, by the bytes that its zone numbers have.
+#[derive(Debug, Clone, Copy, PartialEq, Eq)]
+pub enum Form {
+    OneByte,
+    TwoBytes,
+}
+
+pub const FORMS: [Form; 2] = [Form::OneByte, Form::TwoBytes];
+
 /// A field: its tag, what its values are repeated over, and those values.
 pub struct Field {
     pub tag: u8,
+    /// The tag in files with two-byte zone numbers, where that is another.
+    pub wide_tag: Option<u8>,
     pub over: Over,
     pub values: &'static [Value],
 }
@@ -33,10 +45,11 @@ pub enum Over {
     Zones,
 }
 
-/// A value: what it is called, how many bytes it has, its unit and its limits.
+/// A value: what it is called, its unit and its limits.
 pub struct Value {
     pub name: &'static str,
-    pub width: usize,
+    /// How many bytes it has, by the file's form.
+    widths: (usize, usize),
     pub unit: Unit,
     pub limits: Limits,
     /// What else a text says of it.
@@ -48,6 +61,8 @@ pub struct Value {
 pub enum Limits {
     /// From the one to the other, both included.
     Within(u64, u64),
+    /// Any number of its bytes.
+    Any,
     /// From 0 to another value of the same field.
     UpTo(&'static str),
     /// Above the same value of the zone before it.
@@ -65,15 +80,17 @@ pub const ORDINALS: [&str; 8] = ["first", "second", "third", "fourth", "fifth", 
 const MOST_YEARS: usize = 8;
 const PAIRS: usize = 5;
 
-const ANY_BYTE: Limits = Limits::Within(0, 0xFF);
-const ANY_TWO_BYTES: Limits = Limits::Within(0, 0xFFFF);
-const ANY_FOUR_BYTES: Limits = Limits::Within(0, 0xFFFF_FFFF);
 const SHARE: Limits = Limits::Within(0, 10_000);
 const HIGHEST_AMOUNT: u64 = 1_000_000_000;
 const AMOUNT: Limits = Limits::Within(0, HIGHEST_AMOUNT);
 
 const fn value(name: &'static str, width: usize, unit: Unit, limits: Limits) -> Value {
-    Value { name, width, unit, limits, note: "" }
+    Value { name, widths: (width, width), unit, limits, note: "" }
+}
+
+/// A zone's number: a byte, or two.
+const fn zone_number(name: &'static str, limits: Limits) -> Value {
+    Value { widths: (1, 2), ..value(name, 1, Unit::Number, limits) }
 }
 
 const fn noted(value: Value, note: &'static str) -> Value {
@@ -97,8 +114,19 @@ const fn factor(name: &'static str) -> Value {
 }
 
 const fn field(tag: u8, over: Over, values: &'static [Value]) -> Field {
-    Field { tag, over, values }
+    Field { tag, wide_tag: None, over, values }
 }
+
+/// A field with a zone number: its tag where that has one byte, and where it has two.
+const fn zone_field(tag: u8, wide_tag: u8, over: Over, values: &'static [Value]) -> Field {
+    Field { wide_tag: Some(wide_tag), ..field(tag, over, values) }
+}
+
+/// What a text may say of its form.
+pub const FORM: Value = noted(
+    value("zone number bytes", 1, Unit::Choice(&["1", "2"]), Limits::Within(0, 1)),
+    "may be left out: then 1 where every zone number is at most 255, otherwise 2",
+);
 
 pub const BOOK: Kind = Kind {
     name: "rate book",
@@ -110,7 +138,7 @@ pub const BOOK: Kind = Kind {
             Over::Pairs,
             &[
                 value("selected opex", 4, Unit::ThousandDollars, Limits::Sums("distribution revenue")),
-                value("distribution revenue", 4, Unit::ThousandDollars, ANY_FOUR_BYTES),
+                value("distribution revenue", 4, Unit::ThousandDollars, Limits::Any),
             ],
         ),
         field(4, Over::Years, &[factor("distribution revenue factor")]),
@@ -133,11 +161,12 @@ pub const BOOK: Kind = Kind {
                 value("credit share", 2, Unit::Percent, SHARE),
             ],
         ),
-        field(
+        zone_field(
             8,
+            9,
             Over::Zones,
             &[
-                value("number", 1, Unit::Number, Limits::Rising),
+                zone_number("number", Limits::Rising),
                 rate("LV mains rate"),
                 rate("distribution substation rate"),
                 rate("HV feeder rate"),
@@ -158,9 +187,9 @@ pub const REQUEST: Kind = Kind {
     name: "request",
     letters: "CONN",
     fields: &[
-        field(2, Over::Nothing, &[value("person number", 4, Unit::Number, ANY_FOUR_BYTES)]),
+        field(2, Over::Nothing, &[value("person number", 4, Unit::Number, Limits::Any)]),
         field(3, Over::Nothing, &[value("class", 1, CLASSES, Limits::Within(0, 2))]),
-        field(4, Over::Nothing, &[value("zone number", 1, Unit::Number, ANY_BYTE)]),
+        zone_field(4, 13, Over::Nothing, &[zone_number("zone number", Limits::Any)]),
         field(
             5,
             Over::Nothing,
@@ -191,9 +220,9 @@ pub const REQUEST: Kind = Kind {
             12,
             Over::Nothing,
             &[
-                value("month", 2, Unit::Month, ANY_TWO_BYTES),
+                value("month", 2, Unit::Month, Limits::Any),
                 value("capacity", 4, Unit::Kva, Limits::Within(1, 1_000_000)),
-                noted(value("scheme joined", 2, Unit::Number, ANY_TWO_BYTES), "0 for none"),
+                noted(value("scheme joined", 2, Unit::Number, Limits::Any), "0 for none"),
                 value("mark", 1, MARKS, Limits::Within(0, 2)),
             ],
         ),
@@ -203,7 +232,50 @@ pub const REQUEST: Kind = Kind {
 
 pub const KINDS: [&Kind; 2] = [&BOOK, &REQUEST];
 
+impl Form {
+    /// Its number in `FORM`.
+    pub fn number(self) -> u64 {
+        match self {
+            Form::OneByte => 0,
+            Form::TwoBytes => 1,
+        }
+    }
+
+    /// The form that these values have where a text says nothing of it.
+    pub fn fitting(values: impl IntoIterator<Item = (&'static Value, u64)>) -> Form {
+        let fits = |(value, number): (&Value, u64)| number <= value.highest(Form::OneByte);
+        if values.into_iter().all(fits) {
+            Form::OneByte
+        } else {
+            Form::TwoBytes
+        }
+    }
+}
+
+impl Value {
+    /// How many bytes it has.
+    pub fn width(&self, form: Form) -> usize {
+        match form {
+            Form::OneByte => self.widths.0,
+            Form::TwoBytes => self.widths.1,
+        }
+    }
+
+    /// The highest number of its bytes.
+    pub fn highest(&self, form: Form) -> u64 {
+        (0..self.width(form)).fold(0, |number, _| number << 8 | 0xFF)
+    }
+}
+
 impl Field {
+    /// Its tag in files of a form.
+    pub fn tag_in(&self, form: Form) -> u8 {
+        match form {
+            Form::OneByte => self.tag,
+            Form::TwoBytes => self.wide_tag.unwrap_or(self.tag),
+        }
+    }
+
     /// How often its values may stand in one field: least and most.
     pub fn rounds(&self) -> (usize, usize) {
         match self.over {
@@ -224,8 +296,8 @@ impl Field {
     }
 
     /// The bytes of its values, once each.
-    pub fn round_size(&self) -> usize {
-        self.values.iter().map(|value| value.width).sum()
+    pub fn round_size(&self, form: Form) -> usize {
+        self.values.iter().map(|value| value.width(form)).sum()
     }
 }
 
@@ -253,7 +325,20 @@ impl Slot {
 }
 
 impl Kind {
-    /// Every value that a file of this kind may have, in the order of the file.
+    /// The field that has a tag in files of one of the forms, and that form; of both forms, the first.
+    pub fn field_of(&self, tag: u8) -> Option<(&'static Field, Form)> {
+        let in_form = |form| self.fields.iter().find(|field| field.tag_in(form) == tag).map(|field| (field, form));
+        FORMS.into_iter().find_map(in_form)
+    }
+
+    /// The fields of a file of a form with their tags, in the order of these.
+    pub fn fields_in(&self, form: Form) -> Vec<(u8, &'static Field)> {
+        let mut fields: Vec<_> = self.fields.iter().map(|field| (field.tag_in(form), field)).collect();
+        fields.sort_by_key(|(tag, _)| *tag);
+        fields
+    }
+
+    /// Every value that a file of this kind may have, in the table's order.
     pub fn slots(&self) -> Vec<Slot> {
         let mut slots = Vec::new();
         for field in self.fields {

@@ -1,7 +1,7 @@
 //! Texts: a name and its value on each line. What spreadsheets export is read, and `name = value`.
 
 use crate::file::{self, Found};
-use crate::table::{Field, Kind};
+use crate::table::{Field, Form, Kind, FORM};
 use crate::words;
 
 /// The name of the line that says what the file is.
@@ -89,8 +89,8 @@ pub fn rows(text: &str) -> (Vec<Row>, Vec<Fault>) {
     (rows, faults)
 }
 
-/// The text of a file's values, with notes of units and limits above those of each field.
-pub fn of_values(kind: &Kind, found: &[Found]) -> String {
+/// The text of a file's values, with notes of units and limits above those of each field; and what it says of the form.
+fn of_values(kind: &Kind, form: Option<Form>, found: &[Found]) -> String {
     let mut text = format!("# A {}: a name and its value on each line.\n{FILE},{}\n", kind.name, kind.name);
     let mut last: Option<&Field> = None;
     for found in found {
@@ -99,6 +99,9 @@ pub fn of_values(kind: &Kind, found: &[Found]) -> String {
             for note in words::notes(field) {
                 text += &format!("{note}\n");
             }
+            if let Some(form) = form.filter(|_| field.wide_tag.is_some()) {
+                text += &format!("{},{}\n", FORM.name, FORM.unit.written(form.number()));
+            }
             last = Some(field);
         }
         text += &format!("{},{}\n", found.slot.name(), found.slot.value.unit.written(found.number));
@@ -106,7 +109,11 @@ pub fn of_values(kind: &Kind, found: &[Found]) -> String {
     text
 }
 
-/// The text that packs to a file, which the library has judged.
+/// The text that packs to a file, which the library has judged. It says the form where its values would have another.
 pub fn of_file(kind: &Kind, bytes: &[u8]) -> String {
-    of_values(kind, &file::values(kind, bytes))
+    let mut found = file::values(kind, bytes);
+    found.sort_by_key(|found| found.slot.field.tag);
+    let fitting = Form::fitting(found.iter().map(|found| (found.slot.value, found.number)));
+    let form = Some(file::form_of(kind, bytes)).filter(|form| *form != fitting);
+    of_values(kind, form, &found)
 }

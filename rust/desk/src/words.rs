@@ -1,7 +1,7 @@
 //! What is allowed, what a value is and what a refusal is about, in words.
 
-use crate::file::{self, Found, CHECK_HEAD, TAIL_SIZE};
-use crate::table::{Field, Kind, Limits, Over, Slot, Value, TIERS};
+use crate::file::{self, Found, Part, CHECK_HEAD, TAIL_SIZE};
+use crate::table::{Field, Form, Kind, Limits, Over, Slot, Value, FORM, FORMS, TIERS};
 use crate::unit::Unit;
 use fikrem::Refusal;
 
@@ -14,11 +14,6 @@ fn one_of(words: &[&str]) -> String {
     }
 }
 
-/// The highest number of so many bytes.
-fn highest(width: usize) -> u64 {
-    (0..width).fold(0, |number, _| number << 8 | 0xFF)
-}
-
 fn from_to(unit: Unit, low: u64, high: u64) -> String {
     match unit {
         Unit::Choice(words) => one_of(words),
@@ -26,38 +21,35 @@ fn from_to(unit: Unit, low: u64, high: u64) -> String {
     }
 }
 
-/// What is allowed for a value, whatever the others are.
-pub fn allowed(value: &Value) -> String {
+/// What is allowed for a value in a form, whatever the others are.
+pub fn allowed(value: &Value, form: Form) -> String {
+    let any = from_to(value.unit, 0, value.highest(form));
     match value.limits {
         Limits::Within(low, high) => from_to(value.unit, low, high),
+        Limits::Any => any,
         Limits::UpTo(other) => format!("{} to the {other}", value.unit.said(0)),
-        Limits::Rising => {
-            format!("{}, above that of the zone before", from_to(value.unit, 0, highest(value.width)))
-        }
+        Limits::Rising => format!("{any}, above that of the zone before"),
         Limits::Only(most, name, word) => {
             format!("{} where {name} is {word}, otherwise {}", from_to(value.unit, 0, most), value.unit.said(0))
         }
-        Limits::Sums(other) => {
-            let range = from_to(value.unit, 0, highest(value.width));
-            format!("{range}, together at most the {other} together, which isn't 0")
-        }
+        Limits::Sums(other) => format!("{any}, together at most the {other} together, which isn't 0"),
     }
 }
 
-/// What is allowed for a value beside the others of its file.
-fn allowed_in(found: &Found, all: &[Found]) -> String {
+/// What is allowed for a value in a form, beside the others of its file.
+fn allowed_in(found: &Found, all: &[Found], form: Form) -> String {
     let value = found.slot.value;
     let other = |name: &str| all.iter().find(|other| other.slot.value.name == name);
     let beside = match value.limits {
         Limits::UpTo(name) => other(name).map(|other| format!("{}, the {name}", from_to(value.unit, 0, other.number))),
-        Limits::Rising => zone_before(found, all).map(|last| above(last, highest(value.width))),
+        Limits::Rising => zone_before(found, all).map(|last| above(last, value.highest(form))),
         Limits::Only(most, name, word) => other(name).map(|other| match other.slot.value.unit.said(other.number) {
             said if said == word => from_to(value.unit, 0, most),
             said => format!("{} where {name} is {said}", value.unit.said(0)),
         }),
-        Limits::Within(..) | Limits::Sums(_) => None,
+        Limits::Within(..) | Limits::Any | Limits::Sums(_) => None,
     };
-    beside.unwrap_or_else(|| allowed(value))
+    beside.unwrap_or_else(|| allowed(value, form))
 }
 
 /// The same value of the zone before.
@@ -92,12 +84,12 @@ fn together(field: &Field, name: &str, all: &[Found]) -> u64 {
 /// A value that the library refused: what it is called, its field, and what is wrong with it.
 pub struct Wrong {
     pub name: String,
-    pub tag: u8,
+    pub field: &'static Field,
     pub words: String,
 }
 
-/// The value that the library refused at this offset.
-pub fn wrong_value(kind: &Kind, bytes: &[u8], place: usize) -> Option<Wrong> {
+/// The value that the library refused at this offset; what is allowed is said of this form.
+pub fn wrong_value(kind: &Kind, bytes: &[u8], place: usize, form: Form) -> Option<Wrong> {
     let all = file::values(kind, bytes);
     let found = all.iter().find(|found| found.offset == place)?;
     let (name, value) = (found.slot.name(), found.slot.value);
@@ -112,38 +104,96 @@ pub fn wrong_value(kind: &Kind, bytes: &[u8], place: usize) -> Option<Wrong> {
                 said(most)
             )
         }
-        _ => format!("{name} is {}, allowed are {}", said(found.number), allowed_in(found, &all)),
+        _ => format!("{name} is {}, allowed are {}", said(found.number), allowed_in(found, &all, form)),
     };
-    Some(Wrong { name, tag: found.slot.field.tag, words })
+    Some(Wrong { name, field: found.slot.field, words })
 }
 
-/// The lengths that a field may have.
-fn lengths(field: &Field) -> String {
-    let size = field.round_size();
+/// The lengths that a field may have in a form.
+fn lengths(field: &Field, form: Form) -> String {
+    let size = field.round_size(form);
     match field.rounds() {
         (least, most) if least == most => format!("{}", least * size),
         (least, most) => format!("{} to {} in steps of {size}", least * size, most * size),
     }
 }
 
-fn length_fits(field: &Field, length: usize) -> bool {
+fn length_fits(field: &Field, form: Form, length: usize) -> bool {
     let (least, most) = field.rounds();
-    (least..=most).any(|rounds| rounds * field.round_size() == length)
+    (least..=most).any(|rounds| rounds * field.round_size(form) == length)
 }
 
-/// The tags that may stand after the fields before a place, and the field of the first of them that there is.
-fn due(kind: &Kind, bytes: &[u8], place: usize) -> (Vec<u8>, Vec<&'static Field>) {
-    let before: Vec<u8> = file::parts(bytes).iter().filter(|part| part.start < place).map(|part| part.tag).collect();
-    let Some(&last) = before.last() else { return (vec![1], Vec::new()) };
-    let times = before.iter().filter(|&&tag| tag == last).count();
-    let again = kind.fields.iter().filter(|field| field.tag == last && times < field.times());
-    let next = kind.fields.iter().find(|field| field.tag > last);
-    let fields: Vec<&Field> = again.chain(next).collect();
-    let mut tags: Vec<u8> = fields.iter().map(|field| field.tag).collect();
-    if next.is_none() {
-        tags.push(0xFF);
+/// The tags that may stand after these in a file of a form; none where it doesn't begin with these.
+fn due_in(kind: &Kind, form: Form, before: &[u8]) -> Vec<u8> {
+    let fields = kind.fields_in(form);
+    let mut due = vec![1];
+    for (index, tag) in before.iter().enumerate() {
+        if !due.contains(tag) {
+            return Vec::new();
+        }
+        let times = before.iter().take(index + 1).filter(|other| *other == tag).count();
+        let again = fields.iter().any(|(other, field)| other == tag && times < field.times());
+        let next = fields.iter().map(|(other, _)| *other).find(|other| other > tag);
+        due = again.then_some(*tag).into_iter().chain([next.unwrap_or(0xFF)]).collect();
     }
-    (tags, fields)
+    due
+}
+
+/// The tags that may stand after these, in the forms that begin with these.
+fn due(kind: &Kind, before: &[u8]) -> Vec<u8> {
+    let mut tags: Vec<u8> = FORMS.into_iter().flat_map(|form| due_in(kind, form, before)).collect();
+    tags.sort_unstable();
+    tags.dedup();
+    tags
+}
+
+fn tags_said(tags: &[u8]) -> String {
+    tags.iter().map(|tag| format!("{tag:02X}")).collect::<Vec<_>>().join(" or ")
+}
+
+/// The tag of the same field in the other form, if it is another.
+fn other_form(kind: &Kind, tag: u8) -> Option<u8> {
+    let (field, _) = kind.field_of(tag)?;
+    FORMS.into_iter().map(|form| field.tag_in(form)).find(|other| *other != tag)
+}
+
+/// Neither form of a field is there, and all else stands: what is missing where the first form was due.
+fn missing(kind: &Kind, place: usize) -> Option<String> {
+    let slot = kind.slots().into_iter().find(|slot| slot.field.wide_tag.is_some())?;
+    let [first, second] = FORMS.map(|form| slot.field.tag_in(form));
+    let name = slot.name();
+    Some(format!("field {first:02X} or {second:02X} with the {name} is missing, {first:02X} is due at offset {place}"))
+}
+
+/// Why a file can't end where these tags are due.
+fn no_end(kind: &Kind, due: &[u8], place: usize) -> String {
+    let of_one_field = kind.fields.iter().any(|field| FORMS.map(|form| field.tag_in(form)) == due);
+    let missing = missing(kind, place).filter(|_| of_one_field);
+    missing.unwrap_or_else(|| format!("it ends at offset {place}, where field {} is due", tags_said(due)))
+}
+
+/// Why a field can't stand after those before it, where these tags are due and the check starts at `end`.
+fn no_place(kind: &Kind, part: &Part, before: &[u8], due: &[u8], end: usize) -> String {
+    let head = format!("field {:02X} at offset {}", part.tag, part.start);
+    if !due.contains(&part.tag) {
+        return match other_form(kind, part.tag).filter(|other| before.contains(other)) {
+            Some(other) => {
+                format!("{head} stands after field {other:02X}: a {} has one of the two, not both", kind.name)
+            }
+            None => format!("{head} stands where field {} is due", tags_said(due)),
+        };
+    }
+    match kind.field_of(part.tag) {
+        Some((field, form)) if !length_fits(field, form, part.length) => {
+            format!("{head} has length {}, allowed are {}", part.length, lengths(field, form))
+        }
+        None if part.tag == 0xFF => format!("{head} stands before the file's end"),
+        None if part.length != 4 => format!("{head} has length {}, allowed are 4", part.length),
+        _ if part.end() > end => {
+            format!("{head} has length {} and goes past the check at offset {end}", part.length)
+        }
+        _ => missing(kind, part.start).unwrap_or_else(|| format!("{head} can't stand there")),
+    }
 }
 
 /// Why a file doesn't walk at this offset.
@@ -155,22 +205,11 @@ fn no_walk(kind: &Kind, bytes: &[u8], place: usize) -> String {
             bytes.len()
         );
     }
-    let (tags, fields) = due(kind, bytes, place);
-    let due = tags.iter().map(|tag| format!("{tag:02X}")).collect::<Vec<_>>().join(" or ");
-    let Some(part) = file::part_at(bytes, place).filter(|_| place < end) else {
-        return format!("it ends at offset {place}, where field {due} is due");
-    };
-    let head = format!("field {:02X} at offset {place}", part.tag);
-    if !tags.contains(&part.tag) {
-        return format!("{head} stands where field {due} is due");
-    }
-    match fields.iter().find(|field| field.tag == part.tag) {
-        Some(field) if !length_fits(field, part.length) => {
-            format!("{head} has length {}, allowed are {}", part.length, lengths(field))
-        }
-        None if part.tag == 0xFF => format!("{head} stands before the file's end"),
-        None if part.length != 4 => format!("{head} has length {}, allowed are 4", part.length),
-        _ => format!("{head} has length {} and goes past the check at offset {end}", part.length),
+    let before: Vec<u8> = file::parts(bytes).iter().filter(|part| part.start < place).map(|part| part.tag).collect();
+    let due = due(kind, &before);
+    match file::part_at(bytes, place).filter(|_| place < end) {
+        Some(part) => no_place(kind, &part, &before, &due, end),
+        None => no_end(kind, &due, place),
     }
 }
 
@@ -180,7 +219,7 @@ fn hex(bytes: &[u8]) -> String {
 
 /// A refusal of a file itself, by 1, 2 or 3; and for 3 the tag of the field that the place is in.
 pub fn of_file(kind: &Kind, bytes: &[u8], refusal: Refusal) -> (String, Option<u8>) {
-    let place = refusal.place;
+    let (place, form) = (refusal.place, file::form_of(kind, bytes));
     match refusal.number {
         1 => (no_walk(kind, bytes, place), None),
         2 => {
@@ -189,8 +228,8 @@ pub fn of_file(kind: &Kind, bytes: &[u8], refusal: Refusal) -> (String, Option<u
             let words = format!("its check at offset {place} is {kept}, its other bytes give {given}");
             (format!("{words}: it was changed after it was packed"), None)
         }
-        _ => match wrong_value(kind, bytes, place) {
-            Some(wrong) => (wrong.words, Some(wrong.tag)),
+        _ => match wrong_value(kind, bytes, place, form) {
+            Some(wrong) => (wrong.words, Some(wrong.field.tag_in(form))),
             None => {
                 let letters: String =
                     bytes.iter().skip(place).take(4).map(|&byte| byte.escape_ascii().to_string()).collect();
@@ -206,9 +245,9 @@ pub fn not_allowed(tier: usize) -> String {
     format!("tier {tier} ({name}): the bespoke rate lies within 80% to 150% of the posted one, or none is posted")
 }
 
-/// A value's unit, what is allowed, and its note.
+/// A value's unit, what is allowed in the form that allows the most, and its note.
 fn described(value: &Value) -> String {
-    let mut words = vec![value.unit.suffix().trim_start().to_string(), allowed(value)];
+    let mut words = vec![value.unit.suffix().trim_start().to_string(), allowed(value, Form::TwoBytes)];
     if value.unit.decimals() > 0 {
         words.push(format!("at most {} decimals", value.unit.decimals()));
     }
@@ -230,6 +269,9 @@ pub fn notes(field: &Field) -> Vec<String> {
         Over::Years => notes.push("# up to year 7; the last given holds for all later years".to_string()),
         Over::Zones => notes.push("# up to the eighth zone".to_string()),
         Over::Nothing | Over::Pairs | Over::Tiers => {}
+    }
+    if field.wide_tag.is_some() {
+        notes.push(format!("# {}: {}", FORM.name, described(&FORM)));
     }
     notes
 }

@@ -1,6 +1,8 @@
 //! The program as it is called: what it prints, the exit status, and what stands on disk after it.
 
+use desk::file::closed;
 use generate::damage::damaged;
+use generate::zone_numbers::{mixture, rising_numbers, wide_book, wide_request, widened_book, zone_number};
 use generate::{Book, Random, Request};
 use std::fs;
 use std::path::{Path, PathBuf};
@@ -104,6 +106,68 @@ request: year-one distribution revenue 573.20 dollars, year-one transmission rev
     let page = repository("crates/page/stdout");
     assert_eq!(folder.done(&["quote", "--page", "rates.bin", "job.bin"]), text(&page));
     assert_eq!(folder.done(&["quote", "rates.bin", "job.bin", "--page"]), text(&page));
+}
+
+/// Zone numbers of one byte and of two, in the book and in the request: the same quote.
+#[test]
+fn quotes_with_zone_numbers_of_either_form() {
+    let folder = Folder::packed("either-form");
+    for (from, to, file) in [
+        ("rates.csv", "wide_rates.bin", widened_book(&Book::slip())),
+        ("job.csv", "wide_job.bin", wide_request(&Request::slip(), 1)),
+    ] {
+        folder.write("wide.csv", format!("{}zone number bytes = 2\n", text(&folder.read(from))).as_bytes());
+        folder.done(&["pack", "wide.csv", to]);
+        assert_eq!(folder.read(to), file);
+    }
+    for what in [&[][..], &["--page"], &["--band", "500", "573.20"]] {
+        let quote = |book, request| folder.done(&[&["quote", book, request], what].concat());
+        let quoted = quote("rates.bin", "job.bin");
+        assert_eq!(quote("wide_rates.bin", "job.bin"), quoted);
+        assert_eq!(quote("rates.bin", "wide_job.bin"), quoted);
+        assert_eq!(quote("wide_rates.bin", "wide_job.bin"), quoted);
+    }
+}
+
+/// Zones 7, 256 and 1,400, which is 120 in its low byte.
+#[test]
+fn quotes_with_zone_numbers_past_255() {
+    let folder = Folder::packed("past-255");
+    let rates = text(&folder.read("rates.csv"));
+    let zone = |place: &str, number: &str| {
+        let own = rates.lines().filter(|line| line.starts_with("first zone "));
+        let lines =
+            own.map(|line| line.replace("first", place).replace(" number,1", &format!(" number,{number}")) + "\n");
+        lines.collect::<String>()
+    };
+    let rates = rates.replace("first zone number,1\n", "first zone number,7\n");
+    let rates = rates + &zone("second", "256") + &zone("third", "1400");
+    folder.write("rates.csv", rates.as_bytes());
+    assert_eq!(folder.done(&["pack", "rates.csv", "rates.bin"]), "rates.bin: a rate book of 168 bytes\n");
+    let (_, rates_of_zone) = Book::slip().zones[0];
+    let book = Book { zones: vec![(0, rates_of_zone); 3], ..Book::slip() };
+    assert_eq!(folder.read("rates.bin"), wide_book(&book, &[7, 256, 1_400]));
+    let job = text(&folder.read("job.csv"));
+    let slip = text(&repository("crates/slip/stdout"));
+    for (zone, size, there) in
+        [(0, 165, false), (7, 165, true), (120, 165, false), (256, 166, true), (263, 166, false), (1_400, 166, true)]
+    {
+        folder.write("job.csv", job.replace("\nzone number,1\n", &format!("\nzone number,{zone}\n")).as_bytes());
+        assert_eq!(folder.done(&["pack", "job.csv", "job.bin"]), format!("job.bin: a request of {size} bytes\n"));
+        if there {
+            let quoted = folder.done(&["quote", "rates.bin", "job.bin"]);
+            assert!(quoted.contains("credit share 65.00 percent, zones 7, 256, 1400\n"), "{quoted}");
+            assert!(
+                quoted.contains(&format!("class non-residential, zone number {zone}, month 2026-04, ")),
+                "{quoted}"
+            );
+            assert!(quoted.ends_with(&format!("\n\n{slip}")), "{quoted}");
+        } else {
+            let words = format!("zone number {zone} isn't in the rate book, allowed are 7, 256, 1400");
+            let refused = (1, format!("refused, number 4: the request: {words}\n"));
+            assert_eq!(folder.fails(&["quote", "rates.bin", "job.bin"]), refused);
+        }
+    }
 }
 
 /// Distribution revenue between two figures, and transmission's; without these it is the request's own.
@@ -257,6 +321,92 @@ fn damage_in_words() {
     );
 }
 
+/// A field's bytes.
+fn field(tag: u8, value: &[u8]) -> Vec<u8> {
+    [&[tag, 0, value.len() as u8], value].concat()
+}
+
+/// Books with both forms of zones, with neither, and with fields that are due in neither form.
+#[test]
+fn zones_of_both_forms_in_words() {
+    let folder = Folder::packed("both-forms");
+    let (slip, wide_slip) = (Book::slip().encode(), widened_book(&Book::slip()));
+    let (narrow, wide) = (slip[88..112].to_vec(), wide_slip[88..113].to_vec());
+    let rows = [
+        (vec![], "field 08 or 09 with the first zone number is missing, 08 is due at offset 88"),
+        (vec![narrow.clone(), wide.clone()], "field 09 at offset 112 stands after field 08: BOTH"),
+        (vec![narrow.clone(), wide.clone(), narrow.clone()], "field 09 at offset 112 stands after field 08: BOTH"),
+        (vec![narrow.clone(), field(9, &[0; 21])], "field 09 at offset 112 stands after field 08: BOTH"),
+        (vec![wide.clone(), narrow.clone()], "field 08 at offset 113 stands after field 09: BOTH"),
+        ([vec![narrow.clone(); 8], vec![wide.clone()]].concat(), "field 09 at offset 280 stands after field 08: BOTH"),
+        ([vec![wide.clone(); 8], vec![narrow.clone()]].concat(), "field 08 at offset 288 stands after field 09: BOTH"),
+        (vec![narrow.clone(); 9], "field 08 at offset 280 stands where field FF is due"),
+        (vec![wide.clone(); 9], "field 09 at offset 288 stands where field FF is due"),
+        (vec![field(8, &[0; 22])], "field 08 at offset 88 has length 22, allowed are 21"),
+        (vec![field(9, &[0; 21])], "field 09 at offset 88 has length 21, allowed are 22"),
+        (vec![wide.clone(), field(9, &[0; 23])], "field 09 at offset 113 has length 23, allowed are 22"),
+        (vec![field(10, &[0; 22])], "field 0A at offset 88 stands where field 08 or 09 is due"),
+        (vec![narrow.clone(), field(10, &[])], "field 0A at offset 112 stands where field 08 or FF is due"),
+        (vec![wide.clone(), field(10, &[])], "field 0A at offset 113 stands where field 09 or FF is due"),
+        (vec![wide[..24].to_vec()], "field 09 at offset 88 has length 22 and goes past the check at offset 112"),
+        (vec![field(0xFF, &[0; 2]), wide.clone()], "field FF at offset 88 stands where field 08 or 09 is due"),
+    ];
+    for (zones, words) in rows {
+        folder.write("rates.bin", &closed([&slip[..88], &zones.concat()].concat()));
+        let words = words.replace("BOTH", "a rate book has one of the two, not both");
+        let refused = (1, format!("refused, number 1: the rate book: {words}\n"));
+        assert_eq!(folder.fails(&["show", "rates.bin"]), refused);
+        assert_eq!(folder.fails(&["quote", "rates.bin", "job.bin"]), refused);
+    }
+}
+
+/// Requests with both forms of the zone number, with neither, and with fields that are due in neither form.
+#[test]
+fn zone_numbers_of_both_forms_in_words() {
+    let folder = Folder::packed("both-numbers");
+    let (slip, wide_slip) = (Request::slip().encode(), wide_request(&Request::slip(), 1));
+    let own = |tag: u8| {
+        let file = if tag == 13 { &wide_slip } else { &slip };
+        let found = generate::fields::parts(file).into_iter().find(|part| file[part.start] == tag);
+        found.map_or(field(tag, &[]), |part| file[part].to_vec())
+    };
+    let rows: [(&[u8], &str); 18] = [
+        (
+            &[1, 2, 3, 5, 6, 7, 8, 9, 10, 11, 12],
+            "field 04 or 0D with the zone number is missing, 04 is due at offset 18",
+        ),
+        (&[1, 2, 3, 6, 7, 8, 9, 10, 11, 12], "field 06 at offset 18 stands where field 04 or 05 is due"),
+        (&[1, 2, 3, 6, 7, 8, 9, 10, 11, 12, 13], "field 06 at offset 18 stands where field 04 or 05 is due"),
+        (&[1, 2, 3], "it ends at offset 18, where field 04 or 05 is due"),
+        (&[1, 2, 3, 4, 5, 6, 7, 8, 9, 10, 11, 12, 13], "field 0D at offset 160 stands after field 04: BOTH"),
+        (&[1, 2, 3, 4, 5, 6, 7, 8, 9, 10, 11, 13], "field 0D at offset 148 stands after field 04: BOTH"),
+        (&[1, 2, 3, 4, 5, 6, 7, 8, 9, 10, 11, 12, 14], "field 0E at offset 160 stands where field FF is due"),
+        (&[1, 2, 3, 13, 5, 6, 7, 8, 9, 10, 11, 12], "field 0D at offset 18 stands where field 04 or 05 is due"),
+        (&[1, 2, 3, 5, 4, 6, 7, 8, 9, 10, 11, 12], "field 04 at offset 45 stands where field 06 is due"),
+        (&[1, 2, 3, 5], "it ends at offset 45, where field 06 is due"),
+        (&[1, 2, 3, 5, 6, 7, 8, 9, 10, 11, 12, 13, 13], "field 0D at offset 161 stands where field FF is due"),
+        (&[1, 2, 3, 5, 6, 7, 8, 9, 10, 11, 12, 13, 4], "field 04 at offset 161 stands after field 0D: BOTH"),
+        (&[1, 2, 3, 5, 6, 7, 8, 9, 10, 11, 12, 14], "field 0E at offset 156 stands where field 0D is due"),
+        (&[1, 2, 3, 5, 6, 7, 8, 9, 10, 11, 12, 12], "field 0C at offset 156 stands where field 0D is due"),
+        (&[1, 2, 3, 5, 6, 7, 8, 9, 10, 11], "it ends at offset 144, where field 0C is due"),
+        (&[1, 2, 3, 5, 6, 7, 8, 9, 10, 11, 13, 12], "field 0D at offset 144 stands where field 0C is due"),
+        (&[1, 2, 3, 4, 4, 5, 6, 7, 8, 9, 10, 11, 12], "field 04 at offset 22 stands where field 05 is due"),
+        (&[1, 2, 5, 6, 7, 8, 9, 10, 11, 12, 13], "field 05 at offset 14 stands where field 03 is due"),
+    ];
+    let of_tags = |tags: &[u8]| tags.iter().flat_map(|&tag| own(tag)).collect::<Vec<u8>>();
+    let mut files: Vec<(Vec<u8>, &str)> = rows.iter().map(|(tags, words)| (of_tags(tags), *words)).collect();
+    let (neither, start) = (of_tags(&[1, 2, 3, 5, 6, 7, 8, 9, 10, 11, 12]), of_tags(&[1, 2, 3]));
+    files.push(([neither, field(13, &[1])].concat(), "field 0D at offset 156 has length 1, allowed are 2"));
+    files.push(([start, field(5, &[0; 23])].concat(), "field 05 at offset 18 has length 23, allowed are 24"));
+    for (bytes, words) in files {
+        folder.write("job.bin", &closed(bytes));
+        let words = words.replace("BOTH", "a request has one of the two, not both");
+        let refused = (1, format!("refused, number 1: the request: {words}\n"));
+        assert_eq!(folder.fails(&["show", "job.bin"]), refused);
+        assert_eq!(folder.fails(&["quote", "rates.bin", "job.bin"]), refused);
+    }
+}
+
 /// What spreadsheets export and what people type: all of it packs to the same bytes.
 #[test]
 fn forms_of_a_text() {
@@ -277,6 +427,7 @@ fn forms_of_a_text() {
         plain.replace("15985.00", "15985").replace("150.00", "150").replace("1.0000", "1.0"),
         format!("\"# a comment, in quotes\"\n{plain}"),
         plain.trim_end().to_string(),
+        format!("Zone  Number Bytes = 1\n{plain}"),
     ];
     for (index, form) in forms.iter().enumerate() {
         folder.write("form.csv", form.as_bytes());
@@ -319,6 +470,23 @@ fn faults_of_a_text() {
         ("mark,none", "mark,\"none", "LINE: a quote isn't closed"),
         ("mark,none", "marc,none", "LINE: marc is no name of a request, allowed are those of `fikrem template`"),
         ("mark,none", "month,2026-05", "LINE: month stands on line MONTH already, allowed is once"),
+        ("zone number,1", "zone number,65536", "LINE: zone number is 65536, allowed are 0 to 65535"),
+        (
+            "zone number,1",
+            "zone number,256\nzone number bytes = 1",
+            "LINE: zone number is 256, allowed are 0 to 255, where zone number bytes is 1",
+        ),
+        ("zone number,1", "zone number bytes,3\nzone number,1", "LINE: zone number bytes is 3, allowed are 1 or 2"),
+        ("zone number,1", "zone number bytes,0\nzone number,1", "LINE: zone number bytes is 0, allowed are 1 or 2"),
+        ("zone number,1", "zone number bytes,two\nzone number,1", "LINE: zone number bytes is two, allowed are 1 or 2"),
+        ("zone number,1", "zone number bytes\nzone number,1", "LINE: zone number bytes has no value, allowed are 1 or 2"),
+        ("zone number,1", "zone number bytes,2", ": zone number is missing, allowed are 0 to 65535"),
+        (
+            "zone number,1",
+            "zone number bytes,1",
+            ": zone number is missing, allowed are 0 to 255, where zone number bytes is 1",
+        ),
+        ("mark,none", "first zone number,1", "LINE: first zone number is no name of a request, allowed are those of `fikrem template`"),
         ("file,request", "file,letter", "LINE: file is letter, allowed are rate book or request"),
         (
             "part-year factor year 1,",
@@ -344,6 +512,13 @@ fn faults_of_a_text() {
     let line = line_of(&rates, "term months,83");
     let words = format!("rates.csv, line {line}: term months is 83, allowed are 84 to 65535\n");
     assert_eq!(folder.fails(&["pack", "rates.csv", "rates.bin"]), (1, words));
+    let rates = folder.done(&["template", "book"]).replace("number,1\n", "number,256\nzone number bytes,1\n");
+    folder.write("rates.csv", rates.as_bytes());
+    let line = line_of(&rates, "first zone number,256");
+    let words =
+        "first zone number is 256, allowed are 0 to 255, above that of the zone before, where zone number bytes is 1";
+    let told = format!("rates.csv, line {line}: {words}\n");
+    assert_eq!(folder.fails(&["pack", "rates.csv", "rates.bin"]), (1, told));
     let words = "job.bin: this is no text in UTF-8\n";
     assert_eq!(folder.fails(&["pack", "job.bin", "new.bin"]), (1, words.to_string()));
     assert_eq!(folder.names(), ["job.bin", "job.csv", "other.csv", "rates.bin", "rates.csv"]);
@@ -414,34 +589,68 @@ fn help_and_version() {
         assert!(folder.done(&[command, "--help"]).starts_with(&format!("fikrem {command} ")));
         assert!(folder.done(&["--help"]).contains(&format!("fikrem {command} ")));
     }
+    for command in ["pack", "show"] {
+        assert!(folder.done(&[command, "--help"]).contains("`zone number bytes"));
+    }
+    let note =
+        "# zone number bytes: 1 or 2, may be left out: then 1 where every zone number is at most 255, otherwise 2";
+    for (kind, limits) in
+        [("book", "# number: 0 to 65535, above that of the zone before"), ("request", "# zone number: 0 to 65535")]
+    {
+        let template = folder.done(&["template", kind]);
+        assert!([limits, note].iter().all(|note| template.lines().any(|line| line == *note)), "{template}");
+    }
     assert_eq!(folder.done(&["--version"]), "fikrem 0.1.0, interface 3\n");
 }
 
-/// The program on generated files, sound and damaged: `show` is done with what packs to them, or ends with 1.
+/// The program on generated files of both forms: `show` is done with what packs to them.
 #[test]
 fn generated_files() {
     let folder = Folder::new("generated");
     let mut random = Random::new(203);
-    let mut refused = 0;
-    for _ in 0..60 {
+    for _ in 0..40 {
         let book = Book::random(&mut random);
-        let sound = [book.encode(), Request::random(&mut random, &book).encode()];
-        let [one, other] = &sound;
-        let altered = [damaged(&mut random, one), damaged(&mut random, other)];
-        for (index, file) in sound.iter().chain(&altered).enumerate() {
-            folder.write("file.bin", file);
-            let output = folder.run(&["show", "file.bin"]);
-            if status(&output) == 0 {
-                folder.write("file.csv", &output.stdout);
-                folder.done(&["pack", "file.csv", "again.bin"]);
-                assert_eq!(&folder.read("again.bin"), file);
-            } else {
-                assert_eq!((status(&output), output.stdout.len()), (1, 0));
-                assert!(text(&output.stderr).starts_with("refused, number "), "{}", text(&output.stderr));
-                assert!(index >= sound.len(), "a sound file is refused");
-                refused += 1;
+        let request = Request::random(&mut random, &book);
+        let numbers = rising_numbers(&mut random, book.zones.len());
+        for file in [
+            book.encode(),
+            widened_book(&book),
+            wide_book(&book, &numbers),
+            request.encode(),
+            wide_request(&request, request.zone.into()),
+            wide_request(&request, zone_number(&mut random)),
+        ] {
+            folder.write("file.bin", &file);
+            folder.write("file.csv", folder.done(&["show", "file.bin"]).as_bytes());
+            folder.done(&["pack", "file.csv", "again.bin"]);
+            assert_eq!(folder.read("again.bin"), file);
+        }
+    }
+}
+
+/// The program on damaged files and on mixtures of both forms: it ends with 1 where the library refuses them.
+#[test]
+fn generated_files_that_are_refused() {
+    let folder = Folder::new("refused");
+    let mut random = Random::new(205);
+    let mut times = [0; 2];
+    for _ in 0..40 {
+        let book = Book::random(&mut random);
+        let request = Request::random(&mut random, &book);
+        let books = [book.encode(), widened_book(&book)];
+        let requests = [request.encode(), wide_request(&request, request.zone.into())];
+        for ([one, other], judge) in [(books, fikrem::check_book as fn(&[u8]) -> _), (requests, fikrem::check_request)]
+        {
+            let mixed = [(); 2].map(|_| mixture(&mut random, [&one, &other]));
+            for file in [damaged(&mut random, &one), damaged(&mut random, &other)].iter().chain(&mixed) {
+                folder.write("file.bin", file);
+                let output = folder.run(&["show", "file.bin"]);
+                let refused = judge(file).is_err();
+                assert_eq!((status(&output) == 1, output.stdout.is_empty()), (refused, refused));
+                assert_eq!(text(&output.stderr).starts_with("refused, number "), refused, "{}", text(&output.stderr));
+                times[usize::from(refused)] += 1;
             }
         }
     }
-    assert!(refused > 50, "{refused}");
+    assert!(times[0] > 10 && times[1] > 250, "{times:?}");
 }
