@@ -158,7 +158,8 @@ static void try_price(void)
     lent.request[0] ^= 1;
     tell("price, a byte of the request altered", price(FIKREM_FIGURES));
     lent.request[0] ^= 1;
-    tell("price, 20 figures", price(FIKREM_FIGURES - 1));
+    tell("price, 26 figures", price(FIKREM_FIGURES - 1));
+    tell("price, 21 figures, as up to version 3", price(21));
 }
 
 /* The book's opex takes a fifth of the revenue from every class but special pricing, which alone may have an operating loading. */
@@ -240,7 +241,8 @@ static void try_accept(void)
     tell("accept, joining", accept(sizeof lent.out, FIKREM_FIGURES, FIKREM_ANSWER));
     size_t size = lent.answer[FIKREM_WRITTEN];
     tell("accept, a byte short", accept(size - 1, FIKREM_FIGURES, FIKREM_ANSWER));
-    tell("accept, 20 figures", accept(size, FIKREM_FIGURES - 1, FIKREM_ANSWER));
+    tell("accept, 26 figures", accept(size, FIKREM_FIGURES - 1, FIKREM_ANSWER));
+    tell("accept, 21 figures, as up to version 3", accept(size, 21, FIKREM_ANSWER));
     tell("accept, 4 places of the answer", accept(size, FIKREM_FIGURES, FIKREM_ANSWER - 1));
     accept(size, FIKREM_FIGURES, FIKREM_ANSWER);
     keep();

@@ -147,7 +147,7 @@ int main(int count, char **names)
     request_size = read_file(names[2], request);
     tell("price", price, 4);
     tell("price band", price_band, 4);
-    tell("slip text", slip_text, 12);
+    tell("slip text", slip_text, 16);
     tell("page", page, 4);
     tell("new ledger", new_ledger, 40);
     fill(511);

@@ -12,7 +12,7 @@
  * Money is in whole cents, capacity in hundredths of a kVA; a month is year * 12 + (month - 1), so that April 2026 is 24315.
  *
  * A call takes at most this much stack, in KiB, as c/stack.c measures it on a painted stack with the longest ledger: price 4, price
- * band 4, page 4, slip text 12, new ledger 40, check of a ledger 80, pay-out and hand-over 112, accept 136, check of bytes, of a book
+ * band 4, page 4, slip text 16, new ledger 40, check of a ledger 80, pay-out and hand-over 112, accept 136, check of bytes, of a book
  * and of a request 1.
  */
 #ifndef FIKREM_H
@@ -22,7 +22,7 @@
 #include <stdint.h>
 
 /* The version of this interface. */
-#define FIKREM_VERSION 3
+#define FIKREM_VERSION 4
 
 /* Each result but that of fikrem_check is FIKREM_DONE, or a refusal: its number, its file, whether it is of the stored ledger
  * itself, and its place, which these take out of it. A refused call has written nothing: every byte of every buffer is as it was.
@@ -82,7 +82,10 @@ enum fikrem_joining {
 };
 
 /* The figures of a done call: at least FIKREM_FIGURES places, in cents. A percentage has two places: 1 and the percentage, or 0
- * and 0 where there is none. CC holds no pioneer contribution: a joiner owes CC and what was collected. */
+ * and 0 where there is none, and from 21 on two more: the whole percent rounded down, below 0 too, and the remainder, so that
+ * 100 * numerator = quotient * divisor + remainder with a remainder from 0 to divisor - 1; 0 and 0 where there is none. Up to
+ * version 3 there were 21 places: a caller with so few gets FIKREM_SHORT_BUFFER. CC holds no pioneer contribution: a joiner owes CC
+ * and what was collected. */
 enum fikrem_figure {
     FIKREM_ME = 0,             /* minimum scheme extension */
     FIKREM_MC = 1,             /* capacity: the demands of the five tiers at their rates */
@@ -105,7 +108,13 @@ enum fikrem_figure {
     FIKREM_UPFRONT = 18,       /* CC / (CC + IR) */
     FIKREM_HAS_NCRATIO = 19,
     FIKREM_NCRATIO = 20,       /* NC / (CC + IR); may be negative */
-    FIKREM_FIGURES = 21
+    FIKREM_RELIANCE_QUOTIENT = 21,
+    FIKREM_RELIANCE_REMAINDER = 22,
+    FIKREM_UPFRONT_QUOTIENT = 23,
+    FIKREM_UPFRONT_REMAINDER = 24,
+    FIKREM_NCRATIO_QUOTIENT = 25,  /* may be negative; the remainder never is */
+    FIKREM_NCRATIO_REMAINDER = 26,
+    FIKREM_FIGURES = 27
 };
 
 /* The figures of a done fikrem_price_band: at least FIKREM_BAND places, in cents. */
@@ -123,7 +132,7 @@ enum fikrem_band {
 #define FIKREM_BOOK_SIZE 321
 #define FIKREM_REQUEST_SIZE 206
 
-/* The longest slip, and the longest stored ledger: 7 + 25 + 64 * 27 + 512 * 33 + 5 bytes. */
+/* Room for the longest slip, at most 236 bytes, and the longest stored ledger: 7 + 25 + 64 * 27 + 512 * 33 + 5 bytes. */
 #define FIKREM_TEXT_SIZE 256
 #define FIKREM_LEDGER_SIZE 18661
 

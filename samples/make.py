@@ -17,7 +17,10 @@ from fields import altered, closed, field, number, numbers
 ROOT = Path(__file__).resolve().parent.parent
 
 
-def slip_book(term=84, charged=1, pair=(0, 1)):
+SLIP_RATES = [0, 0, 8_500, 38_000, 10_000]
+
+
+def slip_book(term=84, charged=1, pair=(0, 1), share=6_500, rates=SLIP_RATES):
     return [
         field(0x01, b"RATE"),
         field(0x02, number(2, 0)),
@@ -25,25 +28,27 @@ def slip_book(term=84, charged=1, pair=(0, 1)):
         field(0x04, number(2, 10_000)),
         field(0x05, number(2, 10_000)),
         field(0x06, numbers(4, [5_000_000, 20_000, 20_000]) + number(2, term)),
-        field(0x07, number(1, charged) + number(2, 6_500)),
-        field(0x08, number(1, 1) + numbers(4, [0, 0, 8_500, 38_000, 10_000])),
+        field(0x07, number(1, charged) + number(2, share)),
+        field(0x08, number(1, 1) + numbers(4, rates)),
     ]
 
 
 POSTED_TIERS = [(0, 400, 0), (0, 400, 0), (0, 200, 0), (0, 200, 0), (0, 150, 0)]
 
 
-def slip_request(class_=1, zone=1, extension=1_598_500, loading=0, tiers=POSTED_TIERS, revenue=57_320, capacity=15_000):
+def slip_request(
+    class_=1, zone=1, extension=1_598_500, enhancement=0, loading=0, tiers=POSTED_TIERS, added=0, revenue=57_320, part_year=(0, 10_000), capacity=15_000
+):
     return [
         field(0x01, b"CONN"),
         field(0x02, number(4, 4_711)),
         field(0x03, number(1, class_)),
         field(0x04, number(1, zone)),
-        field(0x05, numbers(4, [extension, 0, 0, 0, 0, loading])),
+        field(0x05, numbers(4, [extension, enhancement, 0, 0, 0, loading])),
         field(0x06, b"".join(number(1, mode) + numbers(4, [demand, rate]) for mode, demand, rate in tiers)),
-        field(0x07, numbers(4, [0] * 5)),
+        field(0x07, numbers(4, [added] * 5)),
         field(0x08, numbers(4, [revenue, 0])),
-        field(0x09, numbers(2, [0, 10_000])),
+        field(0x09, numbers(2, part_year)),
         field(0x0A, number(2, 10_000)),
         field(0x0B, number(2, 10_000)),
         field(0x0C, number(2, 24_315) + number(4, capacity) + number(2, 0) + number(1, 0)),
@@ -127,6 +132,30 @@ def refused_slip_files():
         "job_at_150_percent.bin": closed(slip_request(tiers=bespoke)),
         "job_of_nothing.bin": closed(slip_request(extension=0, tiers=[(0, 0, 0)] * 5, revenue=0)),
         "job_no_revenue.bin": closed(slip_request(revenue=0)),
+    }
+
+
+def percentage_files():
+    """Pairs whose percentages are rounded up, negative or none, for the lines of quotient and remainder. Capacity isn't charged but for
+    the pair that adds up to 101 percent."""
+
+    def tiers(*demands):
+        return [(0, demand, 0) for demand in demands]
+
+    nothing = tiers(0, 0, 0, 0, 0)
+    full = dict(tiers=tiers(*[1_000_000] * 5), added=1_000_000, extension=0, revenue=0)
+    return {
+        "rates_share_0.bin": closed(slip_book(share=0)),
+        "rates_of_a_cent.bin": closed(slip_book(charged=0, rates=[100, 0, 0, 0, 0])),
+        "rates_highest.bin": closed(slip_book(charged=0, rates=[10_000_000] * 5)),
+        "job_of_101_percent.bin": closed(slip_request(extension=101, tiers=nothing, revenue=99, part_year=(10_000, 0))),
+        "job_at_minus_half.bin": closed(slip_request(extension=200, tiers=tiers(1, 0, 0, 0, 0), revenue=0)),
+        "job_past_minus_half.bin": closed(slip_request(extension=201, tiers=tiers(1, 0, 0, 0, 0), revenue=0)),
+        "job_at_minus_one_and_half.bin": closed(slip_request(extension=200, tiers=tiers(3, 0, 0, 0, 0), revenue=0)),
+        "job_of_demands_alone.bin": closed(slip_request(extension=0, revenue=0)),
+        "job_with_revenue_1.bin": closed(slip_request(extension=0, revenue=1, part_year=(10_000, 0))),
+        "job_of_lowest_ratio.bin": closed(slip_request(enhancement=1, **full)),
+        "job_of_low_ratio.bin": closed(slip_request(enhancement=10_000_001, **full)),
     }
 
 
@@ -222,7 +251,7 @@ def wanted():
         "slip": slip_files(),
         "page": slip_files(),
         "page_refusals": refused_slip_files(),
-        "slip_refusals": refused_slip_files(),
+        "slip_refusals": refused_slip_files() | percentage_files(),
         "stored_ledgers": ledgers.files(),
         "scenario": scenario_files(),
         "worked_examples": worked_examples.files(),

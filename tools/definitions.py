@@ -10,8 +10,8 @@ import re
 import sys
 
 root = pathlib.Path(__file__).resolve().parent.parent
-ROOTS = "numbers/Check charge/Price price_band/PriceBand price_band/BandPromises slip_text/Slip page_text/Page page_text/AmountGrammar " \
-    "page_text/PageColumns calls/Calls " \
+ROOTS = "numbers/Check reconciliation/ExactPercent charge/Price price_band/PriceBand price_band/BandPromises slip_text/Slip slip_text/ExactReading " \
+    "page_text/Page page_text/AmountGrammar page_text/PageColumns calls/Calls " \
     "accept_rules/AcceptAnswers stored/Reading stored/Writing pioneer_accept/AcceptResult pioneer/ReadResult stored_calls/StoredCalls " \
     "quoting_unit/Unit fikrem_page/PageResult fikrem_price_band/BandResult fikrem_files/FileResult history/DemandThree " \
     "stored_history/StoredDemandThree"

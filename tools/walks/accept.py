@@ -67,10 +67,11 @@ def carry_out():
 
 
 def accept():
-    """let parties = party_table::snapshot(table, ledger.entries);
+    """let entries = entries_of(ledger);
+    let parties = party_table::snapshot(table, entries);
     let plan = acceptance::accept::accept(ledger, parties, table.len(), book, request);
     if not_accepted(plan) { return accept_result(plan); }
-    carry_out(table, ledger.entries, plan);
+    carry_out(table, entries, plan);
     accept_result(plan)"""
     definitions = """\
   abbrev parties : List Party
@@ -91,13 +92,13 @@ def accept():
   carries : T (not (notAccepted (plan .answer))) → PlanFits (ledger .entries) (length table) table plan
   carries = plan-carries ledger table places (priceOf book request)
 """
-    types = [ACCEPT_RESULT.type, LEDGER.type, slice_of("mut", "named 0"), slice_of("imm", "named 1", U8), slice_of("imm", "named 2", U8)]
-    types += [PARTIES.type, PLAN.type, reference("imm", "erased"), slice_of("imm", "erased"), USIZE.type, BOOL, UNIT, reference("mut", "erased")]
+    types = [ACCEPT_RESULT.type, WHOLE_LEDGER.type, slice_of("mut", "named 0"), slice_of("imm", "named 1", U8), slice_of("imm", "named 2", U8)]
+    types += [U32.type, PARTIES.type, PLAN.type, reference("imm", "erased"), slice_of("imm", "erased"), USIZE.type, BOOL, UNIT, reference("mut", "erased")]
     types += [slice_of("mut", "erased")]
     result = "(acceptResult (plan .answer) (plan .ledger))"
     walk = Walk(
-        "pioneer_accept", "accept", [("ledger", LEDGER), ("table", TABLE), ("book", BYTES_SEEN), ("request", BYTES_SEEN)], types,
-        ["party_table::snapshot", "acceptance::accept::accept", "not_accepted", "accept_result", "carry_out"], definitions,
+        "pioneer_accept", "accept", [("ledger", WHOLE_LEDGER), ("table", TABLE), ("book", BYTES_SEEN), ("request", BYTES_SEEN)], types,
+        ["entries_of", "party_table::snapshot", "acceptance::accept::accept", "not_accepted", "accept_result", "carry_out"], definitions,
         result=(ACCEPT_RESULT, result),
         says="plan-promised (same-entries ledger table) places book request",
         imports=[
@@ -110,25 +111,28 @@ def accept():
             "use Rattle.pioneer_accept.specs.AcceptResult.{notAccepted, acceptResult}",
             "use Rattle.pioneer_accept.specs.Theorems.Snapshots.{same-entries}",
             "use Rattle.pioneer_accept.proofs.Plans.{plan-length, kept-leaves, carried-leaves, plan-carries}",
-            "use Rattle.pioneer_accept.proofs.Records.{entries-fits, schemes-length}",
+            "use Rattle.pioneer_accept.proofs.Records.{schemes-length}",
         ],
     )
-    entries = ("(ledger .entries)", U32, "(entries-fits ledger _ ledger-fits)")
-    walk.point_again("_7", "_8")
+    booked = ("ledger", WHOLE_LEDGER, "ledger-fits")
+    walk.call("entries_of", [booked], ["_1"], U32, "many", "many ≡ ledger .entries")
+    walk.got_number(U32, "many", "_5", "(ledger .entries)")
+    entries = ("(ledger .entries)", U32, "(many-known .1)")
+    walk.point_again("_8", "_9")
     arguments = [walk.lend_shared(), entries]
-    walk.call("party_table::snapshot", arguments, ["_8", ("_1", 4)], PARTIES, "copied", "copied ≡ parties")
-    copied = walk.got_value(PARTIES, "copied", "_5", "parties")
+    walk.call("party_table::snapshot", arguments, ["_9", "_5"], PARTIES, "copied", "copied ≡ parties")
+    copied = walk.got_value(PARTIES, "copied", "_6", "parties")
     walk.shared_back()
-    walk.length("_9")
-    arguments = [("ledger", LEDGER, "ledger-fits"), copied, ("(length table)", USIZE, "(table-fits .0)")]
+    walk.length("_10")
+    arguments = [booked, copied, ("(length table)", USIZE, "(table-fits .0)")]
     arguments += [walk.handed_on("book"), walk.handed_on("request")]
-    walk.call("acceptance::accept::accept", arguments, ["_1", "_5", "_9", "_3", "_4"], PLAN, "decided", "decided ≡ plan")
-    decided = walk.got_value(PLAN, "decided", "_6", "plan")
-    walk.call("not_accepted", [decided], ["_6"], TRUTH, "refused", "refused ≡ notAccepted (plan .answer)")
-    walk.got_truth("refused", "_10", "(notAccepted (plan .answer))")
+    walk.call("acceptance::accept::accept", arguments, ["_1", "_6", "_10", "_3", "_4"], PLAN, "decided", "decided ≡ plan")
+    decided = walk.got_value(PLAN, "decided", "_7", "plan")
+    walk.call("not_accepted", [decided], ["_7"], TRUTH, "refused", "refused ≡ notAccepted (plan .answer)")
+    walk.got_truth("refused", "_11", "(notAccepted (plan .answer))")
 
     def answers(walk, within=False):
-        walk.call("accept_result", [decided], ["_6"], ACCEPT_RESULT, "told", f"told ≡ {result}")
+        walk.call("accept_result", [decided], ["_7"], ACCEPT_RESULT, "told", f"told ≡ {result}")
         walk.got(ACCEPT_RESULT, "told", "_0", result)
         walk.ret(["own-table", "own-book", "own-request", "told-own"], "told-value", within)
 
@@ -136,12 +140,12 @@ def accept():
         walk.as_list("kept-leaves ledger table plan tested")
         answers(walk, within=True)
 
-    walk.branch("_10", refuses, "t-8")
-    walk.point_again("_12", "_13")
+    walk.branch("_11", refuses, "t-9")
+    walk.point_again("_13", "_14")
     required = ("PlanFits (ledger .entries) (length table) table plan", "carries tested")
     ensures = "last .0 ≡ planCarriedOut (ledger .entries) table plan"
-    walk.call("carry_out", [walk.lend_again(), entries, decided], ["_13", ("_1", 4), "_6"], NOTHING, "done", ensures, requires=required)
-    walk.got_unit("done", "_11")
+    walk.call("carry_out", [walk.lend_again(), entries, decided], ["_14", "_5", "_7"], NOTHING, "done", ensures, requires=required)
+    walk.got_unit("done", "_12")
     walk.comes_back()
     walk.as_list("done-is ∙ carried-leaves ledger table plan tested")
     answers(walk)

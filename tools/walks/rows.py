@@ -64,23 +64,25 @@ def array(element, size, lawful):
     )
 
 
-def declared(name, denoted, path, crate, proofs):
-    """a struct or an enum of a crate, whose laws stand in a proof module: its row is NAMERow, its laws are name-tells, name-makes, name-typed"""
+def declared(name, denoted, path, crate, proofs, values=""):
+    """a struct or an enum of a crate, whose laws stand in a proof module: its row is NAMERow, its laws are name-tells, name-makes, name-typed;
+    values: what comes before name where another machine value is meant, VALUESname-value, with its name-values and name-tells"""
     row, laws = f"{name}Row", re.sub(r"(?<=[a-z])(?=[A-Z])", "-", name).lower()
+    values += laws
     return Row(
         row=row,
         denoted=denoted,
         type=f"{laws}-type",
-        values=f"{laws}-values",
-        tells=f"{laws}-tells",
+        values=f"{values}-values",
+        tells=f"{values}-tells",
         makes=f"{laws}-makes 𝓤 H A",
-        value=lambda x: f"{laws}-value {x}",
-        known=lambda x: f"Is {row} {x} ({laws}-values {x})",
+        value=lambda x: f"{values}-value {x}",
+        known=lambda x: f"Is {row} {x} ({values}-values {x})",
         has=lambda known: known,
         typed=lambda x, known: f"{laws}-typed {GIVEN} {x} _ {known}",
         imports=[
             f"use Rattle.{crate}.specs.declared.{path}.{{{denoted}}}",
-            f"use Rattle.{proofs}.{{{row}, {laws}-type, {laws}-value, {laws}-values, {laws}-tells, {laws}-makes, {laws}-typed}}",
+            f"use Rattle.{proofs}.{{{row}, {laws}-type, {values}-value, {values}-values, {values}-tells, {laws}-makes, {laws}-typed}}",
         ],
     )
 
@@ -120,6 +122,8 @@ CREDITS = array(U64, "mostEntries", f"(uint-lawful {GIVEN} w64)")
 NOTHING = Row("unit", "Unit {0}", "tyUnit", None, None, None, None, None, None, None)
 
 LEDGER = declared("Ledger", "Ledger", "records.Ledger", "ledger", "pioneer_accept.proofs.Records")
+# a ledger of which no field is read
+WHOLE_LEDGER = declared("Ledger", "Ledger", "records.Ledger", "ledger", "pioneer_accept.proofs.Records", values="whole-")
 ANSWER = declared("Answer", "Answer", "answers.Answer", "calls", "pioneer.proofs.Records")
 CHANGE = declared("Change", "EntryChange", "EntryChange", "entry_calls", "pioneer.proofs.Records")
 PLAN = declared("Plan", "Plan", "accept.Plan", "acceptance", "pioneer_accept.proofs.Records")

@@ -1,5 +1,5 @@
 -- What the walks cite of the structs that accept takes, returns and hands on: their rows and MIR types, that a value can be handed on, and that its
--- machine value has the type. Of a ledger one field is read, so its machine value is spelled out.
+-- machine value has the type. Of a ledger one field is read in other crates' walks, so its machine value is spelled out.
 use mathlib.Core.Path.{_≡_, sym, _∙_}
 use mathlib.Core.List.{List, [], _∷_}
 use Prim.Native.Nat.{_<_, _^_}
@@ -40,6 +40,17 @@ ledger-values x = ledger-value x ∷ []
 
 pub ledger-tells : Tells LedgerRow (Is LedgerRow) ledger-values
 ledger-tells = ledger-laws.lowers .val-is
+
+-- of a ledger that accept hands on as a whole it stays closed
+unfoldable pub whole-ledger-value : Ledger → Val
+whole-ledger-value = ledger-laws.lowered
+
+abbrev pub whole-ledger-values : Ledger → List Val
+whole-ledger-values x = whole-ledger-value x ∷ []
+
+pub whole-ledger-tells : Tells LedgerRow (Is LedgerRow) whole-ledger-values
+unfolding whole-ledger-value
+whole-ledger-tells = ledger-laws.lowers .val-is
 
 abbrev pub PlanRow : RattleType
 PlanRow = plan.the-row

@@ -28,6 +28,12 @@ fn not_accepted(plan: Plan) -> bool
     }
 }
 
+fn entries_of(ledger: Ledger) -> u32
+    ensures { λ r. ⌜ r ≡ ledger .entries ⌝ }
+{
+    ledger.entries
+}
+
 fn credits_of(plan: Plan) -> [u64; MOST_ENTRIES]
     ensures { λ r. ⌜ r ≡ plan .credits ⌝ }
 {
@@ -66,11 +72,12 @@ fn carry_out(table: &mut [Party], entries: u32, plan: Plan)
 pub fn accept(ledger: Ledger, table: &mut [Party], book: &[u8], request: &[u8]) -> AcceptResult
     ensures { λ r. ⌜ Promised (stateOf ledger (now (table .entry))) (accept (now (book .entry)) (now (request .entry))) (ofAccept (r .answer)) (stateOf (r .ledger) (now (table .exit))) ⌝ }
 {
-    let parties = party_table::snapshot(table, ledger.entries);
+    let entries = entries_of(ledger);
+    let parties = party_table::snapshot(table, entries);
     let plan = acceptance::accept::accept(ledger, parties, table.len(), book, request);
     if not_accepted(plan) {
         return accept_result(plan);
     }
-    carry_out(table, ledger.entries, plan);
+    carry_out(table, entries, plan);
     accept_result(plan)
 }

@@ -1,4 +1,4 @@
--- What every call shares: the result, in which a refusal is told, and the lent buffers: the five places of an answer, the twenty-one of the figures.
+-- What every call shares: the result, in which a refusal is told, and the lent buffers: the five places of an answer, the twenty-seven of the figures.
 use Prim.Native.Nat.{ℕ, _+_, _*_, _/_, _%_}
 use mathlib.Core.Bool.{Bool, cond}
 use mathlib.Core.List.{List, [], _∷_, _++_}
@@ -66,7 +66,7 @@ abbrev pub answerPlaces : ℕ
 answerPlaces = 5
 
 abbrev pub figurePlaces : ℕ
-figurePlaces = 21
+figurePlaces = 27
 
 -- those of one call, with no places where it is lent none
 pub record Lent : Type 0 where

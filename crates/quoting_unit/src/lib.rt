@@ -19,8 +19,8 @@ ghost use Prim.Native.Nat.{_≤_};
 ghost use mathlib.Core.List.{_++_};
 ghost use lib.ListN.{length, drop};
 ghost use Rattle.numbers.specs.Check.{check};
-ghost use Rattle.reconciliation.specs.Figures.{percentIsThere, percentFigure, figureValues};
-ghost use Rattle.reconciliation.specs.FigureLimits.{FiguresWithin};
+ghost use Rattle.reconciliation.specs.Figures.{percentIsThere, percentFigure, percentQuotient, percentRemainder, figureValues};
+ghost use Rattle.reconciliation.specs.FigureLimits.{RemainderWithin, FiguresWithin};
 ghost use Rattle.calls.specs.Decision.{accept, payOut, handOver};
 ghost use Rattle.stored_calls.specs.StoredCalls.{ofStoredAccept, ofStoredAnswer};
 ghost use Rattle.quoting_unit.specs.Interface.{answerPlaces, figurePlaces, highestPlace, placeInResult, resultOf, isDone, isRefused, outcomeOf, answerAfter, figuresAfter, lentFigures, lentOutput, lentBoth, lentAnswer};
@@ -29,7 +29,7 @@ ghost use Rattle.quoting_unit.specs.Unit.{price, slipText, newLedger, on
 // How many places an answer and the figures have.
 const ANSWER: usize = 5;
 
-const FIGURES: usize = 21;
+const FIGURES: usize = 27;
 
 // What one counts in a result: of the file, of the flag for the stored ledger, of the place.
 const FILE_WEIGHT: u64 = 16;
@@ -130,7 +130,26 @@ fn percent_figure(percent: Percent) -> i64
     ensures { λ r. ⌜ r ≡ percentFigure percent ⌝ }
 {
     match percent {
-        Percent::Whole(n) => n,
+        Percent::Whole(whole) => whole.rounded,
+        Percent::None => 0,
+    }
+}
+
+fn percent_quotient(percent: Percent) -> i64
+    ensures { λ r. ⌜ r ≡ percentQuotient percent ⌝ }
+{
+    match percent {
+        Percent::Whole(whole) => whole.quotient,
+        Percent::None => 0,
+    }
+}
+
+fn percent_remainder(percent: Percent) -> i64
+    requires { ⌜ RemainderWithin percent ⌝ }
+    ensures { λ r. ⌜ r ≡ percentRemainder percent ⌝ }
+{
+    match percent {
+        Percent::Whole(whole) => signed(whole.remainder),
         Percent::None => 0,
     }
 }
@@ -164,6 +183,12 @@ fn figure_places(r: Reconciliation) -> [i64; FIGURES]
         percent_figure(upfront),
         percent_is_there(nc_ratio),
         percent_figure(nc_ratio),
+        percent_quotient(reliance),
+        percent_remainder(reliance),
+        percent_quotient(upfront),
+        percent_remainder(upfront),
+        percent_quotient(nc_ratio),
+        percent_remainder(nc_ratio),
     ]
 }
 

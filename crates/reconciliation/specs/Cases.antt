@@ -1,3 +1,4 @@
+pub mod ExactPercent
 pub mod Figures
 pub mod MarkedFigures
 pub mod Reconciliation

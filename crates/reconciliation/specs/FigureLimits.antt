@@ -1,5 +1,5 @@
 -- How high the figures of a reconciliation are, by the limits of what they come from.
-use Prim.Native.Nat.{ℕ, _+_, _*_, _≤_}
+use Prim.Native.Nat.{ℕ, _+_, _*_, _≤_, _<_}
 use mathlib.Core.Path.{_≡_}
 use lib.IntN.{pos, natAbs, _-ℤ_}
 use Rattle.field_values.specs.Limits.{highestAmount}
@@ -26,6 +26,10 @@ highestM = highestAmount + highestCapacityCost
 abbrev pub highestIncrementalCost : ℕ
 highestIncrementalCost = 5 * highestAmount + 2 * highestCapacityCost
 
+-- IC, and CC + IR, which percentages are divided by
+abbrev pub highestDivisor : ℕ
+highestDivisor = highestIncrementalCost + highestIncrementalRevenue
+
 -- what an accepted book and request give of the costs
 pub record CostsWithin (costs : Costs) : Type 0 where
   pub me : costs .me ≤ highestAmount
@@ -37,10 +41,14 @@ pub record CostsWithin (costs : Costs) : Type 0 where
   pub hr : costs .hr ≤ highestAmount
   pub ol : costs .ol ≤ highestAmount
 
--- a percentage is at most so many percent, up or down
+-- a percentage is at most so many percent, up or down, rounded to the nearest as well as down
 abbrev pub PercentWithin : ℕ → Percent → Type 0
-PercentWithin limit (Whole n) = natAbs n ≤ limit
+PercentWithin limit (Whole p) = (natAbs (p .rounded) ≤ limit) × (natAbs (p .quotient) ≤ limit)
 PercentWithin limit None = Unit {0}
+
+abbrev pub RemainderWithin : Percent → Type 0
+RemainderWithin (Whole p) = p .remainder < highestDivisor
+RemainderWithin None = Unit {0}
 
 -- the limits that a ledger needs, and that every figure fits 64 bits with a sign
 pub record FiguresWithin (r : Reconciliation) : Type 0 where
@@ -57,3 +65,6 @@ pub record FiguresWithin (r : Reconciliation) : Type 0 where
   pub reliance : PercentWithin 100 (r .reliance)
   pub upfront : PercentWithin 100 (r .upfront)
   pub nc-ratio : PercentWithin (100 * highestIncrementalRevenue) (r .«nc_ratio»)
+  pub reliance-remainder : RemainderWithin (r .reliance)
+  pub upfront-remainder : RemainderWithin (r .upfront)
+  pub nc-ratio-remainder : RemainderWithin (r .«nc_ratio»)

@@ -1,4 +1,5 @@
--- The reconciliation's figures as one list of values: the amounts in document 01's order, then the three percentages.
+-- The reconciliation's figures as one list of values: the amounts in document 01's order, then the three percentages, then their quotients and
+-- remainders.
 use mathlib.Core.List.{List, [], _∷_}
 use lib.IntN.{ℤ, pos}
 use Rattle.reconciliation.specs.declared.Percent.{Percent}
@@ -7,14 +8,24 @@ use Rattle.reconciliation.specs.declared.Reconciliation.{Reconciliation}
 
 -- "none where the divisor is 0": whether there is a percentage, and which
 abbrev pub percentIsThere : Percent → ℤ
-percentIsThere (Whole n) = pos 1
+percentIsThere (Whole p) = pos 1
 percentIsThere None = pos 0
 
 abbrev pub percentFigure : Percent → ℤ
-percentFigure (Whole n) = n
+percentFigure (Whole p) = p .rounded
 percentFigure None = pos 0
 
--- ME, MC, CE, CC2, TW, HR, OL, IC, IR, CC, NIC, NC, X, cost entered, borne; CC/IC, CC/(CC+IR), NC/(CC+IR)
+-- beside it "the whole percent rounded down and the exact remainder"; 0 and 0 where there is no percentage
+abbrev pub percentQuotient : Percent → ℤ
+percentQuotient (Whole p) = p .quotient
+percentQuotient None = pos 0
+
+abbrev pub percentRemainder : Percent → ℤ
+percentRemainder (Whole p) = pos (p .remainder)
+percentRemainder None = pos 0
+
+-- ME, MC, CE, CC2, TW, HR, OL, IC, IR, CC, NIC, NC, X, cost entered, borne; CC/IC, CC/(CC+IR), NC/(CC+IR), and the
+-- quotient and remainder of each
 abbrev pub figureValues : Reconciliation → List ℤ
 figureValues r =
     pos (r .me) ∷
@@ -38,4 +49,10 @@ figureValues r =
     percentFigure (r .upfront) ∷
     percentIsThere (r .«nc_ratio») ∷
     percentFigure (r .«nc_ratio») ∷
+    percentQuotient (r .reliance) ∷
+    percentRemainder (r .reliance) ∷
+    percentQuotient (r .upfront) ∷
+    percentRemainder (r .upfront) ∷
+    percentQuotient (r .«nc_ratio») ∷
+    percentRemainder (r .«nc_ratio») ∷
     []

@@ -1,3 +1,4 @@
+pub mod ExactPercent
 pub mod FigureLimits
 pub mod Figures
 pub mod Percent

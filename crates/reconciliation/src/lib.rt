@@ -1,17 +1,23 @@
 // The charge, its reconciliation and its percentages, in whole cents.
 ghost use mathlib.Core.Path.{_≡_};
 ghost use Prim.Native.Nat.{_+_, _*_, _-_, _<_, _≤_, min};
-ghost use lib.IntN.{pos, _-ℤ_};
-ghost use Rattle.reconciliation.specs.Percent.{nearest, percentOf};
+ghost use lib.IntN.{pos, negℤ, _-ℤ_};
+ghost use Rattle.reconciliation.specs.Percent.{nearest, wholeOf, percentOf};
 ghost use Rattle.reconciliation.specs.Reconciliation.{icOf, mOf, creditOf, notChargedOf, reconciliationOf};
 ghost use Rattle.field_values.specs.Limits.{highestShare};
 ghost use Rattle.revenue.specs.RevenueLimits.{highestIncrementalRevenue};
 ghost use Rattle.capacity.specs.CapacityLimits.{highestCapacityCost};
 ghost use Rattle.reconciliation.specs.FigureLimits.{signedBelow, percentBelow, highestM, highestIncrementalCost, CostsWithin};
 
+// A whole number of percent: the nearest; and beside it the one rounded down, with what that leaves of 100 times the numerator.
+pub struct WholePercent {
+    pub rounded: i64,
+    pub quotient: i64,
+    pub remainder: u64,
+}
+
 pub enum Percent {
-    // a whole number of percent
-    Whole(i64),
+    Whole(WholePercent),
     // no percentage: the divisor is 0
     None,
 }
@@ -75,6 +81,35 @@ fn nearest_percent(n: u64, divisor: u64) -> u64
     (200 * n + divisor) / (2 * divisor)
 }
 
+fn not_negative_percent(n: u64, divisor: u64) -> WholePercent
+    requires { ⌜ (n < percentBelow) × ((divisor < percentBelow) × (0 < divisor)) ⌝ }
+    ensures { λ r. ⌜ r ≡ wholeOf (pos n) divisor ⌝ }
+{
+    let whole = nearest_percent(n, divisor);
+    let hundredfold = 100 * n;
+    WholePercent {
+        rounded: signed(whole),
+        quotient: signed(hundredfold / divisor),
+        remainder: hundredfold % divisor,
+    }
+}
+
+// The percentage that -n is: its size rounded up, so that the quotient is rounded down.
+fn negative_percent(n: u64, divisor: u64) -> WholePercent
+    requires { ⌜ ((0 < n) × (n < percentBelow)) × ((divisor < percentBelow) × (0 < divisor)) ⌝ }
+    ensures { λ r. ⌜ r ≡ wholeOf (negℤ (pos n)) divisor ⌝ }
+{
+    let whole = nearest_percent(n, divisor);
+    let hundredfold = 100 * n;
+    let size = (hundredfold - 1) / divisor + 1;
+    let remainder = size * divisor - hundredfold;
+    WholePercent {
+        rounded: 0 - signed(whole),
+        quotient: 0 - signed(size),
+        remainder,
+    }
+}
+
 // The percentage that a difference is of a divisor.
 fn percent_of(a: u64, b: u64, divisor: u64) -> Percent
     requires { ⌜ (a < percentBelow) × ((b < percentBelow) × (divisor < percentBelow)) ⌝ }
@@ -84,11 +119,9 @@ fn percent_of(a: u64, b: u64, divisor: u64) -> Percent
         return Percent::None;
     }
     if b <= a {
-        let whole = nearest_percent(a - b, divisor);
-        return Percent::Whole(signed(whole));
+        return Percent::Whole(not_negative_percent(a - b, divisor));
     }
-    let whole = nearest_percent(b - a, divisor);
-    Percent::Whole(0 - signed(whole))
+    Percent::Whole(negative_percent(b - a, divisor))
 }
 
 fn smaller(a: u64, b: u64) -> u64

@@ -1,5 +1,5 @@
-// Prints the slips of pairs of files that are refused, of two whose percentages are none or negative,
-// and of special pricing by a book with opex.
+// Prints the slips of pairs of files that are refused, of pairs whose percentages are none, negative or
+// rounded up, and of special pricing by a book with opex.
 use print_slip::print_slip;
 
 fn unreadable() {
@@ -21,10 +21,22 @@ fn refused() {
     print_slip(b"rates.bin", b"job_at_150_percent.bin");
 }
 
+fn percentages() {
+    print_slip(b"rates.bin", b"job_of_nothing.bin");
+    print_slip(b"rates_not_charged.bin", b"job_no_revenue.bin");
+    print_slip(b"rates_share_0.bin", b"job_of_101_percent.bin");
+    print_slip(b"rates_of_a_cent.bin", b"job_at_minus_half.bin");
+    print_slip(b"rates_of_a_cent.bin", b"job_past_minus_half.bin");
+    print_slip(b"rates_of_a_cent.bin", b"job_at_minus_one_and_half.bin");
+    print_slip(b"rates_not_charged.bin", b"job_of_demands_alone.bin");
+    print_slip(b"rates_not_charged.bin", b"job_with_revenue_1.bin");
+    print_slip(b"rates_highest.bin", b"job_of_lowest_ratio.bin");
+    print_slip(b"rates_highest.bin", b"job_of_low_ratio.bin");
+}
+
 fn main() {
     unreadable();
     refused();
-    print_slip(b"rates.bin", b"job_of_nothing.bin");
-    print_slip(b"rates_not_charged.bin", b"job_no_revenue.bin");
+    percentages();
     print_slip(b"rates_with_opex.bin", b"job_special_pricing.bin");
 }

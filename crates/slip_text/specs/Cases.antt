@@ -1,2 +1,3 @@
+pub mod ExactReading
 pub mod SlipEnding
 pub mod Slip

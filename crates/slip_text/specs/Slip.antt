@@ -1,5 +1,6 @@
 -- Document 01, 'The slip': "It writes, each line ended by byte 0A, cents, then the three percentages". "“none” is written `-`; a negative figure starts
--- with `-`." "A refusal is the one line `REFUSED n file place`."
+-- with `-`." "A refusal is the one line `REFUSED n file place`." Document 02, E10: "The slip gains three lines after NCRATIO, named RELIANCE-R, UPFRONT-R and
+-- NCRATIO-R, each with quotient, a blank, remainder; `-` where the divisor is 0."
 use Prim.Native.Nat.{ℕ, zero, suc, _+_, _/_, _%_}
 use mathlib.Core.List.{List, [], _∷_, _++_, flatten}
 use mathlib.Core.Bool.{cond}
@@ -38,16 +39,21 @@ signedDecimal (negsuc n) = 45 ∷ decimal (suc n)
 
 -- "none" is written `-`
 abbrev pub percentText : Percent → List ℕ
-percentText (Whole n) = signedDecimal n
+percentText (Whole p) = signedDecimal (p .rounded)
 percentText None = 45 ∷ []
+
+-- "quotient, a blank, remainder; `-` where the divisor is 0"
+abbrev pub exactText : Percent → List ℕ
+exactText (Whole p) = signedDecimal (p .quotient) ++ (32 ∷ decimal (p .remainder))
+exactText None = 45 ∷ []
 
 -- a label, a blank, the figure, byte 0A
 abbrev pub line : List ℕ → List ℕ → List ℕ
 line label figure = label ++ (32 ∷ (figure ++ (10 ∷ [])))
 
 -- CC, IC, IR, NIC, NC, RELIANCE, UPFRONT, NCRATIO
-abbrev pub reconciliationLines : Reconciliation → List (List ℕ)
-reconciliationLines r =
+abbrev pub figureLines : Reconciliation → List (List ℕ)
+figureLines r =
     line (67 ∷ 67 ∷ []) (decimal (r .cc)) ∷
     line (73 ∷ 67 ∷ []) (decimal (r .ic)) ∷
     line (73 ∷ 82 ∷ []) (decimal (r .ir)) ∷
@@ -57,6 +63,17 @@ reconciliationLines r =
     line (85 ∷ 80 ∷ 70 ∷ 82 ∷ 79 ∷ 78 ∷ 84 ∷ []) (percentText (r .upfront)) ∷
     line (78 ∷ 67 ∷ 82 ∷ 65 ∷ 84 ∷ 73 ∷ 79 ∷ []) (percentText (r .«nc_ratio»)) ∷
     []
+
+-- RELIANCE-R, UPFRONT-R, NCRATIO-R
+abbrev pub exactLines : Reconciliation → List (List ℕ)
+exactLines r =
+    line (82 ∷ 69 ∷ 76 ∷ 73 ∷ 65 ∷ 78 ∷ 67 ∷ 69 ∷ 45 ∷ 82 ∷ []) (exactText (r .reliance)) ∷
+    line (85 ∷ 80 ∷ 70 ∷ 82 ∷ 79 ∷ 78 ∷ 84 ∷ 45 ∷ 82 ∷ []) (exactText (r .upfront)) ∷
+    line (78 ∷ 67 ∷ 82 ∷ 65 ∷ 84 ∷ 73 ∷ 79 ∷ 45 ∷ 82 ∷ []) (exactText (r .«nc_ratio»)) ∷
+    []
+
+abbrev pub reconciliationLines : Reconciliation → List (List ℕ)
+reconciliationLines r = figureLines r ++ exactLines r
 
 -- REFUSED n file place
 abbrev pub refusalText : Refusal → List ℕ
@@ -80,9 +97,13 @@ figureText (Unsigned n) = decimal n
 figureText (Signed n) = signedDecimal n
 figureText (Percentage p) = percentText p
 
--- how many bytes a text has room for
+-- how many bytes a text has room for: eleven lines of any figures of 64 bits
 abbrev pub room : ℕ
-room = 256
+room = 384
+
+-- how long the slip of two files is at most
+abbrev pub longestSlip : ℕ
+longestSlip = 236
 
 -- what a text holds
 abbrev pub textOf : Text → List ℕ

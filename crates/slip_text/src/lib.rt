@@ -9,10 +9,10 @@ ghost use mathlib.Core.List.{[], _∷_, _++_, flatten};
 ghost use Prim.Native.Nat.{_+_, _<_, _≤_};
 ghost use lib.IntN.{natAbs};
 ghost use lib.ListN.{length, drop};
-ghost use Rattle.slip_text.specs.Slip.{room, textOf, decimal, signedDecimal, percentText, figureText, line, reconciliationLines, refusalText, slipOf, slipWritten, slipBuffer};
+ghost use Rattle.slip_text.specs.Slip.{room, textOf, decimal, signedDecimal, percentText, exactText, figureText, line, figureLines, reconciliationLines, refusalText, slipOf, slipWritten, slipBuffer};
 
-// How many bytes a text has room for.
-pub const ROOM: usize = 256;
+// How many bytes a text has room for: eleven lines of any figures of 64 bits. A slip of two files is at most 236 bytes long.
+pub const ROOM: usize = 384;
 
 // What is written so far: the first `len` bytes.
 struct Text {
@@ -106,7 +106,22 @@ fn with_percent(text: Text, percent: Percent) -> Text
     ensures { λ r. ⌜ (textOf r ≡ textOf text ++ percentText percent) × (r .len ≤ text .len + 21) ⌝ }
 {
     match percent {
-        Percent::Whole(n) => with_signed(text, n),
+        Percent::Whole(whole) => with_signed(text, whole.rounded),
+        Percent::None => with_bytes(text, b"-"),
+    }
+}
+
+// "quotient, a blank, remainder; `-` where the divisor is 0". A sign, twice at most 20 digits and the
+// blank are at most 42 bytes.
+fn with_exact(text: Text, percent: Percent) -> Text
+    requires { ⌜ text .len + 42 ≤ room ⌝ }
+    ensures { λ r. ⌜ (textOf r ≡ textOf text ++ exactText percent) × (r .len ≤ text .len + 42) ⌝ }
+{
+    match percent {
+        Percent::Whole(whole) => {
+            let spaced = with_byte(with_signed(text, whole.quotient), b' ');
+            with_decimal(spaced, whole.remainder)
+        }
         Percent::None => with_bytes(text, b"-"),
     }
 }
@@ -133,8 +148,18 @@ fn with_line(text: Text, label: &[u8], figure: Figure) -> Text
     with_byte(with_figure(labelled, figure), b'\n')
 }
 
-fn reconciliation_text(r: Reconciliation) -> Text
-    ensures { λ t. ⌜ (textOf t ≡ flatten (reconciliationLines r)) × (t .len ≤ room) ⌝ }
+// A line of quotient and remainder: its label, a blank, the two, byte 0A.
+fn with_exact_line(text: Text, label: &[u8], percent: Percent) -> Text
+    requires { ⌜ text .len + length (now label) + 44 ≤ room ⌝ }
+    ensures { λ r. ⌜ (textOf r ≡ textOf text ++ line (now (label .entry)) (exactText percent)) × (r .len ≤ text .len + length (now (label .entry)) + 44) ⌝ }
+{
+    let spaced = with_byte(with_bytes(text, label), b' ');
+    with_byte(with_exact(spaced, percent), b'\n')
+}
+
+// The eight lines of amounts and rounded percentages.
+fn figures_text(r: Reconciliation) -> Text
+    ensures { λ t. ⌜ (textOf t ≡ flatten (figureLines r)) × (t .len ≤ 217) ⌝ }
 {
     let reliance = r.reliance;
     let upfront = r.upfront;
@@ -147,6 +172,17 @@ fn reconciliation_text(r: Reconciliation) -> Text
     let text = with_line(text, b"RELIANCE", Figure::Percentage(reliance));
     let text = with_line(text, b"UPFRONT", Figure::Percentage(upfront));
     with_line(text, b"NCRATIO", Figure::Percentage(nc_ratio))
+}
+
+fn reconciliation_text(r: Reconciliation) -> Text
+    ensures { λ t. ⌜ (textOf t ≡ flatten (reconciliationLines r)) × (t .len ≤ room) ⌝ }
+{
+    let reliance = r.reliance;
+    let upfront = r.upfront;
+    let nc_ratio = r.nc_ratio;
+    let text = with_exact_line(figures_text(r), b"RELIANCE-R", reliance);
+    let text = with_exact_line(text, b"UPFRONT-R", upfront);
+    with_exact_line(text, b"NCRATIO-R", nc_ratio)
 }
 
 // "A refusal is the one line `REFUSED n file place`."

@@ -34,7 +34,7 @@ struct Tally {
 // No percentage lies off every printed one.
 fn percentage(percent: Percent) -> SignedFigure {
     match percent {
-        Percent::Whole(n) => signed(n),
+        Percent::Whole(whole) => signed(whole.rounded),
         Percent::None => unsigned(capped(u64::MAX)),
     }
 }

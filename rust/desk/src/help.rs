@@ -48,7 +48,8 @@ Prints the text that packs to the same bytes; of a file that the library refuses
 pub const QUOTE: &str = "\
 fikrem quote [--page | --band LOW HIGH [LOW HIGH]] BOOK REQUEST
 
-Prices a request by a rate book: prints what was read in a few lines, then the slip, in cents and whole percent.
+Prices a request by a rate book: prints what was read in a few lines, then the slip, in cents and whole percent, and last each percentage rounded down with
+its remainder: 100 times the numerator is quotient times divisor plus remainder.
 
   --page                         the page alone, twelve lines in dollars, as it is posted
   --band LOW HIGH [LOW HIGH]     the lowest and the highest IR, CC and NC where year-one distribution revenue lies between two amounts of dollars, and

@@ -600,7 +600,7 @@ fn help_and_version() {
         let template = folder.done(&["template", kind]);
         assert!([limits, note].iter().all(|note| template.lines().any(|line| line == *note)), "{template}");
     }
-    assert_eq!(folder.done(&["--version"]), "fikrem 0.1.0, interface 3\n");
+    assert_eq!(folder.done(&["--version"]), "fikrem 0.1.0, interface 4\n");
 }
 
 /// The program on generated files of both forms: `show` is done with what packs to them.

@@ -5,7 +5,7 @@ use fikrem::raw::{ANSWER, BAND, FIGURES};
 use generate::{Call, Outcome};
 use reference::ledger::MOST_ENTRIES;
 use reference::{page, price, price_band, read_ledger, slip, write_ledger};
-use reference::{Answer, Bill, Joining, Ledger, Party, PriceBand, Refusal};
+use reference::{Answer, Bill, Joining, Ledger, Party, Percentage, PriceBand, Refusal};
 
 const OUTPUT: Refusal = Refusal { number: 14, file: 0, place: 0 };
 
@@ -127,7 +127,8 @@ pub fn places_of_answer(answer: Answer) -> [u64; 4] {
     }
 }
 
-/// ME MC CE CC2 TW HR OL IC IR CC NIC NC X entered borne, then reliance, upfront and ncratio.
+/// ME MC CE CC2 TW HR OL IC IR CC NIC NC X entered borne, then reliance, upfront and ncratio, then the quotient and
+/// remainder of each.
 pub fn figures_of(bill: &Bill) -> [i64; FIGURES] {
     let sums = &bill.reconciliation;
     let amounts = [sums.me, sums.mc, sums.ce, sums.cc2, sums.tw, sums.hr, sums.ol, sums.ic, sums.ir, sums.cc];
@@ -139,7 +140,11 @@ pub fn figures_of(bill: &Bill) -> [i64; FIGURES] {
     figures[10..15].copy_from_slice(&rest);
     for (index, percentage) in [bill.reliance, bill.upfront, bill.nc_ratio].into_iter().enumerate() {
         figures[15 + 2 * index] = percentage.is_some().into();
-        figures[16 + 2 * index] = percentage.unwrap_or(0);
+        if let Some(Percentage { rounded, quotient, remainder }) = percentage {
+            figures[16 + 2 * index] = rounded;
+            figures[21 + 2 * index] = quotient;
+            figures[22 + 2 * index] = remainder as i64;
+        }
     }
     figures
 }

@@ -18,6 +18,6 @@ pub mod refusal;
 pub use file::{check, check_book, check_request};
 pub use ledger::{accept, check_ledger, hand_over, new_ledger, pay_out, Accepted, Answer, Holdings, Joining};
 pub use ledger::{accept_into, hand_over_into, new_ledger_into, pay_out_into, LONGEST_FORM, LONGEST_TABLE};
-pub use pricing::{page, page_into, price, slip_text, slip_text_into, Bill, LONGEST_SLIP, PAGE};
+pub use pricing::{page, page_into, price, slip_text, slip_text_into, Bill, Percentage, LONGEST_SLIP, PAGE};
 pub use pricing::{price_band, Bands, PriceBand};
 pub use refusal::{Refusal, Refused};

@@ -9,6 +9,17 @@ pub const LONGEST_SLIP: usize = raw::TEXT_SIZE;
 /// The bytes of a page: 12 lines of 64.
 pub const PAGE: usize = raw::PAGE_SIZE;
 
+/// A percentage, in whole percent: "100 × numerator = quotient × divisor + remainder, remainder from 0 to divisor − 1".
+#[derive(Debug, Clone, Copy, PartialEq, Eq)]
+pub struct Percentage {
+    /// nearest whole, halves away from zero
+    pub rounded: i64,
+    /// rounded down, below 0 too
+    pub quotient: i64,
+    /// what the quotient leaves of 100 times the numerator
+    pub remainder: u64,
+}
+
 /// What pricing a request by a book comes to, in cents and whole percent.
 #[derive(Debug, Clone, Copy, PartialEq, Eq)]
 pub struct Bill {
@@ -42,19 +53,22 @@ pub struct Bill {
     pub entered: u64,
     /// borne by the company
     pub borne: u64,
-    /// CC/IC
-    pub reliance: Option<i64>,
+    /// CC/IC; none where the divisor is 0
+    pub reliance: Option<Percentage>,
     /// CC/(CC+IR)
-    pub upfront: Option<i64>,
+    pub upfront: Option<Percentage>,
     /// NC/(CC+IR)
-    pub nc_ratio: Option<i64>,
+    pub nc_ratio: Option<Percentage>,
 }
 
 impl Bill {
     pub(crate) fn of(figures: &[i64; FIGURES]) -> Bill {
-        // only NIC, NC and percentages are ever below 0
+        // only NIC, NC, percentages and quotients are ever below 0
         let amount = |place: usize| figures[place] as u64;
-        let percentage = |told: usize, place: usize| (figures[told] == 1).then_some(figures[place]);
+        let percentage = |told: usize, quotient: usize| {
+            let (rounded, remainder) = (figures[told + 1], figures[quotient + 1] as u64);
+            (figures[told] == 1).then_some(Percentage { rounded, quotient: figures[quotient], remainder })
+        };
         Bill {
             me: amount(raw::ME),
             mc: amount(raw::MC),
@@ -71,9 +85,9 @@ impl Bill {
             x: amount(raw::X),
             entered: amount(raw::ENTERED),
             borne: amount(raw::BORNE),
-            reliance: percentage(raw::HAS_RELIANCE, raw::RELIANCE),
-            upfront: percentage(raw::HAS_UPFRONT, raw::UPFRONT),
-            nc_ratio: percentage(raw::HAS_NCRATIO, raw::NCRATIO),
+            reliance: percentage(raw::HAS_RELIANCE, raw::RELIANCE_QUOTIENT),
+            upfront: percentage(raw::HAS_UPFRONT, raw::UPFRONT_QUOTIENT),
+            nc_ratio: percentage(raw::HAS_NCRATIO, raw::NCRATIO_QUOTIENT),
         }
     }
 }

@@ -4,7 +4,7 @@
 #![allow(unsafe_code)]
 
 // The version of the interface.
-pub const VERSION: u64 = 3;
+pub const VERSION: u64 = 4;
 
 // `number` of a result.
 pub const DONE: u64 = 0;
@@ -86,7 +86,13 @@ pub const HAS_UPFRONT: usize = 17;
 pub const UPFRONT: usize = 18;
 pub const HAS_NCRATIO: usize = 19;
 pub const NCRATIO: usize = 20;
-pub const FIGURES: usize = 21;
+pub const RELIANCE_QUOTIENT: usize = 21;
+pub const RELIANCE_REMAINDER: usize = 22;
+pub const UPFRONT_QUOTIENT: usize = 23;
+pub const UPFRONT_REMAINDER: usize = 24;
+pub const NCRATIO_QUOTIENT: usize = 25;
+pub const NCRATIO_REMAINDER: usize = 26;
+pub const FIGURES: usize = 27;
 
 // Places of the figures of a band, and how many they are.
 pub const LOWEST_IR: usize = 0;

@@ -38,6 +38,17 @@ pub struct Reconciliation {
     pub nc: i64,
 }
 
+/// A percentage, rounded and exact.
+#[derive(Debug, Clone, Copy, PartialEq, Eq)]
+pub struct Percentage {
+    /// "nearest whole, halves away from zero"
+    pub rounded: i64,
+    /// Document 02, E10: "the whole percent rounded down and the exact remainder: 100 × numerator = quotient × divisor +
+    /// remainder, remainder from 0 to divisor − 1, also where NC is negative".
+    pub quotient: i64,
+    pub remainder: u64,
+}
+
 /// What pricing a request by a book comes to, with what the ledger needs of the two.
 #[derive(Debug, Clone, Copy, PartialEq, Eq)]
 pub struct Bill {
@@ -48,12 +59,12 @@ pub struct Bill {
     pub entered: u64,
     /// borne by the company = used + (1 − a) × (MC + CC2) + DE
     pub borne: u64,
-    /// CC/IC in percent
-    pub reliance: Option<i64>,
-    /// CC/(CC+IR) in percent
-    pub upfront: Option<i64>,
-    /// NC/(CC+IR) in percent
-    pub nc_ratio: Option<i64>,
+    /// CC/IC; none where the divisor is 0
+    pub reliance: Option<Percentage>,
+    /// CC/(CC+IR)
+    pub upfront: Option<Percentage>,
+    /// NC/(CC+IR)
+    pub nc_ratio: Option<Percentage>,
     /// The book's threshold, fee, minimum and term.
     pub threshold: u32,
     pub fee: u32,
@@ -180,6 +191,16 @@ pub fn percent(numerator: i64, divisor: u64) -> Option<i64> {
     Some(if numerator < 0 { -rounded } else { rounded })
 }
 
+/// A percentage with its quotient and remainder; none where the divisor is 0.
+pub fn percentage(numerator: i64, divisor: u64) -> Option<Percentage> {
+    let rounded = percent(numerator, divisor)?;
+    // 100 × numerator is within 10^15 of 0 for every bill, and its divisors are below 10^13
+    let (hundredfold, divisor) = (100 * numerator, divisor as i64);
+    let quotient = hundredfold.div_euclid(divisor);
+    let remainder = hundredfold.rem_euclid(divisor) as u64;
+    Some(Percentage { rounded, quotient, remainder })
+}
+
 /// The bill, with the tiers charged at `rates`.
 fn bill(book: &RateBook, request: &Request, rates: &[u32; TIERS]) -> Bill {
     let amounts = request.amounts;
@@ -202,9 +223,9 @@ fn bill(book: &RateBook, request: &Request, rates: &[u32; TIERS]) -> Bill {
         x: (me - me.min(credit) + ce) as u32,
         entered: ic + de,
         borne: used + uncharged + de,
-        reliance: percent(cc as i64, ic),
-        upfront: percent(cc as i64, cc + ir),
-        nc_ratio: percent(nc, cc + ir),
+        reliance: percentage(cc as i64, ic),
+        upfront: percentage(cc as i64, cc + ir),
+        nc_ratio: percentage(nc, cc + ir),
         threshold: book.scheme_terms.threshold,
         fee: book.scheme_terms.fee,
         minimum: book.scheme_terms.minimum,
@@ -248,5 +269,18 @@ mod tests {
         assert_eq!(percent(3, 200), Some(2));
         assert_eq!(percent(0, 0), None);
         assert_eq!(percent(-1_000_000_000_000, 1), Some(-100_000_000_000_000));
+    }
+
+    #[test]
+    fn exact_percentages() {
+        let exact = |numerator, divisor| percentage(numerator, divisor).map(|exact| (exact.quotient, exact.remainder));
+        assert_eq!(
+            [(1, 2), (1, 3), (0, 3), (7, 7)].map(|(n, d)| exact(n, d).unwrap()),
+            [(50, 0), (33, 1), (0, 0), (100, 0)]
+        );
+        assert_eq!([-1, -2, -3].map(|numerator| exact(numerator, 200).unwrap()), [(-1, 100), (-1, 0), (-2, 100)]);
+        assert_eq!(exact(-1, 201), Some((-1, 101)));
+        assert_eq!(exact(-1_000_000_000_000, 10_000_001), Some((-10_000_000, 10_000_000)));
+        assert_eq!([exact(0, 0), exact(1, 0), exact(-1, 0)], [None; 3]);
     }
 }

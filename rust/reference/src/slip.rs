@@ -1,8 +1,7 @@
-//! The slip's text. Document 01, 'The slip'.
+//! The slip's text. Document 01, 'The slip', and document 02, E10.
 
-use crate::pricing::{price, Bill};
+use crate::pricing::{price, Bill, Percentage, Reconciliation};
 use crate::refusal::Refusal;
-use std::fmt;
 
 /// The slip for a rate book and a request: the figures, or "the one line `REFUSED n file place`".
 pub fn slip(book: &[u8], request: &[u8]) -> Vec<u8> {
@@ -13,32 +12,25 @@ pub fn slip(book: &[u8], request: &[u8]) -> Vec<u8> {
     .into_bytes()
 }
 
-/// "each line ended by byte 0A, cents, then the three percentages"
+/// "each line ended by byte 0A, cents, then the three percentages"; document 02, E10: "three lines after NCRATIO, named
+/// RELIANCE-R, UPFRONT-R and NCRATIO-R".
 fn figures(bill: &Bill) -> String {
-    let amounts = &bill.reconciliation;
-    format!(
-        "CC {}\nIC {}\nIR {}\nNIC {}\nNC {}\nRELIANCE {}\nUPFRONT {}\nNCRATIO {}\n",
-        amounts.cc,
-        amounts.ic,
-        amounts.ir,
-        amounts.nic,
-        amounts.nc,
-        Percentage(bill.reliance),
-        Percentage(bill.upfront),
-        Percentage(bill.nc_ratio),
-    )
+    let Reconciliation { cc, ic, ir, nic, nc, .. } = bill.reconciliation;
+    let amounts = format!("CC {cc}\nIC {ic}\nIR {ir}\nNIC {nic}\nNC {nc}\n");
+    let percentages = [("RELIANCE", bill.reliance), ("UPFRONT", bill.upfront), ("NCRATIO", bill.nc_ratio)];
+    let rounded = percentages.map(|(name, percentage)| format!("{name} {}\n", rounded(percentage)));
+    let exact = percentages.map(|(name, percentage)| format!("{name}-R {}\n", exact(percentage)));
+    amounts + &rounded.concat() + &exact.concat()
 }
 
-/// A percentage: "none" is written `-`.
-struct Percentage(Option<i64>);
+/// "none" is written `-`.
+fn rounded(percentage: Option<Percentage>) -> String {
+    percentage.map_or("-".to_string(), |percentage| percentage.rounded.to_string())
+}
 
-impl fmt::Display for Percentage {
-    fn fmt(&self, f: &mut fmt::Formatter<'_>) -> fmt::Result {
-        match self.0 {
-            Some(whole) => whole.fmt(f),
-            None => f.write_str("-"),
-        }
-    }
+/// "each with quotient, a blank, remainder; `-` where the divisor is 0"
+fn exact(percentage: Option<Percentage>) -> String {
+    percentage.map_or("-".to_string(), |percentage| format!("{} {}", percentage.quotient, percentage.remainder))
 }
 
 /// "A refusal is the one line `REFUSED n file place`."

@@ -55,7 +55,8 @@ fn m4_the_slip() {
     let figures = bill.reconciliation;
     assert_eq!((figures.mc, figures.ir, figures.cc, figures.nc), (108_000, 859_800, 1_147_630, 300_930));
     assert_eq!((figures.ic, figures.nic, figures.cc2), (1_706_500, 846_700, 0));
-    assert_eq!((bill.reliance, bill.upfront, bill.nc_ratio), (Some(67), Some(57), Some(15)));
+    let percentages = [bill.reliance, bill.upfront, bill.nc_ratio].map(|percentage| percentage.unwrap().rounded);
+    assert_eq!(percentages, [67, 57, 15]);
     assert_eq!((bill.x, bill.entered, bill.borne), (1_598_500 - 558_870, 1_706_500, 558_870));
     assert_eq!((bill.threshold, bill.fee, bill.minimum, bill.term), (5_000_000, 20_000, 20_000, 84));
     assert_eq!((bill.person, bill.month, bill.capacity, bill.scheme, bill.mark), (4_711, 24_315, 15_000, 0, 0));

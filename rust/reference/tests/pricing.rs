@@ -4,7 +4,7 @@
 use generate::request::pair;
 use generate::{Book, Random, Request};
 use reference::pricing::{next_discount_factor, DISCOUNT_ONE};
-use reference::{price, Bill};
+use reference::{price, Bill, Percentage};
 
 fn factor(list: &[u16], year: usize) -> i128 {
     i128::from(*list.get(year).or(list.last()).unwrap())
@@ -42,6 +42,19 @@ fn percent(numerator: i128, divisor: i128) -> Option<i64> {
     let over = numerator.abs() * 100 % divisor;
     let rounded = whole + i128::from(2 * over >= divisor);
     Some((rounded * numerator.signum()) as i64)
+}
+
+/// The rounded percentage is the documents', the exact one adds up, and the one follows from the other.
+fn compare_percentage(found: Option<Percentage>, numerator: i128, divisor: i128) {
+    assert_eq!(found.map(|found| found.rounded), percent(numerator, divisor));
+    let Some(Percentage { rounded, quotient, remainder }) = found else {
+        return;
+    };
+    let (quotient, remainder) = (i128::from(quotient), i128::from(remainder));
+    assert_eq!(100 * numerator, quotient * divisor + remainder);
+    assert!((0..divisor).contains(&remainder));
+    let up = 2 * remainder > divisor || (2 * remainder == divisor && quotient >= 0);
+    assert_eq!(i128::from(rounded), quotient + i128::from(up));
 }
 
 /// ME MC CE CC2 TW HR OL IC IR CC NIC NC, X, entered, borne.
@@ -86,10 +99,9 @@ fn compare(book: &Book, request: &Request) {
     let wanted = amounts(book, request);
     assert_eq!(of_bill(&bill), wanted, "{book:?} {request:?}");
     let [.., ic, ir, cc, _, nc, _, _, _] = wanted;
-    assert_eq!(
-        [bill.reliance, bill.upfront, bill.nc_ratio],
-        [percent(cc, ic), percent(cc, cc + ir), percent(nc, cc + ir)]
-    );
+    compare_percentage(bill.reliance, cc, ic);
+    compare_percentage(bill.upfront, cc, cc + ir);
+    compare_percentage(bill.nc_ratio, nc, cc + ir);
     assert_eq!(i128::from(bill.entered), cc + i128::from(bill.borne), "cost entered = charged + borne");
     let sums = bill.reconciliation;
     assert_eq!(i128::from(sums.cc) - i128::from(sums.nc), sums.nic.into(), "CC − NC = NIC");

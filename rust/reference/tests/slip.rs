@@ -10,13 +10,15 @@ fn text(book: &[u8], request: &[u8]) -> String {
 
 #[test]
 fn the_documents_slip_byte_for_byte() {
-    let wanted = b"CC 1147630\nIC 1706500\nIR 859800\nNIC 846700\nNC 300930\nRELIANCE 67\nUPFRONT 57\nNCRATIO 15\n";
-    assert_eq!(slip(&Book::slip().encode(), &Request::slip().encode()), wanted);
+    let wanted = "CC 1147630\nIC 1706500\nIR 859800\nNIC 846700\nNC 300930\nRELIANCE 67\nUPFRONT 57\nNCRATIO 15\n\
+        RELIANCE-R 67 427500\nUPFRONT-R 57 339490\nNCRATIO-R 14 1988980\n";
+    assert_eq!(slip(&Book::slip().encode(), &Request::slip().encode()), wanted.as_bytes());
 }
 
 #[test]
 fn none_is_a_dash() {
-    let wanted = "CC 0\nIC 0\nIR 0\nNIC 0\nNC 0\nRELIANCE -\nUPFRONT -\nNCRATIO -\n";
+    let wanted = "CC 0\nIC 0\nIR 0\nNIC 0\nNC 0\nRELIANCE -\nUPFRONT -\nNCRATIO -\n\
+        RELIANCE-R -\nUPFRONT-R -\nNCRATIO-R -\n";
     assert_eq!(text(&Book::slip().encode(), &Request::of_nothing().encode()), wanted);
 }
 
@@ -27,13 +29,14 @@ fn negative_figures_and_percentages() {
     // NC = IR − MC is positive; without revenue it is −MC
     assert!(text(&book.encode(), &request.encode()).contains("NC 751800\n"));
     let request = Request { distribution_revenue: 0, ..request };
-    let wanted = "CC 20000000\nIC 20108000\nIR 0\nNIC 20108000\nNC -108000\nRELIANCE 99\nUPFRONT 100\nNCRATIO -1\n";
+    let wanted = "CC 20000000\nIC 20108000\nIR 0\nNIC 20108000\nNC -108000\nRELIANCE 99\nUPFRONT 100\nNCRATIO -1\n\
+        RELIANCE-R 99 9308000\nUPFRONT-R 100 0\nNCRATIO-R -1 9200000\n";
     assert_eq!(text(&book.encode(), &request.encode()), wanted);
     // −108,000 of 21,600,001 is just above −1/2 percent and prints 0
     let request = Request { me: 21_600_001, ..request };
-    assert!(text(&book.encode(), &request.encode()).ends_with("NCRATIO 0\n"));
+    assert!(text(&book.encode(), &request.encode()).contains("NCRATIO 0\n"));
     let request = Request { me: 21_600_000, ..request };
-    assert!(text(&book.encode(), &request.encode()).ends_with("NCRATIO -1\n"));
+    assert!(text(&book.encode(), &request.encode()).contains("NCRATIO -1\n"));
     let request = Request { me: 0, ..Request::slip() };
     assert!(text(&Book::slip().encode(), &request.encode()).contains("NIC -751800\n"));
 }

@@ -20,7 +20,7 @@ use Rattle.revenue.specs.Revenue.{opexFactor, incrementalRevenue}
 use Rattle.capacity.specs.Capacity.{bespokeAllowed}
 use Rattle.reconciliation.specs.Percent.{percentOf}
 use Rattle.reconciliation.specs.Reconciliation.{reconciliationOf}
-use Rattle.reconciliation.specs.declared.Percent.the-variants.{Whole}
+use Rattle.reconciliation.specs.Cases.Reconciliation.{whole}
 use Rattle.charge.specs.Price.{zoneFound, valuesPriced, requestPriced, priceOf}
 use Rattle.charge.specs.declared.Bill.{Bill}
 use Rattle.charge.specs.declared.Pricing.{Pricing}
@@ -127,8 +127,8 @@ pub record MarkedFigures : Type 0 where
   -- "posted 8,500: 12,751 and 6,799 allowed; 12,750 and 6,800 not"
   pub m5 :
       (bespokeAllowed 8500 12751 ≡ true) × (bespokeAllowed 8500 6799 ≡ true) × (bespokeAllowed 8500 12750 ≡ false) × (bespokeAllowed 8500 6800 ≡ false)
-  -- "−1 of 200 is −1 percent"
-  pub m9 : percentOf (negsuc 0) 200 ≡ Whole (negsuc 0)
+  -- "−1 of 200 is −1 percent": rounded, and rounded down with a remainder of 100
+  pub m9 : percentOf (negsuc 0) 200 ≡ whole (negsuc 0) (negsuc 0) 100
 
 pub marked-figures : MarkedFigures
 unfolding checkFrom discount

@@ -38,7 +38,9 @@ use Rattle.capacity.specs.Theorems.Capacity.{capacity-cost-at-most}
 use Rattle.capacity.specs.declared.BespokeRates.{BespokeRates}
 use Rattle.capacity.specs.declared.BespokeRates.the-variants.{Allowed, NotAllowed}
 use Rattle.reconciliation.specs.FigureLimits.{CostsWithin}
+use Rattle.reconciliation.specs.ExactPercent.{ExactPercentages}
 use Rattle.reconciliation.specs.Theorems.Reconciliation.{reconciliation-bounded}
+use Rattle.reconciliation.specs.Theorems.ExactPercent.{percentages-exact}
 use Rattle.charge.specs.Price.{zoneFound, distributionOf, transmissionOf, incrementalRevenueOf, tiersOf, costsOf, billOf, valuesPriced, priceOf}
 use Rattle.charge.specs.BillLimits.{BillWithin}
 use Rattle.charge.specs.Theorems.Price.{zone-not-in-book, bespoke-not-allowed, bill-in-zone, request-not-accepted, request-priced, book-not-accepted, book-accepted}
@@ -213,3 +215,9 @@ pub priced-reconciles : (bookFile requestFile : List ℕ) (bill : Bill) → Byte
 priced-reconciles bookFile requestFile bill bytes bytes′ priced =
     let figures = priced-within bookFile requestFile bill bytes bytes′ priced .figures in
     (sym (figures .entered), figures .net)
+
+-- Document 02, E10: "100 × numerator = quotient × divisor + remainder, remainder from 0 to divisor − 1, also where NC is negative", of all three percentages of
+-- every bill from the bytes on; and each rounded percentage follows from its quotient and remainder.
+pub priced-percentages-exact : (bookFile requestFile : List ℕ) (bill : Bill) → priceOf bookFile requestFile ≡ Priced bill → ExactPercentages (bill .reconciliation)
+priced-percentages-exact bookFile requestFile bill priced =
+    subst (λ (bill : Bill). ExactPercentages (bill .reconciliation)) (sym (priced-by bookFile requestFile bill priced .is)) (percentages-exact _ _ _ _)

@@ -77,9 +77,27 @@ percent-is-there-requires-3 c κs = search needs
 percent-figure-requires-3 : tie.Need-percent-figure-requires-3
 percent-figure-requires-3 c κs = search needs
 
+percent-quotient-requires : tie.Need-percent-quotient-requires
+percent-quotient-requires c κs = search needs
+
+percent-remainder-requires : tie.Need-percent-remainder-requires
+percent-remainder-requires c κs = search needs
+
+percent-quotient-requires-2 : tie.Need-percent-quotient-requires-2
+percent-quotient-requires-2 c κs = search needs
+
+percent-remainder-requires-2 : tie.Need-percent-remainder-requires-2
+percent-remainder-requires-2 c κs = search needs
+
+percent-quotient-requires-3 : tie.Need-percent-quotient-requires-3
+percent-quotient-requires-3 c κs = search needs
+
+percent-remainder-requires-3 : tie.Need-percent-remainder-requires-3
+percent-remainder-requires-3 c κs = search needs
+
 returns : tie.Need-returns
 returns c =
-    let last = c .before in
+    let last = c .before .before .before .before .before .before .before in
     let after13 = last .before .before .before .before .before .before in
     let after12 = after13 .before in
     let after11 = after12 .before in
@@ -116,6 +134,12 @@ returns c =
       back (last .before .before .percent-figure2 .ensures) (last .before .before .percent-figure2 .ok),
       back (last .before .percent-is-there3 .ensures) (last .before .percent-is-there3 .ok),
       back (last .percent-figure3 .ensures) (last .percent-figure3 .ok),
+      back (c .before .before .before .before .before .before .percent-quotient .ensures) (c .before .before .before .before .before .before .percent-quotient .ok),
+      back (c .before .before .before .before .before .percent-remainder .ensures) (c .before .before .before .before .before .percent-remainder .ok),
+      back (c .before .before .before .before .percent-quotient2 .ensures) (c .before .before .before .before .percent-quotient2 .ok),
+      back (c .before .before .before .percent-remainder2 .ensures) (c .before .before .before .percent-remainder2 .ok),
+      back (c .before .before .percent-quotient3 .ensures) (c .before .before .percent-quotient3 .ok),
+      back (c .before .percent-remainder3 .ensures) (c .before .percent-remainder3 .ok),
     )
 
 pub figure-places-spec : {M : Type 1} → statement M
@@ -141,4 +165,10 @@ figure-places-spec =
     percent-figure-requires-2
     percent-is-there-requires-3
     percent-figure-requires-3
+    percent-quotient-requires
+    percent-remainder-requires
+    percent-quotient-requires-2
+    percent-remainder-requires-2
+    percent-quotient-requires-3
+    percent-remainder-requires-3
     returns)

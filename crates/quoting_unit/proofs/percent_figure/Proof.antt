@@ -14,9 +14,10 @@ enum-told c = search needs
 
 returns : tie.Need-returns
 returns c =
-    let n = c .before .percent .given .0 .0 in
+    let matched = c .before .before in
+    let n = matched .percent .given .0 .0 .rounded in
     let fits : SFits w64 n = search needs in
-    rw (c .before .percent .given .1) (toZ-ofZ w64 n fits)
+    rw (matched .percent .given .1) (toZ-ofZ w64 n fits)
 
 returns-2 : tie.Need-returns-2
 returns-2 c = rw (c .enum-told .given .1)

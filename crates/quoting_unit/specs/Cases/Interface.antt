@@ -32,11 +32,11 @@ results-apart = (refl, refl, refl, refl)
 
 -- ---- the figures
 
--- ME MC CE CC2 TW HR OL IC IR CC NIC NC X entered borne, then reliance, upfront and NC ratio
+-- ME MC CE CC2 TW HR OL IC IR CC NIC NC X entered borne, then reliance, upfront and NC ratio, then the quotient and remainder of each
 pub slip-placed :
     figureValues slipReconciliation
     ≡ pos 1598500 ∷ pos 108000 ∷ pos 0 ∷ pos 0 ∷ pos 0 ∷ pos 0 ∷ pos 0 ∷ pos 1706500 ∷ pos 859800 ∷ pos 1147630 ∷ pos 846700 ∷ pos 300930 ∷ pos 1039630 ∷
-    pos 1706500 ∷ pos 558870 ∷ pos 1 ∷ pos 67 ∷ pos 1 ∷ pos 57 ∷ pos 1 ∷ pos 15 ∷ []
+    pos 1706500 ∷ pos 558870 ∷ pos 1 ∷ pos 67 ∷ pos 1 ∷ pos 57 ∷ pos 1 ∷ pos 15 ∷ pos 67 ∷ pos 427500 ∷ pos 57 ∷ pos 339490 ∷ pos 14 ∷ pos 1988980 ∷ []
 slip-placed = refl
 
 pub answers-written :

@@ -13,26 +13,27 @@ use Rattle.calls.specs.Decision.{accept, handOver}
 use Rattle.quoting_unit.specs.Interface.{lentFigures, lentOutput, lentBoth, lentAnswer}
 use Rattle.quoting_unit.specs.Unit.{price, newLedger, onLedger, checkLedger, tooShort, ledgerMade, leavesBy, unitCall}
 
--- 5 places and 4, 21 places and 20
+-- 5 places and 4, 27 places and 26, and the 21 that the figures once had
 pub buffer-limits :
     (tooShort newLedger (lentOutput [] (replicate 5 0)) ≡ false)
     × (tooShort newLedger (lentOutput [] (replicate 4 0)) ≡ true)
-    × (tooShort (price [] []) (lentFigures (replicate 21 (pos 0))) ≡ false)
-    × (tooShort (price [] []) (lentFigures (replicate 20 (pos 0))) ≡ true)
-    × (tooShort (onLedger [] 0 (accept [] [])) (lentBoth [] (replicate 21 (pos 0)) (replicate 5 0)) ≡ false)
-    × (tooShort (onLedger [] 0 (accept [] [])) (lentBoth [] (replicate 20 (pos 0)) (replicate 5 0)) ≡ true)
-    × (tooShort (onLedger [] 0 (accept [] [])) (lentBoth [] (replicate 21 (pos 0)) (replicate 4 0)) ≡ true)
-buffer-limits = (refl, refl, refl, refl, refl, refl, refl)
+    × (tooShort (price [] []) (lentFigures (replicate 27 (pos 0))) ≡ false)
+    × (tooShort (price [] []) (lentFigures (replicate 26 (pos 0))) ≡ true)
+    × (tooShort (price [] []) (lentFigures (replicate 21 (pos 0))) ≡ true)
+    × (tooShort (onLedger [] 0 (accept [] [])) (lentBoth [] (replicate 27 (pos 0)) (replicate 5 0)) ≡ false)
+    × (tooShort (onLedger [] 0 (accept [] [])) (lentBoth [] (replicate 26 (pos 0)) (replicate 5 0)) ≡ true)
+    × (tooShort (onLedger [] 0 (accept [] [])) (lentBoth [] (replicate 27 (pos 0)) (replicate 4 0)) ≡ true)
+buffer-limits = (refl, refl, refl, refl, refl, refl, refl, refl)
 
 -- ---- whole calls, on buffers with a place more than they need, with as many and with one fewer
 
 -- a request with the slip's figures, and one whose third tier's bespoke rate isn't allowed
 pub price-cases :
-    (unitCall (price slipBook (schemeRequest 1039630 24315 5000 1)) (lentFigures (replicate 22 (pos 7)))
+    (unitCall (price slipBook (schemeRequest 1039630 24315 5000 1)) (lentFigures (replicate 28 (pos 7)))
     ≡ record { result = 0; lent = lentFigures (figureValues slipReconciliation ++ (pos 7 ∷ [])) })
-    × (unitCall (price slipBook (bespokeRequest 12750 57001)) (lentFigures (replicate 21 (pos 7)))
-    ≡ record { result = 805; lent = lentFigures (replicate 21 (pos 7)) })
-    × (unitCall (price slipBook slipRequest) (lentFigures (replicate 20 (pos 7))) ≡ record { result = 14; lent = lentFigures (replicate 20 (pos 7)) })
+    × (unitCall (price slipBook (bespokeRequest 12750 57001)) (lentFigures (replicate 27 (pos 7)))
+    ≡ record { result = 805; lent = lentFigures (replicate 27 (pos 7)) })
+    × (unitCall (price slipBook slipRequest) (lentFigures (replicate 26 (pos 7))) ≡ record { result = 14; lent = lentFigures (replicate 26 (pos 7)) })
 price-cases = (rw (scheme-bills .joining), rw (pricing-refusals .1), refl)
 
 pub new-ledger-cases :

@@ -3,7 +3,8 @@ use mathlib.Core.Path.{_≡_, refl}
 use mathlib.Core.List.{List, [], _∷_}
 use lib.IntN.{ℤ, pos, negsuc}
 use Rattle.reconciliation.specs.Figures.{figureValues}
-use Rattle.reconciliation.specs.declared.Percent.the-variants.{Whole, None}
+use Rattle.reconciliation.specs.Cases.Reconciliation.{whole}
+use Rattle.reconciliation.specs.declared.Percent.the-variants.{None}
 use Rattle.reconciliation.specs.declared.Reconciliation.{Reconciliation}
 
 -- every figure another one, NC negative, and no percentage of IC
@@ -26,14 +27,14 @@ sample =
       entered = 114;
       borne = 115;
       reliance = None;
-      upfront = Whole (pos 57);
-      «nc_ratio» = Whole (negsuc 6);
+      upfront = whole (pos 57) (pos 56) 117;
+      «nc_ratio» = whole (negsuc 6) (negsuc 7) 119;
     }
 
 abbrev pub sampleFigures : List ℤ
 sampleFigures =
     pos 101 ∷ pos 102 ∷ pos 103 ∷ pos 104 ∷ pos 105 ∷ pos 106 ∷ pos 107 ∷ pos 108 ∷ pos 109 ∷ pos 110 ∷ pos 111 ∷ negsuc 111 ∷ pos 113 ∷ pos 114 ∷ pos 115 ∷
-    pos 0 ∷ pos 0 ∷ pos 1 ∷ pos 57 ∷ pos 1 ∷ negsuc 6 ∷ []
+    pos 0 ∷ pos 0 ∷ pos 1 ∷ pos 57 ∷ pos 1 ∷ negsuc 6 ∷ pos 0 ∷ pos 0 ∷ pos 56 ∷ pos 117 ∷ negsuc 7 ∷ pos 119 ∷ []
 
 pub sample-told : figureValues sample ≡ sampleFigures
 sample-told = refl

@@ -1,17 +1,18 @@
 -- The charge and what the company bears make up the cost entered, and the bounds that a ledger needs.
-use Prim.Native.Nat.{ℕ, zero, suc, _+_, _*_, _-_, _<_, _≤_}
+use Prim.Native.Nat.{ℕ, zero, suc, _+_, _*_, _-_, _/_, _<_, _≤_}
 use mathlib.Core.Path.{_≡_, refl, ap, sym, subst, _∙_}
 use mathlib.Core.Bool.{Bool, true, false, cond}
-use native.Mathlib.Nat.{mul-le-mul-left, div-lt-iff-lt-mul}
+use native.Mathlib.Nat.{mul-le-mul-left, div-le-self, div-lt-iff-lt-mul}
 use native.Mathlib.Omega.{arith}
 use borrow.Author.Tests.{ne-eqb}
 use lib.Dec.{ltb}
 use lib.IntN.{ℤ, pos, negsuc, negℤ, natAbs, _+ℤ_, _-ℤ_, +ℤ-assoc, +ℤ-comm, negℤ-+ℤ, negℤ-negℤ, pos-+ℤ-pos}
 use Rattle.field_values.specs.Limits.{highestShare}
 use Rattle.revenue.specs.RevenueLimits.{highestIncrementalRevenue}
-use Rattle.reconciliation.specs.Percent.{nearest, rounded, percentOf}
+use Rattle.reconciliation.specs.Percent.{nearest, rounded, roundedUp, quotientOf, percentOf}
 use Rattle.reconciliation.specs.Reconciliation.{icOf, usedOf, ccOf, notChargedOf, nicOf, ncOf, enteredOf, borneOf, reconciliationOf}
-use Rattle.reconciliation.specs.FigureLimits.{CostsWithin, PercentWithin, FiguresWithin}
+use Rattle.reconciliation.specs.FigureLimits.{highestDivisor, CostsWithin, PercentWithin, RemainderWithin, FiguresWithin}
+use Rattle.reconciliation.specs.Theorems.ExactPercent.{divided}
 use Rattle.reconciliation.specs.declared.Costs.{Costs}
 
 -- a − b − c is a − (b + c)
@@ -58,13 +59,13 @@ difference-size a (suc b) limit h k = by (ltb a (suc b))
     by true = omega arith
     by false = omega arith
 
+size-of-negative : (n : ℕ) → natAbs (negℤ (pos n)) ≡ n
+size-of-negative zero = refl
+size-of-negative (suc n) = refl
+
 rounded-size : (z : ℤ) (divisor : ℕ) → natAbs (rounded z divisor) ≡ nearest (natAbs z) divisor
 rounded-size (pos n) divisor = refl
-rounded-size (negsuc n) divisor = by (nearest (suc n) divisor)
-  where
-    by : (k : ℕ) → natAbs (negℤ (pos k)) ≡ k
-    by zero = refl
-    by (suc k) = refl
+rounded-size (negsuc n) divisor = size-of-negative (nearest (suc n) divisor)
 
 -- a part is at most 100 percent of its whole, and no percentage more than that of a divisor of 1
 part-percent : (n divisor : ℕ) → 0 < divisor → n ≤ divisor → nearest n divisor ≤ 100
@@ -75,10 +76,24 @@ any-percent n divisor limit some h =
     let whole : limit * 1 ≤ limit * divisor = mul-le-mul-left limit some in
     omega (arith, div-lt-iff-lt-mul {k = 2 * divisor} {x = 200 * n + divisor} {y = 100 * limit + 1} (omega arith) .1 (omega arith))
 
-percent-within : (z : ℤ) (divisor limit : ℕ) → (0 < divisor → nearest (natAbs z) divisor ≤ limit) → PercentWithin limit (percentOf z divisor)
+-- rounded down, the same bounds hold
+part-quotient : (n divisor : ℕ) → 0 < divisor → n ≤ divisor → 100 * n / divisor ≤ 100
+part-quotient n divisor some h = omega (arith, div-lt-iff-lt-mul {k = divisor} {x = 100 * n} {y = 101} some .1 (omega arith))
+
+any-quotient : (z : ℤ) (divisor limit : ℕ) → natAbs z ≤ limit → natAbs (quotientOf z divisor) ≤ 100 * limit
+any-quotient (pos n) divisor limit h = omega (arith, div-le-self (100 * n) divisor)
+any-quotient (negsuc n) divisor limit h = rw (size-of-negative (roundedUp (suc n) divisor)) (omega (arith, div-le-self (100 * suc n - 1) divisor))
+
+percent-within : (z : ℤ) (divisor limit : ℕ) → (0 < divisor → (nearest (natAbs z) divisor ≤ limit) × (natAbs (quotientOf z divisor) ≤ limit)) →
+    PercentWithin limit (percentOf z divisor)
 percent-within z zero limit small = tt
 percent-within z (suc d) limit small =
-    rw (ne-eqb (suc d) 0 (λ e. omega arith)) (subst (λ (n : ℕ). n ≤ limit) (sym (rounded-size z (suc d))) (small (omega arith)))
+    rw (ne-eqb (suc d) 0 (λ e. omega arith))
+    (subst (λ (n : ℕ). n ≤ limit) (sym (rounded-size z (suc d))) (small (omega arith) .0), small (omega arith) .1)
+
+remainder-within : (z : ℤ) (divisor : ℕ) → divisor ≤ highestDivisor → RemainderWithin (percentOf z divisor)
+remainder-within z zero h = tt
+remainder-within z (suc d) h = rw (ne-eqb (suc d) 0 (λ e. omega arith)) (omega (arith, divided z (suc d) (omega arith) .range))
 
 pub reconciliation-bounded :
     {costs : Costs}
@@ -105,7 +120,15 @@ reconciliation-bounded {costs} {ir} {a} {share} w i h s =
       net = whole .1;
       nic = difference-size (icOf costs) ir _ (omega arith) i;
       nc = nc;
-      reliance = percent-within (pos cc) (icOf costs) 100 (λ some. part-percent cc (icOf costs) some (omega (arith, whole .0)));
-      upfront = percent-within (pos cc) (cc + ir) 100 (λ some. part-percent cc (cc + ir) some (omega arith));
-      nc-ratio = percent-within (ncOf costs ir a share) _ _ (λ some. any-percent _ (cc + ir) highestIncrementalRevenue some nc);
+      reliance =
+          percent-within (pos cc) (icOf costs) 100
+          (λ some. (part-percent cc (icOf costs) some (omega (arith, whole .0)), part-quotient cc (icOf costs) some (omega (arith, whole .0))));
+      upfront =
+          percent-within (pos cc) (cc + ir) 100 (λ some. (part-percent cc (cc + ir) some (omega arith), part-quotient cc (cc + ir) some (omega arith)));
+      nc-ratio =
+          percent-within (ncOf costs ir a share) (cc + ir) _
+          (λ some. (any-percent _ (cc + ir) highestIncrementalRevenue some nc, any-quotient (ncOf costs ir a share) (cc + ir) highestIncrementalRevenue nc));
+      reliance-remainder = remainder-within (pos cc) (icOf costs) (omega arith);
+      upfront-remainder = remainder-within (pos cc) (cc + ir) (omega (arith, whole .0));
+      nc-ratio-remainder = remainder-within (ncOf costs ir a share) (cc + ir) (omega (arith, whole .0));
     }

@@ -24,9 +24,10 @@ with-bytes-requires c κs = search needs
 
 returns : tie.Need-returns
 returns c =
-    let n = c .before .before .percent .given .0 .0 in
+    let matched = c .before .before .before in
+    let n = matched .percent .given .0 .0 .rounded in
     let fits : SFits w64 n = search needs in
-    rw (c .before .before .percent .given .1, ← toZ-ofZ w64 n fits) (c .with-signed .ensures)
+    rw (matched .percent .given .1, ← toZ-ofZ w64 n fits) (c .with-signed .ensures)
 
 returns-2 : tie.Need-returns-2
 returns-2 c = rw (c .before .before .enum-told .given .1) (c .with-bytes .ensures .0, omega arith)

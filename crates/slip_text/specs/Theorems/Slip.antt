@@ -20,7 +20,7 @@ use Rattle.charge.specs.Price.{priceOf}
 use Rattle.charge.specs.Cases.MarkedFigures.{slipBook, slipRequest, slip-priced}
 use Rattle.charge.specs.declared.Pricing.{Pricing}
 use Rattle.charge.specs.declared.Pricing.the-variants.{Priced, NotPriced}
-use Rattle.slip_text.specs.Slip.{decimalFrom, decimal, signedDecimal, percentText, slipOf, slipWritten, slipBuffer, room}
+use Rattle.slip_text.specs.Slip.{decimalFrom, decimal, signedDecimal, percentText, exactText, slipOf, slipWritten, slipBuffer, room}
 use Rattle.slip_text.specs.SlipReading.{readDecimal, readSigned, ascii}
 use Rattle.slip_text.specs.declared.SlipWritten.the-variants.{Written, Refused}
 
@@ -82,6 +82,10 @@ digits-short (suc most) n = by (digits-short most (n / 10)) (ltb n 10)
 pub decimal-short : (n : ℕ) → length (decimal n) ≤ 20
 decimal-short n = digits-short 20 n
 
+-- as many as the number's size allows
+pub decimal-within : (most n : ℕ) → n < 10 ^ suc most → n < 10 ^ 20 → length (decimal n) ≤ suc most
+decimal-within most n h b = rw (enough-digits most n h 19 b) (digits-short (suc most) n)
+
 -- a printed number reads back as itself
 pub decimal-reads-back : (n : ℕ) → n < 10 ^ 20 → readDecimal (decimal n) ≡ n
 decimal-reads-back n h = digits-induction (λ n ds. readDecimal ds ≡ n) one more 19 n h
@@ -103,7 +107,7 @@ decimal-digits n h = digits-induction (λ n ds. (d : ℕ) → List·Memᴰ d ds 
     more n ds h ih d m = ⊎-elim (ih d) (λ l. one (n % 10) (omega arith) d l) (List·Memᴰ·append-cases ds m)
 
 -- no leading zero
-first-digit : (n : ℕ) → n < 10 ^ 20 → (0 < length (decimal n)) × (0 < n → 48 < getD (decimal n) 0 0)
+pub first-digit : (n : ℕ) → n < 10 ^ 20 → (0 < length (decimal n)) × (0 < n → 48 < getD (decimal n) 0 0)
 first-digit n h = digits-induction (λ n ds. (0 < length ds) × (0 < n → 48 < getD ds 0 0)) one more 19 n h
   where
     one : (n : ℕ) → n < 10 → (0 < 1) × (0 < n → 48 < 48 + n)
@@ -132,8 +136,12 @@ signed-short (pos n) = omega (arith, decimal-short n)
 signed-short (negsuc n) = omega (arith, decimal-short (suc n))
 
 percent-short : (p : Percent) → length (percentText p) ≤ 21
-percent-short (Whole n) = signed-short n
+percent-short (Whole p) = signed-short (p .rounded)
 percent-short None = omega arith
+
+exact-short : (p : Percent) → length (exactText p) ≤ 42
+exact-short (Whole p) = simp length-append (omega (arith, signed-short (p .quotient), decimal-short (p .remainder)))
+exact-short None = omega arith
 
 -- every slip fits in the room of a text
 pub slip-fits : (pricing : Pricing) → length (slipOf pricing) ≤ room
@@ -141,7 +149,7 @@ unfolding slipOf flatten
 slip-fits (Priced bill) =
     let r = bill .reconciliation in
     simp length-append
-    (omega (arith, decimal-short (r .cc), decimal-short (r .ic), decimal-short (r .ir), signed-short (r .nic), signed-short (r .nc), percent-short (r .reliance), percent-short (r .upfront), percent-short (r .«nc_ratio»)))
+    (omega (arith, decimal-short (r .cc), decimal-short (r .ic), decimal-short (r .ir), signed-short (r .nic), signed-short (r .nc), percent-short (r .reliance), percent-short (r .upfront), percent-short (r .«nc_ratio»), exact-short (r .reliance), exact-short (r .upfront), exact-short (r .«nc_ratio»)))
 slip-fits (NotPriced r) =
     simp length-append (omega (arith, decimal-short (r .number), decimal-short (r .file), decimal-short (r .place)))
 
@@ -153,9 +161,9 @@ refused-slip-changes-nothing pricing out r = by (ltb (length out) (length (slipO
     by true e = refl
     by false e = impossible cc
 
--- document 01, 'The slip': its eight lines, from the bytes of its book and request on
+-- document 01, 'The slip', with document 02's three lines: all eleven, from the bytes of its book and request on
 pub slip-of-document-01 :
-    slipOf (priceOf slipBook slipRequest) ≡ ascii "CC 1147630\nIC 1706500\nIR 859800\nNIC 846700\nNC 300930\nRELIANCE 67\nUPFRONT 57\nNCRATIO 15\n"
+    slipOf (priceOf slipBook slipRequest) ≡ ascii "CC 1147630\nIC 1706500\nIR 859800\nNIC 846700\nNC 300930\nRELIANCE 67\nUPFRONT 57\nNCRATIO 15\nRELIANCE-R 67 427500\nUPFRONT-R 57 339490\nNCRATIO-R 14 1988980\n"
 unfolding slipOf decimalFrom flatten
 slip-of-document-01 = ap slipOf slip-priced
 

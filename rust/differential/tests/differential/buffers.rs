@@ -38,14 +38,14 @@ pub fn every_length(tally: &mut Tally) {
     ];
     for (call, length) in &calls {
         for out in lengths(*length.max(&2)) {
-            for figures in [0, 1, 20, 21, 22] {
+            for figures in [0, 1, 20, 21, 22, 26, 27, 28] {
                 for answer in 0..=ANSWER + 1 {
                     tally.compare_on(call, Buffers::of(out, figures, answer));
                 }
             }
         }
         for out in 0..*length {
-            tally.compare_on(call, Buffers::of(out, 21, ANSWER));
+            tally.compare_on(call, Buffers::of(out, 27, ANSWER));
         }
     }
 }

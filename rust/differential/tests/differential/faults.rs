@@ -58,7 +58,7 @@ pub fn faults_at_once(tally: &mut Tally) {
         }
         let book = if random.once_in(6) { faulty(&mut random, &book) } else { book.clone() };
         let length = stored.len() + random.choose(&[0, 33, 60, 93]) - random.choose(&[0, 0, 1]);
-        let buffers = || Buffers::of(length, 21, ANSWER);
+        let buffers = || Buffers::of(length, 27, ANSWER);
         let (stored, table_size) = (&stored[..], table_size(&mut random, ledger.entries));
         tally.compare_on(&LibraryCall::Accept { stored, table_size, book: &book, request: &request }, buffers());
         let entry = random.choose(&[0, 1, ledger.entries, ledger.entries + 1, u32::MAX]);

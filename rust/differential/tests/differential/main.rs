@@ -24,6 +24,8 @@ fn cases(count: u64) -> u64 {
 fn main() {
     let mut tally = Tally::default();
     tally.section("books and requests within their limits", pricing::random_pairs);
+    tally.section("percentages of small amounts", pricing::small_percentages);
+    tally.section("percentages of the lowest NC", pricing::lowest_percentages);
     tally.section("values past their limits", pricing::past_limits);
     tally.section("zone numbers of one byte and of two", zone_numbers::forms);
     tally.section("fields of both forms and of neither", zone_numbers::mixtures);

@@ -3,7 +3,7 @@ use differential::call::refused;
 use differential::{LibraryCall, Tally};
 use fikrem::raw;
 use generate::damage::{book_past_limits, request_past_limits};
-use generate::request::{pair, refused_bespoke_rate, SPECIAL_PRICING};
+use generate::request::{pair, refused_bespoke_rate, Tier, SPECIAL_PRICING};
 use generate::{Book, Random, Request};
 use std::collections::BTreeSet;
 
@@ -53,6 +53,62 @@ pub fn random_pairs(tally: &mut Tally) {
     }
     assert_eq!(refused_at_loading, BTreeSet::from([0, 1]), "classes refused at the operating loading");
     assert!(specially_priced > 0, "no loading was priced by a book with opex");
+}
+
+/// A book whose first tier costs a cent for each hundredth of a kVA.
+fn book_of_cents(capacity_charged: u8, credit_share: u16) -> Vec<u8> {
+    Book { capacity_charged, credit_share, zones: vec![(1, [100, 0, 0, 0, 0])], ..Book::slip() }.encode()
+}
+
+/// A request of this extension, capacity and revenue, all in cents.
+fn request_of_cents(me: u32, capacity: u32, revenue: u32) -> Vec<u8> {
+    let mut request = Request { distribution_revenue: revenue, part_year: vec![10_000, 0], ..Request::extension(me) };
+    request.tiers[0].demand = capacity;
+    request.encode()
+}
+
+/// Every small extension, capacity and revenue: divisors of 0 and of a few cents, remainders of every size, halves, NC on
+/// both sides of 0. Then halves of a percent and their neighbours, which need a divisor of about 200.
+pub fn small_percentages(tally: &mut Tally) {
+    for (charged, share) in [(0, 0), (0, 6_500), (0, 10_000), (1, 0), (1, 6_500), (1, 10_000)] {
+        let book = book_of_cents(charged, share);
+        for me in 0..24 {
+            for capacity in 0..8 {
+                for revenue in 0..9 {
+                    assert_eq!(both(tally, &book, &request_of_cents(me, capacity, revenue)), raw::DONE);
+                }
+            }
+        }
+        for me in 98..=102 {
+            for capacity in 0..4 {
+                for revenue in 98..=102 {
+                    assert_eq!(both(tally, &book, &request_of_cents(me, capacity, revenue)), raw::DONE);
+                    assert_eq!(both(tally, &book, &request_of_cents(me + 100, capacity, revenue - 98)), raw::DONE);
+                }
+            }
+        }
+    }
+}
+
+/// Capacity of up to 10^12 cents that isn't charged, over divisors from 0 up to the highest amount.
+pub fn lowest_percentages(tally: &mut Tally) {
+    let mut random = Random::new(102);
+    let book = Book { capacity_charged: 0, zones: vec![(1, [10_000_000; 5])], ..Book::slip() }.encode();
+    let mut request = Request::of_nothing();
+    for _ in 0..cases(2_000) {
+        request.ce = random.edge_u32(0, 1_000_000_000);
+        for tier in &mut request.tiers {
+            tier.demand = random.edge_u32(0, 1_000_000);
+        }
+        request.added_demands = [(); 5].map(|_| random.edge_u32(0, 1_000_000));
+        assert_eq!(both(tally, &book, &request.encode()), raw::DONE);
+    }
+    request.tiers = request.tiers.map(|tier| Tier { demand: 1_000_000, ..tier });
+    request.added_demands = [1_000_000; 5];
+    for ce in [0, 1, 2, 3, 10_000_000, 10_000_001, 1_000_000_000] {
+        request.ce = ce;
+        assert_eq!(both(tally, &book, &request.encode()), raw::DONE);
+    }
 }
 
 /// Every value of a book and a request, one past its limit and the highest.

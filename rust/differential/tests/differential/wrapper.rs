@@ -21,8 +21,13 @@ fn same_bill(bill: &Bill, wanted: &reference::Bill) {
     let amounts = [bill.me, bill.mc, bill.ce, bill.cc2, bill.tw, bill.hr, bill.ol, bill.ic, bill.ir, bill.cc];
     let mut figures = amounts.map(|amount| amount as i64).to_vec();
     figures.extend([bill.nic, bill.nc, bill.x as i64, bill.entered as i64, bill.borne as i64]);
-    for percentage in [bill.reliance, bill.upfront, bill.nc_ratio] {
-        figures.extend([percentage.is_some().into(), percentage.unwrap_or(0)]);
+    let percentages = [bill.reliance, bill.upfront, bill.nc_ratio];
+    for percentage in percentages {
+        figures.extend([percentage.is_some().into(), percentage.map_or(0, |percentage| percentage.rounded)]);
+    }
+    for percentage in percentages {
+        let [quotient, remainder] = percentage.map_or([0, 0], |exact| [exact.quotient, exact.remainder as i64]);
+        figures.extend([quotient, remainder]);
     }
     assert_eq!(figures, figures_of(wanted));
 }
