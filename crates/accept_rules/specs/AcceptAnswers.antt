@@ -16,11 +16,8 @@ use Rattle.calls.specs.Decision.{CallAnswer, is_refused}
 use Rattle.calls.specs.Carried.{State, books_on, booked, joined, opened}
 use Rattle.calls.specs.Answers.{accepted_as, joined_as}
 use Rattle.calls.specs.declared.courses.Joining.{Joining}
-use Rattle.calls.specs.declared.courses.Joining.TheVariants as Joining
 use Rattle.calls.specs.declared.answers.JoiningAnswer.{JoiningAnswer}
 use Rattle.calls.specs.declared.answers.OpeningAnswer.{OpeningAnswer}
-use Rattle.calls.specs.declared.answers.JoiningAnswer.TheVariants as JoiningAnswer
-use Rattle.calls.specs.declared.answers.OpeningAnswer.TheVariants as OpeningAnswer
 
 -- ---- what is read off the books
 

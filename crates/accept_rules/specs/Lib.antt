@@ -1,4 +1,5 @@
 pub mod AcceptAnswers
 pub mod AlteredFiles
+pub mod Laws
 pub mod Cases
 pub mod Theorems

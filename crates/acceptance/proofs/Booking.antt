@@ -12,11 +12,10 @@ use lib.Seq.{take-suc, set-append_seam, length-take-le}
 use Rattle.field_values.specs.Limits.{highest_capacity}
 use Rattle.ledger.specs.Limits.{most_entries}
 use Rattle.ledger.specs.Columns.{scheme_column, capacity_column, sum_over, sum_of}
-use Rattle.ledger.specs.Theorems.Columns.{of_own, of_other}
+use Rattle.ledger.proofs.Theorems.Columns.{of_own, of_other}
 use Rattle.ledger.specs.declared.records.Party.{Party}
-use Rattle.calls.specs.Theorems.Rules.{rises}
 use Rattle.calls.specs.CreditColumns.{weights, shares}
-use Rattle.calls.specs.Theorems.CreditColumns.{length_weights, sum_weights, length_shares}
+use Rattle.calls.proofs.Theorems.CreditColumns.{length_weights, sum_weights, length_shares}
 use Rattle.acceptance.specs.Plan.{padded}
 use Rattle.verdict.proofs.Deciding.{capacity_up_to, capacity_own, capacity_other}
 
@@ -143,9 +142,3 @@ module _ {parties : List Party} {s amount total : ℕ} {credits : List ℕ} {run
         capacity = omega (arith, before.capacity, capacity_other s parties i none within other);
         together = before.together;
       }
-
--- what is credited together never falls
-pub together_rises : {parties : List Party} {s amount total : ℕ} {credits : List ℕ} {running told i : ℕ}
-    → Credited parties s amount total credits running told i → (weight : ℕ) → 1 ≤ total → told ≤ amount * (running + weight) / total
-together_rises {amount = amount} {total = total} {running = running} before weight positive =
-    omega (arith, before.together, rises amount total running weight positive)

@@ -1,1 +1,2 @@
 pub mod Booking
+pub mod Theorems

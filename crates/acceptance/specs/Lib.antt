@@ -3,4 +3,3 @@ pub mod Plan
 pub mod PlanFits
 pub mod PlanNeeds
 pub mod Cases
-pub mod Theorems

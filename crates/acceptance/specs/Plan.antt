@@ -1,5 +1,5 @@
 -- An accept as the code makes it, over columns and places: the connection is booked, the joining that is paid comes next, and a scheme that opens last. By
--- `plan-is-call` it comes to what the call answers and leaves.
+-- `plan_is_call` it comes to what the call answers and leaves.
 use Rattle.std.specs.Prelude.{ℕ, ◌+◌, ◌-◌, List, [], ◌++◌, Bool, true, false, cond, length, take, get_or, set, replicate}
 use Rattle.tagged.specs.File.{refusal}
 use Rattle.tagged.specs.Refusals.{ledger_unsound}

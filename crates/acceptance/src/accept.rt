@@ -25,7 +25,7 @@ use tagged::refusals::LEDGER_UNSOUND;
 
 // What an accept comes to: the answer, the ledger after it, what each entry is credited, and the entries that are added in
 // order. Where none is credited or added, these hold zeros.
-#[derive(Drop)]
+#[derive(Clone, Copy)]
 pub struct Plan {
     pub answer: AcceptAnswer,
     pub ledger: Ledger,
@@ -35,7 +35,7 @@ pub struct Plan {
 }
 
 // Entries to be added, in order; zeros past them.
-#[derive(Drop)]
+#[derive(Clone, Copy)]
 struct Added {
     pub parties: [Party; 2],
     pub count: u32,

@@ -5,11 +5,10 @@ use mathlib.Core.List.{List, [], ◌∷◌, ◌++◌, map, map-append, append_as
 use native.Mathlib.Numerals.{add-one}
 use native.Mathlib.Omega.{arith}
 use lib.ListN.{length, get_or, set, take, replicate, length-append, length-replicate, length-map}
-use lib.Seq.{set_at, append_snoc, take-suc, take-length, take-set-lt, take-append-le, length-take-le}
+use lib.Seq.{set_at, append_snoc, take-suc, take-set-lt, take-append-le, length-take-le}
 use Rattle.field_values.specs.Limits.{most_zones}
-use Rattle.book_zones.specs.Zones.{number_width, zone_starts, first_zone, zones_apart, zone_array}
-use Rattle.book_zones.specs.Theorems.ZoneFields.{ZonesStand, every_get_or}
-use Rattle.book_zones.proofs.Scanning.{zone_below}
+use Rattle.book_zones.specs.Zones.{zone_starts, first_zone, zones_apart, zone_array}
+use Rattle.book_zones.proofs.Theorems.ZoneFields.{ZonesStand, every_get_or}
 
 zone_array_more : {A : Type 0} (nothing : A) (xs : List A) (x : A) (i : ℕ) → length xs ≡ i → i < most_zones → set (zone_array nothing xs) i x ≡ zone_array nothing (xs ++ (x ∷ []))
 zone_array_more nothing xs x i l h =
@@ -34,12 +33,3 @@ module _ {A : Type 0} (nothing : A) (f : ℕ → A) (s : List ℕ) (stand : Zone
       let more : map f (take i starts) ++ (f (get_or starts i 0) ∷ []) ≡ map f (take (i + 1) starts) =
       sym (ap (map f) (ap (λ k. take k starts) (add-one i) ∙ take-suc starts i 0 h) ∙ map-append f (take i starts) (get_or starts i 0 ∷ [])) in
       rw at (zone_array_more nothing (map f (take i starts)) (f (get_or starts i 0)) i count (omega (arith, stand.most)) ∙ ap (zone_array nothing) more)
-
-  pub filled_all : (i : ℕ) → i ≡ length (zone_starts s) → filled_to nothing f s i ≡ zone_array nothing (map f (zone_starts s))
-  filled_all i e = ap (λ l. zone_array nothing (map f l)) (ap (λ k. take k (zone_starts s)) e ∙ take-length (zone_starts s))
-
--- a zone's value lies within the fields
-pub zone_place : (s : List ℕ) → ZonesStand s → (first width zone : ℕ) → first ≡ first_zone s → width ≡ number_width s → zone < length (zone_starts s) →
-    first + (width + 23) * zone + width + 20 ≤ length s
-zone_place s stand first width zone at wide h =
-    rw (at, wide) (omega (arith, stand.ends, zone_below (zones_apart s) (length (zone_starts s)) zone h))

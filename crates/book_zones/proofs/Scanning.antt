@@ -1,8 +1,8 @@
 -- The two scans over the zones, one zone and one tier on.
 use Prim.Native.Nat.{ℕ, zero, suc, ◌+◌, ◌*◌, ◌<◌, ◌≤◌}
-use mathlib.Core.Path.{◌≡◌, refl, ap}
+use mathlib.Core.Path.{◌≡◌, refl}
 use mathlib.Core.List.{List, [], ◌∷◌}
-use native.Mathlib.Nat.{add-zero, mul-le-mul_left, mul-le-mul_right}
+use native.Mathlib.Nat.{add-zero, mul-le-mul_left}
 use native.Mathlib.Numerals.{add-one}
 use native.Mathlib.Omega.{arith}
 use lib.ListN.{length, get_or, take, drop, drop_of_length-le}
@@ -53,10 +53,6 @@ module _ (apart first n i : ℕ) where
 pub zone_below : (apart zones zone : ℕ) → zone < zones → apart * zone + apart ≤ apart * zones
 zone_below apart zones zone h = let more : zone + 1 ≤ zones = omega arith in omega (arith, mul-le-mul_left apart more)
 
--- eight zones of at most 25 bytes
-pub zones_small : (apart zone : ℕ) → apart ≤ 25 → zone ≤ 8 → apart * zone ≤ 200
-zones_small apart zone a z = omega (arith, mul-le-mul_left apart z, mul-le-mul_right 8 a)
-
 -- the rates of a zone from a tier on
 abbrev pub judge_tiers : ℕ → List ℕ → ℕ → Judged
 judge_tiers at row tier = first_failure (drop tier (row_judgements at row))
@@ -69,6 +65,3 @@ tier_on at row (suc (suc zero)) h = refl
 tier_on at row (suc (suc (suc zero))) h = refl
 tier_on at row (suc (suc (suc (suc zero)))) h = refl
 tier_on at row (suc (suc (suc (suc (suc tier))))) h = absurd (omega arith)
-
-pub tier_end : (at : ℕ) (row : List ℕ) (tier : ℕ) → tier_count ≤ tier → judge_tiers at row tier ≡ Passes
-tier_end at row tier h = ap first_failure (drop_of_length-le _ h)

@@ -2,4 +2,3 @@ pub mod BookRows
 pub mod Zones
 pub mod ZoneLimits
 pub mod Cases
-pub mod Theorems

@@ -4,8 +4,6 @@ use Rattle.charge.specs.declared.Bill.{Bill}
 use Rattle.calls.specs.Decision.{CallAnswer, is_accepted}
 use Rattle.calls.specs.declared.answers.JoiningAnswer.{JoiningAnswer}
 use Rattle.calls.specs.declared.answers.OpeningAnswer.{OpeningAnswer}
-use Rattle.calls.specs.declared.answers.JoiningAnswer.TheVariants as JoiningAnswer
-use Rattle.calls.specs.declared.answers.OpeningAnswer.TheVariants as OpeningAnswer
 
 -- an answer in its two parts
 abbrev pub accepted_as : Bill → JoiningAnswer → OpeningAnswer → CallAnswer

@@ -1,5 +1,5 @@
 -- What holds of every call alike: a refusal changes nothing and has one of its call's numbers, and a promise can be kept.
-use Rattle.std.specs.Prelude.{ℕ, ◌+◌, ◌≡◌, List, [], ◌∷◌, ◌++◌, true}
+use Rattle.std.specs.Prelude.{ℕ, ◌≡◌, List, [], ◌∷◌, ◌++◌, true}
 use Rattle.tagged.specs.Refusals.{file_does_not_walk, check_differs, value_not_listed, zone_not_in_book, bespoke_not_allowed, no_such_entry, pay_out_above_credit, ledger_unsound}
 use Rattle.ledger.specs.RefusalNumbers.{one_of}
 use Rattle.calls.specs.VerdictConditions.{verdict_numbers}

@@ -21,10 +21,6 @@ use Rattle.calls.specs.declared.answers.JoiningAnswer.{JoiningAnswer}
 use Rattle.calls.specs.declared.answers.OpeningAnswer.{OpeningAnswer}
 use Rattle.calls.specs.declared.answers.AcceptAnswer.{AcceptAnswer}
 use Rattle.calls.specs.declared.answers.Answer.{Answer}
-use Rattle.calls.specs.declared.answers.JoiningAnswer.TheVariants as JoiningAnswer
-use Rattle.calls.specs.declared.answers.OpeningAnswer.TheVariants as OpeningAnswer
-use Rattle.calls.specs.declared.answers.AcceptAnswer.TheVariants as AcceptAnswer
-use Rattle.calls.specs.declared.answers.Answer.TheVariants as Answer
 
 -- Demand 3's calls.
 pub data Call : Type 0 where

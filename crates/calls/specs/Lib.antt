@@ -10,4 +10,3 @@ pub mod ByPlace
 pub mod VerdictConditions
 pub mod CallRefusals
 pub mod Cases
-pub mod Theorems

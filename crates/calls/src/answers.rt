@@ -3,14 +3,14 @@ use reconciliation::Reconciliation;
 use tagged::file::Refusal;
 
 // The joiner's entry number, and the contribution G that was collected.
-#[derive(Drop)]
+#[derive(Clone, Copy)]
 pub struct Collected {
     pub entry: u32,
     pub contribution: u32,
 }
 
 // What became of the joining that a request asked for.
-#[derive(Drop)]
+#[derive(Clone, Copy)]
 pub enum JoiningAnswer {
     NotAsked,
     Ended,
@@ -18,7 +18,7 @@ pub enum JoiningAnswer {
     Joined(Collected),
 }
 
-#[derive(Drop)]
+#[derive(Clone, Copy)]
 pub enum OpeningAnswer {
     NotOpened,
     // the scheme's number
@@ -26,21 +26,21 @@ pub enum OpeningAnswer {
 }
 
 // "Plain" is neither joined nor opened where no joining was asked for.
-#[derive(Drop)]
+#[derive(Clone, Copy)]
 pub struct Acceptance {
     pub reconciliation: Reconciliation,
     pub joining: JoiningAnswer,
     pub opening: OpeningAnswer,
 }
 
-#[derive(Drop)]
+#[derive(Clone, Copy)]
 pub enum AcceptAnswer {
     Accepted(Acceptance),
     NotAccepted(Refusal),
 }
 
 // Pay-out's and hand-over's.
-#[derive(Drop)]
+#[derive(Clone, Copy)]
 pub enum Answer {
     Done,
     Refused(Refusal),

@@ -1,14 +1,14 @@
 // What becomes of a priced request that is accepted: a joining, and then an opening.
 
 // G, the scheme's fee, and K: the capacity of all its parties before the joiner.
-#[derive(Drop)]
+#[derive(Clone, Copy)]
 pub struct Contribution {
     pub collected: u32,
     pub fee: u32,
     pub capacity: u64,
 }
 
-#[derive(Drop)]
+#[derive(Clone, Copy)]
 pub enum Joining {
     NotAsked,
     Ended,
@@ -16,13 +16,13 @@ pub enum Joining {
     Pays(Contribution),
 }
 
-#[derive(Drop)]
+#[derive(Clone, Copy)]
 pub struct Course {
     pub joining: Joining,
     pub opens: bool,
 }
 
-#[derive(Drop)]
+#[derive(Clone, Copy)]
 pub enum Verdict {
     Accepts(Course),
     // with the refusal's number; file and place are 0

@@ -1,5 +1,7 @@
 // The calls on a ledger and its parties by value, for callers that have no table to lend. The table is the first `room` records of the
 // array, or all of them.
+#![tactic(auto)]
+
 ghost use Rattle.std.specs.Prelude.{◌≡◌, ◌+◌, ◌≤◌, min, take};
 ghost use Rattle.std.proofs.lemmas.List.Edits.{sets};
 ghost use Rattle.calls.specs.Decision.{of_accept, of_entry_call};
@@ -16,14 +18,14 @@ use entry_calls::EntryChange;
 use ledger::limits::{MOST_ENTRIES, Parties};
 use ledger::records::{Ledger, Party};
 
-#[derive(Drop)]
+#[derive(Clone, Copy)]
 pub struct AcceptedTable {
     pub answer: AcceptAnswer,
     pub ledger: Ledger,
     pub parties: Parties,
 }
 
-#[derive(Drop)]
+#[derive(Clone, Copy)]
 pub struct ChangedTable {
     pub answer: Answer,
     pub parties: Parties,
@@ -142,6 +144,7 @@ pub fn accept(
 }
 
 // Each of these on a ledger that is known to be sound.
+#[inline(never)]
 pub fn accept_sound(
     ledger: Ledger,
     parties: Parties,
@@ -169,6 +172,7 @@ pub fn pay_out(
     changed_table(parties, change)
 }
 
+#[inline(never)]
 pub fn pay_out_sound(
     ledger: Ledger,
     parties: Parties,
@@ -196,6 +200,7 @@ pub fn hand_over(
     changed_table(parties, change)
 }
 
+#[inline(never)]
 pub fn hand_over_sound(
     ledger: Ledger,
     parties: Parties,

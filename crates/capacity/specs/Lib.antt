@@ -1,4 +1,3 @@
 pub mod Capacity
 pub mod CapacityLimits
 pub mod Cases
-pub mod Theorems

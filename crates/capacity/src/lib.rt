@@ -1,5 +1,7 @@
 // Upstream capacity, tier by tier: LV mains, distribution substation, HV feeder, zone substation,
 // sub-transmission.
+#![tactic(auto)]
+
 ghost use Rattle.std.specs.Prelude.{◌≡◌, ◌<◌, ◌≤◌};
 ghost use Rattle.capacity.specs.Capacity.{bespoke_allowed, tier_allowed, first_not_allowed, rate_used, tier_cost, cost_at, capacity_cost};
 ghost use Rattle.field_values.specs.Limits.{tier_count, highest_rate, highest_demand};
@@ -8,7 +10,7 @@ ghost use Rattle.capacity.specs.CapacityLimits.{highest_tier_cost, highest_capac
 use field_values::limits::TIERS;
 
 // Mode (0 posted, 1 extension-like, 2 bespoke), posted rate and bespoke rate of each tier.
-#[derive(Drop)]
+#[derive(Clone, Copy)]
 pub struct Tiers {
     pub modes: [u8; TIERS],
     pub posted: [u32; TIERS],
@@ -16,7 +18,7 @@ pub struct Tiers {
 }
 
 // Whether every bespoke rate is allowed, or the first tier, 1 to 5, whose rate isn't.
-#[derive(Drop)]
+#[derive(Clone, Copy)]
 pub enum BespokeRates {
     Allowed,
     NotAllowed(usize),

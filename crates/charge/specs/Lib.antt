@@ -3,4 +3,3 @@ pub mod Price
 pub mod PriceEnding
 pub mod PriceRefusals
 pub mod Cases
-pub mod Theorems

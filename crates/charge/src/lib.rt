@@ -1,4 +1,6 @@
 // The pricing call: a rate book and a request in, the reconciliation or a refusal out.
+#![tactic(auto)]
+
 ghost use Rattle.std.specs.Prelude.{◌≡◌, ◌+◌, ◌<◌, ◌≤◌};
 ghost use Rattle.tagged.specs.File.{refusal};
 ghost use Rattle.capacity.specs.CapacityLimits.{TiersWithin};
@@ -19,7 +21,7 @@ use tagged::file::{FileAnswer, Refusal};
 use tagged::refusals::{BESPOKE_NOT_ALLOWED, ZONE_NOT_IN_BOOK};
 
 // What a scheme that opens takes from the book.
-#[derive(Drop)]
+#[derive(Clone, Copy)]
 pub struct Terms {
     pub threshold: u32,
     pub fee: u32,
@@ -28,7 +30,7 @@ pub struct Terms {
 }
 
 // Who asks for the connection, when, for how much capacity, and in which scheme.
-#[derive(Drop)]
+#[derive(Clone, Copy)]
 pub struct Applicant {
     pub person: u32,
     pub month: u16,
@@ -37,20 +39,20 @@ pub struct Applicant {
     pub mark: u8,
 }
 
-#[derive(Drop)]
+#[derive(Clone, Copy)]
 pub struct Bill {
     pub reconciliation: Reconciliation,
     pub terms: Terms,
     pub applicant: Applicant,
 }
 
-#[derive(Drop)]
+#[derive(Clone, Copy)]
 pub enum Pricing {
     Priced(Bill),
     NotPriced(Refusal),
 }
 
-#[derive(Drop)]
+#[derive(Clone, Copy)]
 enum Zone {
     At(usize),
     NotInBook,
@@ -67,6 +69,7 @@ fn not_priced(number: u8, file: u8, place: usize) -> Pricing
 }
 
 // The row of a zone among the book's zones.
+#[tactic(auto, unfolding(crate::specs::Price::zone_found))]
 fn zone_found(numbers: [u16; MOST_ZONES], zones: usize, number: u16) -> Zone
     requires { zones ≤ most_zones }
     ensures value { result ≡ zone_found 0 zones numbers number }
@@ -155,6 +158,7 @@ fn bill_of(book: Book, tiers: Tiers, request: Request, ir: u64) -> Bill
 }
 
 // The pricing of values that were read: 4, 5, or the bill.
+#[tactic(auto, unfolding(crate::specs::Price::values_priced))]
 pub fn price_values(
     book: Book,
     rates: Rates,
@@ -191,6 +195,7 @@ pub fn price_values(
 }
 
 // The pricing of a request file by the values of a book.
+#[tactic(auto, unfolding(crate::specs::Price::request_priced))]
 fn price_request(book: Book, rates: Rates, request: &[u8]) -> Pricing
     requires { BookWithin book × RatesWithin rates book.zones }
     ensures { result ≡ request_priced book rates request.now }
@@ -213,6 +218,7 @@ fn price_request(book: Book, rates: Rates, request: &[u8]) -> Pricing
 }
 
 // The reconciliation of a request by a rate book, or the refusal: book, request, 4, 5.
+#[tactic(auto, unfolding(crate::specs::Price::price_of))]
 pub fn price(book: &[u8], request: &[u8]) -> Pricing
     ensures { result ≡ price_of book.now request.now }
 {

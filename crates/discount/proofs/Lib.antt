@@ -1,1 +1,1 @@
-pub mod FirstFactors
+pub mod Theorems

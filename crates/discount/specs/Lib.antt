@@ -1,4 +1,3 @@
 pub mod DiscountLimits
 pub mod Discount
 pub mod Cases
-pub mod Theorems

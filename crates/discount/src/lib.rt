@@ -1,4 +1,6 @@
 // Discount factors in hundred-millionths, year after year from the factor of the year before.
+#![tactic(auto)]
+
 ghost use Rattle.std.specs.Prelude.{◌≡◌, suc, ◌≤◌};
 ghost use Rattle.discount.specs.DiscountLimits.{highest_discount, last_year};
 ghost use Rattle.discount.specs.Discount.{discount, FactorsUntil};

@@ -1,3 +1,2 @@
 pub mod DiscountTable
 pub mod Cases
-pub mod Theorems

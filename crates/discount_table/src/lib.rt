@@ -1,5 +1,7 @@
 // Discount factors of every rate: those of the rates that planning staff compare are read off a
 // constant table, all others come year by year.
+#![tactic(auto)]
+
 mod table;
 
 ghost use Rattle.std.specs.Prelude.{◌≡◌, true, ◌≤◌};
@@ -22,6 +24,7 @@ fn factor_table() -> [DiscountFactors; TABLE_RATES]
 
 // The discount factors of the years 0 to life. An arm for each rate of the table takes out its row
 // alone; by a computed row the whole table would be copied for each pricing.
+#[tactic(auto, using(crate::proofs::Rows::row_factors))]
 pub fn factors_of(b: u16, life: usize) -> DiscountFactors
     requires { life ≤ last_year }
     ensures { FactorsUntil b life result }

@@ -1,3 +1,2 @@
 pub mod EntryCalls
 pub mod Cases
-pub mod Theorems

@@ -1,5 +1,7 @@
 // Pay-out and hand-over over a by-value snapshot of the party table: what a call answers, and the
 // entry's new record with its place. They change no other entry and nothing of the ledger.
+#![tactic(auto)]
+
 ghost use Rattle.std.specs.Prelude.{◌≡◌, min};
 ghost use Rattle.ledger.specs.Limits.{most_entries};
 ghost use Rattle.ledger.specs.Lookup.{entry_place};
@@ -14,7 +16,7 @@ use tagged::file::Refusal;
 use tagged::refusals::{LEDGER_UNSOUND, NO_SUCH_ENTRY, PAY_OUT_ABOVE_CREDIT};
 
 // Where the call is refused, place 0 and a record of zeros.
-#[derive(Drop)]
+#[derive(Clone, Copy)]
 pub struct EntryChange {
     pub answer: Answer,
     pub place: usize,

@@ -8,7 +8,7 @@ use lib.ListN.{length, get_or, drop, drop_of_length-le}
 use lib.Seq.{drop-cons}
 use lib.Dec.{eqb}
 use Rattle.field_values.specs.Judged.{same_bytes}
-use Rattle.field_values.specs.Theorems.Judged.{same_bytes_equal}
+use Rattle.field_values.proofs.Theorems.Judged.{same_bytes_equal}
 
 pub lengths_differ : (a b : List ℕ) → (length a ≡ length b → ⊥) → same_bytes a b ≡ false
 lengths_differ a b h = go (same_bytes a b) refl

@@ -6,16 +6,12 @@ use mathlib.Core.Bool.{Bool, true, cond, false≢true}
 use mathlib.Core.Logic.{◌⊎◌, inl, inr}
 use native.Mathlib.Nat.{add_assoc}
 use native.Mathlib.Numerals.{add-one}
-use native.Mathlib.Omega.{arith}
-use lib.ListN.{length, get_or, drop, length-take, length-drop, drop_of_length-le}
+use lib.ListN.{length, get_or, drop, length-drop, drop_of_length-le}
 use lib.Seq.{drop-cons, drop-drop}
 use lib.Dec.{ltb, eqb}
 use borrow.Author.Tests.{eqb-true}
 use Rattle.numbers.specs.BigEndian.{number_at}
-use Rattle.tagged.specs.Find.{part_of, start_of, PlaceWithin}
-use Rattle.tagged.specs.declared.find.Place.{Place}
-use Rattle.tagged.specs.declared.find.Place.TheVariants.{At, Nowhere}
-use Rattle.tagged.specs.Theorems.Walk.{by_test}
+use Rattle.tagged.proofs.Theorems.Walk.{by_test}
 use Rattle.field_values.specs.Judged.{width_of, within, judge_numbers, narrow}
 use Rattle.field_values.specs.declared.judged.Judged.TheVariants.{Passes, Fails}
 
@@ -49,8 +45,3 @@ module _ (limits : List (List ℕ)) (k : ℕ) (h : k < length limits) where
 
       P : Bool → Type 0
       P t = t ≡ true → ((width ≡ 1) ⊎ ((width ≡ 2) ⊎ (width ≡ 4))) × (narrow (drop (suc k) limits) ≡ true)
-
--- a part of a file ends within the file
-pub part_ends_within : (s : List ℕ) (place : Place) → PlaceWithin (length s) place → start_of place + length (part_of place s) ≤ length s
-part_ends_within s Nowhere h = omega arith
-part_ends_within s (At start len) h = simp (length-take, length-drop) (omega arith)

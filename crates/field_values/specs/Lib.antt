@@ -4,4 +4,3 @@ pub mod Judged
 pub mod Factors
 pub mod Reading
 pub mod Cases
-pub mod Theorems

@@ -5,7 +5,7 @@ ghost use Rattle.field_values.specs.Factors.{factor_at, factors_of, no_factors, 
 use crate::judged::{Judged, Limit};
 use crate::limits::{HIGHEST_FACTOR, MOST_FACTORS};
 
-#[derive(Drop)]
+#[derive(Clone, Copy)]
 pub struct Factors {
     pub count: usize,
     pub values: [u16; MOST_FACTORS],

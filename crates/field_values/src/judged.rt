@@ -3,7 +3,7 @@ ghost use Rattle.std.specs.Prelude.{◌≡◌, true, ◌⊎◌, ◌+◌, ◌<◌
 ghost use Rattle.numbers.specs.BigEndian.{number_at};
 ghost use Rattle.field_values.specs.Judged.{judge, in_order, judge_numbers, judge_field, judge_letters, same_bytes, narrow};
 
-#[derive(Drop)]
+#[derive(Clone, Copy)]
 pub enum Judged {
     Passes,
     Fails(usize),

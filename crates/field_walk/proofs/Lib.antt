@@ -1,3 +1,4 @@
 pub mod Rest
 pub mod Rows
 pub mod Walking
+pub mod Theorems

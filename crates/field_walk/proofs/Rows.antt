@@ -9,7 +9,7 @@ use lib.ListN.{length, get_or, drop, drop_of_length-le, length-map}
 use lib.Seq.{drop-cons}
 use lib.Dec.{ltb, eqb}
 use Rattle.field_walk.specs.Walk.{due_from, all_had, tag_of, most_of, least_of, permitted_by, row_in, rows_in}
-use Rattle.field_walk.specs.Theorems.Forms.{same_in, row_in_lem}
+use Rattle.field_walk.proofs.Theorems.Forms.{same_in, row_in_lem}
 use Rattle.field_walk.specs.declared.walk.Due.TheVariants.{Row, NotDue}
 
 module _ (rows : List (List ℕ)) (form k : ℕ) where

@@ -8,14 +8,11 @@ use lib.Dec.{ltb}
 use Rattle.field_walk.specs.declared.walk.Front.TheVariants.{End, Field, CannotStand}
 use Rattle.field_walk.specs.declared.walk.Walked.{Walked}
 use Rattle.field_walk.specs.declared.walk.Walked.TheVariants.{Walks, Stops}
-use Rattle.field_walk.specs.Walk.{front_of, walk_from, walk_by, by_forms, walked, Walk, fields, stops, and_then, FieldAt}
-use Rattle.field_walk.proofs.Rest.{rest_from, rest_from_drop, SoFar, at_start, one_field_on}
+use Rattle.field_walk.specs.Walk.{front_of, walk_from, walk_by, walked, Walk, fields, stops, and_then, FieldAt}
+use Rattle.field_walk.proofs.Rest.{rest_from, rest_from_drop, SoFar, one_field_on}
 
 abbrev pub WalkSoFar : List (List ℕ) → List ℕ → List ℕ → ℕ → ℕ → ℕ → Type 0
 WalkSoFar rows file rest at row count = SoFar (walked (walk_by rows file)) file rest at (λ most. walked (walk_from most rows row count at rest))
-
-pub walk_starts : (rows : List (List ℕ)) (file : List ℕ) → WalkSoFar rows file file 0 0 0
-walk_starts rows file = at_start file _
 
 walked_then : (f : FieldAt) (w : Walk) → walked (and_then f w) ≡ walked w
 walked_then f (fields fs) = refl
@@ -41,9 +38,3 @@ together Walks second neither = Walks
 together (Stops at) Walks neither = Walks
 together (Stops at) (Stops at') Walks = Stops at
 together (Stops at) (Stops at') (Stops _) = Stops (cond (ltb at at') at' at)
-
-pub walked_forms : (first second neither : Walk) → walked (by_forms first second neither) ≡ together (walked first) (walked second) (walked neither)
-walked_forms (fields _) second neither = refl
-walked_forms (stops _) (fields _) neither = refl
-walked_forms (stops _) (stops _) (fields _) = refl
-walked_forms (stops _) (stops _) (stops _) = refl

@@ -15,14 +15,14 @@ pub const SECOND_FORM: u16 = 2;
 const NEITHER_FORM: u16 = 0;
 
 // Which row a field's tag counts to, and how many fields of that row have then come.
-#[derive(Drop)]
+#[derive(Clone, Copy)]
 pub enum Due {
     Row { row: usize, count: usize },
     NotDue,
 }
 
 // What the rest of a file starts with.
-#[derive(Drop)]
+#[derive(Clone, Copy)]
 pub enum Front {
     End,
     Field {
@@ -34,7 +34,7 @@ pub enum Front {
 }
 
 // How a walk ends: every field stands, or the offset of the first that can't.
-#[derive(Drop)]
+#[derive(Clone, Copy)]
 pub enum Walked {
     Walks,
     Stops(usize),

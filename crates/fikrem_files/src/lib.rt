@@ -1,5 +1,7 @@
-// The static library of the two files read alone, for whoever writes a rate book or a request: whether it can be read, before it is
+// The two files read alone, which `fikrem_files_c` exports to C, for whoever writes a rate book or a request: whether it can be read, before it is
 // handed on. The result is 0 where the file stands, otherwise the refusal in one number, as in `quoting_unit`.
+#![tactic(auto)]
+
 ghost use Rattle.std.specs.Prelude.{◌≡◌};
 ghost use Rattle.rate_book.specs.Book.{book_of};
 ghost use Rattle.request.specs.Request.{request_of};
@@ -20,8 +22,7 @@ fn result_of_reading(answer: FileAnswer) -> u64
 }
 
 // Whether a rate book can be read.
-#[unsafe(no_mangle)]
-pub extern "C" fn fikrem_check_book(book: &[u8]) -> u64
+pub fn fikrem_check_book(book: &[u8]) -> u64
     ensures { result ≡ file_result (book_of file_read_alone book.now).answer }
 {
     let read = rate_book::book::read_book(FILE_READ_ALONE, book);
@@ -30,8 +31,7 @@ pub extern "C" fn fikrem_check_book(book: &[u8]) -> u64
 }
 
 // Whether a request can be read.
-#[unsafe(no_mangle)]
-pub extern "C" fn fikrem_check_request(request: &[u8]) -> u64
+pub fn fikrem_check_request(request: &[u8]) -> u64
     ensures { result ≡ file_result (request_of file_read_alone request.now).answer }
 {
     let read = request::values::read_request(FILE_READ_ALONE, request);

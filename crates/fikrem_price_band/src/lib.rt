@@ -1,7 +1,9 @@
-// The static library of the band for the firmware of quoting units: lowest and highest IR, CC and NC where year-one
+// The band for the firmware of quoting units, which `fikrem_price_band_c` exports to C: lowest and highest IR, CC and NC where year-one
 // revenue is known only between two figures, on numbers and lent buffers alone. The result is 0 where the six figures
 // are written, otherwise the refusal in one number, as in `quoting_unit`; a refusal writes nothing. Short figures are 14
 // before anything else.
+#![tactic(auto)]
+
 ghost use Rattle.std.specs.Prelude.{◌≡◌, ◌++◌, ◌≤◌, length, drop};
 ghost use Rattle.price_band.specs.PriceBand.{band_of, band_values};
 ghost use Rattle.price_band.specs.BandLimits.{BandFits};
@@ -44,8 +46,7 @@ fn write_band(band: Band, figures: &mut [i64])
 }
 
 // Lowest and highest IR, CC and NC of a request by a rate book, with these figures in place of its field 08.
-#[unsafe(no_mangle)]
-pub extern "C" fn fikrem_price_band(
+pub fn fikrem_price_band(
     book: &[u8],
     request: &[u8],
     distribution_low: u64,

@@ -7,5 +7,5 @@ pub mod SoundHistory
 pub mod Split
 pub mod ShownState
 pub mod CallSteps
+pub mod Laws
 pub mod Cases
-pub mod Theorems

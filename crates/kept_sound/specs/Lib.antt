@@ -1,4 +1,4 @@
 pub mod SoundState
 pub mod Kept
 pub mod EntryPlaced
-pub mod Theorems
+pub mod Laws

@@ -1,1 +1,19 @@
-// Every call leaves a sound ledger sound. The promises are in specs/; there is no code.
+// Every call leaves a sound ledger sound. The promises are in specs/. Each function is there for its
+// contract alone, a law on those definitions.
+#![tactic(auto)]
+
+ghost use Rattle.kept_sound.specs.Laws.{BookedKeepsSound, CallKeepsSound, JoinedKeepsSound, LeavesLength, LeavesPlaces, OpenedKeepsSound};
+
+/// From a sound ledger with 64 places every call leaves a sound one, with 64 places.
+pub fn every_call_keeps_sound()
+    ensures stays_sound { CallKeepsSound }
+    ensures keeps_places { LeavesPlaces }
+    ensures keeps_table { LeavesLength }
+{}
+
+/// The three steps of an accept leave a sound ledger sound.
+pub fn each_step_keeps_sound()
+    ensures booking { BookedKeepsSound }
+    ensures joining { JoinedKeepsSound }
+    ensures opening { OpenedKeepsSound }
+{}

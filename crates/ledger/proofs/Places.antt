@@ -2,7 +2,7 @@
 use mathlib.Core.Path.{◌≡◌}
 use mathlib.Core.List.{List}
 use mir.Val.{Val}
-use lib.ListN.{length, length-map}
+use lib.ListN.{length}
 use denote.Laws.{Is}
 use denote.Struct.Declared.{row}
 use denote.Struct.Laws.{owed}
@@ -12,4 +12,4 @@ use Rattle.ledger.specs.contracts.records.Ledger.{the_type}
 use Rattle.ledger.proofs.records.Ledger.TheLaws.{the_laws}
 
 pub schemes_places : (ledger : Ledger) (values : List Val) → Is (row the_type) ledger values → length ledger.schemes ≡ most_schemes
-schemes_places ledger values is = simp length-map at (owed the_type the_laws ledger values is).1.1.1.1.1.1.0.1.0.1
+schemes_places ledger values is = (owed the_type the_laws ledger values is).1.1.1.1.1.1.0.1.0.1

@@ -7,9 +7,9 @@ use native.Mathlib.Numerals.{add-one}
 use native.Mathlib.Omega.{arith}
 use lib.ListN.{length, take, drop, get_or, drop_of_length-le}
 use lib.Seq.{drop-cons, get_or-take, length-take-le}
-use Rattle.tagged.specs.Theorems.TestedAnswers.{passes, fails}
+use Rattle.tagged.proofs.Theorems.TestedAnswers.{passes, fails}
 use Rattle.ledger.proofs.Tests.{stops, goes_on}
-use Rattle.ledger.specs.Theorems.Lookup.{placed_scheme}
+use Rattle.ledger.proofs.Theorems.Lookup.{placed_scheme}
 use Rattle.ledger.specs.Sound.{is_zero, all_zero, accounts_sound, schemes_sound}
 use Rattle.ledger.specs.Tallied.{no_tally, Tallied}
 use Rattle.ledger.specs.declared.records.Scheme.{Scheme}

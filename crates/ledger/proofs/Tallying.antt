@@ -5,21 +5,20 @@ use mathlib.Core.List.{List, [], ◌∷◌, ◌++◌, map, map-append}
 use mathlib.Core.Bool.{Bool, true, false, cond}
 use native.Mathlib.Omega.{arith}
 use native.Mathlib.Numerals.{add-one}
-use lib.Dec.{leb, eqb}
+use lib.Dec.{eqb}
 use lib.ListN.{length, take, drop, get_or, set, length-set, drop_of_length-le, length-replicate, length-map, get_or-replicate}
 use lib.Seq.{get_or-set_same, get_or-set_other, drop-cons, get_or-take, length-take-le, take-suc}
 use borrow.Author.Tests.{leb-true, eqb-true, eqb-false}
 use Rattle.ledger.specs.Columns.{scheme_column, put_in_column, sum_over, first_put_in}
-use Rattle.ledger.specs.Theorems.Columns as columns
-use Rattle.ledger.specs.Theorems.Columns.{ones_again, of_own, of_other}
-use Rattle.ledger.specs.Limits.{most_schemes, most_entries, highest_put_in, highest_credited}
+use Rattle.ledger.proofs.Theorems.Columns as columns
+use Rattle.ledger.proofs.Theorems.Columns.{ones_again, of_own, of_other}
+use Rattle.ledger.specs.Limits.{most_schemes, highest_put_in, highest_credited}
 use Rattle.ledger.specs.Lookup.{scheme_place}
-use Rattle.ledger.specs.Theorems.Lookup.{scheme_placed, one_scheme}
-use Rattle.ledger.specs.Sound.{all_hold, counts_within, counts_sound, figures_within, party_sound, parties_sound, tally_of}
-use Rattle.ledger.specs.Theorems.Sound.{held}
+use Rattle.ledger.proofs.Theorems.Lookup.{scheme_placed, one_scheme}
+use Rattle.ledger.specs.Sound.{all_hold, figures_within, party_sound, parties_sound, tally_of}
+use Rattle.ledger.proofs.Theorems.Sound.{held}
 use Rattle.ledger.specs.Tallied.{no_tally, no_tallies, tally_with, Tallied, TallyWithin, TalliesWithin}
 use Rattle.ledger.specs.declared.lookup.SchemeAt.TheVariants as SchemeAt
-use Rattle.ledger.specs.declared.records.Ledger.{Ledger}
 use Rattle.ledger.specs.declared.records.Party.{Party}
 use Rattle.ledger.specs.declared.sound.Tally.{Tally}
 
@@ -182,17 +181,3 @@ kept_more tallies parties i count j none few here sound h kept =
       tallied = rw more (tallied_more count few tallies kept.sized party j here (take i parties) kept.tallied);
       bounded = bounded_more i tallies j party kept.sized (leb-true _ _ (each 2)) (leb-true _ _ (each 3)) kept.bounded;
     }
-
-pub kept_within : (count : ℕ) (tallies : List Tally) (parties : List Party) (i k n : ℕ) → Kept count tallies parties i → k < most_schemes → i ≤ n →
-    TallyWithin n (get_or tallies k no_tally)
-kept_within count tallies parties i k n kept h l = within_le i n (get_or tallies k no_tally) l (kept.bounded k h)
-
-pub kept_end : (count : ℕ) (tallies : List Tally) (parties : List Party) (i entries : ℕ) → Kept count tallies parties i → i ≡ entries → entries ≤ most_entries →
-    Tallied count tallies (take entries parties) × TalliesWithin most_entries tallies
-kept_end count tallies parties i entries kept e l =
-    (rw e at kept.tallied, λ k h. kept_within count tallies parties i k most_entries kept h (omega arith))
-
-pub counts_bounds : (ledger : Ledger) (room : ℕ) → counts_sound ledger room ≡ true → (ledger.entries ≤ most_entries) × (ledger.count ≤ most_schemes)
-counts_bounds ledger room h =
-    let each = held (counts_within ledger (leb ledger.entries room)) h in
-    (leb-true _ _ (each 1), leb-true _ _ (each 0))

@@ -11,4 +11,3 @@ pub mod RefusalNumbers
 pub mod SoundConditions
 pub mod Tallied
 pub mod Cases
-pub mod Theorems

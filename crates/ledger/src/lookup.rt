@@ -2,13 +2,13 @@
 ghost use Rattle.std.specs.Prelude.{◌≡◌};
 ghost use Rattle.ledger.specs.Lookup.{scheme_place, entry_place};
 
-#[derive(Drop)]
+#[derive(Clone, Copy)]
 pub enum SchemeAt {
     Place(usize),
     NeverOpened,
 }
 
-#[derive(Drop)]
+#[derive(Clone, Copy)]
 pub enum EntryAt {
     Place(usize),
     NoSuchEntry,

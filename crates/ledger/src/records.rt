@@ -5,7 +5,7 @@ ghost use Rattle.ledger.specs.Records.{no_party, no_parties, new_ledger};
 
 use crate::limits::{MOST_ENTRIES, MOST_SCHEMES, Parties, Schemes};
 
-#[derive(Drop)]
+#[derive(Clone, Copy)]
 pub struct Scheme {
     pub cost: u32,
     pub fee: u32,
@@ -18,7 +18,7 @@ pub struct Scheme {
 }
 
 // An entry of the party table. Schemes are numbered from 1.
-#[derive(Drop)]
+#[derive(Clone, Copy)]
 pub struct Party {
     pub scheme: u16,
     pub person: u32,
@@ -28,7 +28,7 @@ pub struct Party {
     pub paid_out: u64,
 }
 
-#[derive(Drop)]
+#[derive(Clone, Copy)]
 pub struct Ledger {
     // the last accepted month
     pub month: u16,

@@ -14,7 +14,7 @@ use crate::records::{Ledger, Party, Scheme};
 use field_values::limits::{HIGHEST_CAPACITY, HIGHEST_MINIMUM, LOWEST_CAPACITY, LOWEST_TERM};
 
 // What a scheme's entries come to: how many, what the first put in, what all were credited and put in.
-#[derive(Drop)]
+#[derive(Clone, Copy)]
 pub struct Tally {
     pub entries: u64,
     pub first: u64,
@@ -24,7 +24,7 @@ pub struct Tally {
 
 pub type Tallies = [Tally; MOST_SCHEMES];
 
-#[derive(Drop)]
+#[derive(Clone, Copy)]
 pub struct EntriesTally {
     pub sound: bool,
     pub tallies: Tallies,

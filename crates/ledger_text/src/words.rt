@@ -1,6 +1,6 @@
 // Lines, words and numbers of a text.
 ghost use Rattle.std.specs.Prelude.{◌≤◌, ◌-◌, length};
-ghost use Rattle.io.specs.Counts.{IsPrefixLen};
+ghost use Rattle.std.specs.Counts.{IsPrefixLen};
 
 // The first place where the text has this byte, or its end.
 fn until(text: &[u8], byte: u8) -> usize

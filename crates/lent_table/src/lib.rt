@@ -1,5 +1,7 @@
 // The public calls of `pioneer` on an array of parties: each lends the array's first `room` records, or all of them, as the party table, and
 // hands back the array as the call left it.
+#![tactic(auto)]
+
 ghost use Rattle.std.specs.Prelude.{◌≡◌, take, drop};
 ghost use Rattle.calls.specs.Decision.{of_accept, of_entry_call};
 ghost use Rattle.calls.specs.Decision as Call;
@@ -84,7 +86,7 @@ pub fn write(ledger: Ledger, parties: Parties, room: usize, out: &mut [u8]) -> W
     pioneer::write(ledger, &parties[..records], out)
 }
 
-#[derive(Drop)]
+#[derive(Clone, Copy)]
 pub struct ReadTable {
     pub answer: FileAnswer,
     pub ledger: Ledger,

@@ -5,7 +5,7 @@ use mathlib.Core.List.{List}
 use lib.ListN.{length, get_or, take, drop, drop_of_length-le, take-append-drop}
 use lib.Seq.{drop-cons, take-add}
 use Rattle.numbers.specs.Check.{check_step, check_from, check}
-use Rattle.numbers.specs.Theorems.Check.{check_append}
+use Rattle.numbers.proofs.Theorems.Check.{check_append}
 
 -- the check of the bytes from an index on, and past the last
 pub check_on : (s : List ℕ) (i next h : ℕ) → i < length s → next ≡ suc i → check_from h (drop i s) ≡ check_from (check_step h (get_or s i 0)) (drop next s)

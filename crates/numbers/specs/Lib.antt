@@ -2,4 +2,3 @@ pub mod BigEndian
 pub mod Check
 pub mod CheckWords
 pub mod Cases
-pub mod Theorems

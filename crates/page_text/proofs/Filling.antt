@@ -1,16 +1,11 @@
 -- Lines that are filled from their end to their front, and lines that stand one behind the other.
 use mathlib.Core.Path.{◌≡◌, ap}
 use mathlib.Core.List.{List, [], ◌∷◌, ◌++◌, append_assoc}
-use Prim.Native.Nat.{ℕ, suc, ◌+◌, ◌-◌, ◌<◌, ◌≤◌}
+use Prim.Native.Nat.{ℕ, ◌+◌, ◌-◌, ◌≤◌}
 use native.Mathlib.Omega.{arith}
-use lib.ListN.{length, take, drop, set, replicate, length-append, length-drop, replicate-append-replicate}
-use lib.Seq.{set_split, drop_at, length-take-le}
+use lib.ListN.{length, replicate, length-append, length-drop, replicate-append-replicate}
 use Rattle.page_text.specs.Page.{line, line_size, text_in}
 use Rattle.page_text.specs.declared.Columns.{Columns}
-
--- one more element before those from `next` on
-pub drop_from_set : {A : Type 0} (l : List A) (a : A) {i next : ℕ} → i < length l → suc i ≡ next → drop i (set l i a) ≡ a ∷ drop next l
-drop_from_set l a {i} h e = rw (← e, set_split l i a) (drop_at (take i l) (a ∷ drop (suc i) l) i (length-take-le i l (omega arith)))
 
 -- a label, blanks and an amount with byte 0A behind it are the line, if they fill it
 pub filled_line : (label amount : List ℕ) (columns : Columns) → length columns.bytes ≡ line_size → text_in columns ≡ amount ++ (10 ∷ [])

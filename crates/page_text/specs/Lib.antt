@@ -3,4 +3,3 @@ pub mod Page
 pub mod PageColumns
 pub mod PageEnding
 pub mod Cases
-pub mod Theorems

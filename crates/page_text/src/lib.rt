@@ -1,5 +1,7 @@
 // The reconciliation as a page: twelve lines of a label and an amount. A line is made from its last
 // column to its first, since an amount is aligned to the right.
+#![tactic(auto)]
+
 ghost use Rattle.std.specs.Prelude.{◌≡◌, ◌+◌, ◌-◌, ◌/◌, ◌<◌, ◌≤◌, length, drop, replicate, pos};
 ghost use mathlib.Core.List.{[], ◌∷◌, ◌++◌, flatten};
 ghost use Rattle.charge.specs.Price.{price_of};
@@ -18,13 +20,13 @@ const LINES: usize = 12;
 const LINE: usize = 64;
 
 // A line whose bytes are there from `start` on.
-#[derive(Drop)]
+#[derive(Clone, Copy)]
 struct Columns {
     bytes: [u8; LINE],
     start: usize,
 }
 
-#[derive(Drop)]
+#[derive(Clone, Copy)]
 pub enum PageWritten {
     Written,
     Refused(Refusal),
@@ -204,6 +206,7 @@ fn write_lines(lines: [[u8; LINE]; LINES], out: &mut [u8])
 
 // The page of a request by a rate book at the start of a lent output, or the refusal: book, request,
 // 4, 5, and 14 where the output is shorter than the page.
+#[tactic(auto, unfolding(crate::specs::Page::page_written, crate::specs::Page::page_output, crate::specs::Page::page_of))]
 pub fn page(book: &[u8], request: &[u8], out: &mut [u8]) -> PageWritten
     ensures value { result ≡ page_written (price_of book.now request.now) out.old }
     ensures out_after { out.new ≡ page_output (price_of book.now request.now) out.old }

@@ -1,5 +1,5 @@
 -- The list that a loop leaves which copies records from one list over another: the records copied so far, then what was there.
-use Prim.Native.Nat.{ℕ, zero, suc, ◌+◌, ◌-◌, ◌<◌, ◌≤◌, min}
+use Prim.Native.Nat.{ℕ, zero, suc, ◌+◌, ◌-◌, ◌<◌, min}
 use mathlib.Core.Path.{◌≡◌, refl, sym, ◌∙◌, ap}
 use mathlib.Core.List.{List, [], ◌∷◌, ◌++◌}
 use native.Mathlib.Nat.{not-suc-le-zero, le_of_suc-le-suc, zero-min, min-zero, suc-min-suc, zero-sub, sub-zero, suc-sub-suc}
@@ -25,12 +25,6 @@ copied_suc (suc i) (party ∷ from) (old ∷ over) l k =
 pub copied_next : (i : ℕ) (from over : List Party) → i < length from → i < length over →
     set (copied i from over) i (get_or from i no_party) ≡ copied (i + 1) from over
 copied_next i from over l k = copied_suc i from over l k ∙ ap (λ (j : ℕ). copied j from over) (sym (add-one i))
-
-pub copied_length : (i : ℕ) (from over : List Party) → i ≤ length from → i ≤ length over → length (copied i from over) ≡ length over
-copied_length zero from over l k = refl
-copied_length (suc i) [] over l k = absurd (not-suc-le-zero l)
-copied_length (suc i) (party ∷ from) [] l k = absurd (not-suc-le-zero k)
-copied_length (suc i) (party ∷ from) (old ∷ over) l k = ap suc (copied_length i from over (le_of_suc-le-suc l) (le_of_suc-le-suc k))
 
 take_min : (n : ℕ) (table : List Party) → take (min n (length table)) table ≡ take n table
 take_min zero table = rw (zero-min (length table))

@@ -1,5 +1,2 @@
 pub mod Copying
-pub mod Lending
-pub mod Putting
-pub mod MachineValues
-pub mod Turns
+pub mod Theorems

@@ -1,2 +1,1 @@
 pub mod PartyTable
-pub mod Theorems

@@ -1,5 +1,7 @@
 // The party table, lent: a snapshot of its entries to decide on, and the writes. Every write goes
 // through a function that writes one record.
+#![tactic(auto)]
+
 ghost use Rattle.std.specs.Prelude.{◌≡◌, ◌++◌, ◌+◌, ◌≤◌, ◌<◌, ◌^◌, min, length, set, get_or, take, drop};
 ghost use Rattle.std.proofs.lemmas.List.Edits.{sets};
 ghost use Rattle.ledger.specs.Limits.{most_entries};

@@ -4,7 +4,7 @@ use mathlib.Core.Path.{◌≡◌, refl, sym, ◌∙◌, ap, subst}
 use mathlib.Core.List.{List}
 use mathlib.Core.Bool.{true, false, not}
 use native.Mathlib.Omega.{arith}
-use lib.ListN.{length, take, set, get_or, length-set, length-take}
+use lib.ListN.{length, take, set, get_or, length-take}
 use lib.Seq.{get_or-take}
 use lib.Dec.{T}
 use Rattle.tagged.specs.Refusals.{ledger_unsound}
@@ -13,19 +13,19 @@ use Rattle.ledger.specs.Sound.{sound}
 use Rattle.ledger.specs.Updates.{with_paid_out, with_person}
 use Rattle.ledger.specs.declared.records.Party.{Party}
 use Rattle.ledger.specs.declared.records.Ledger.{Ledger}
-use Rattle.calls.specs.Theorems.Lists.{by_test}
+use Rattle.calls.proofs.Theorems.Lists.{by_test}
 use Rattle.calls.specs.Decision.{pay_out, hand_over, of_entry_call}
 use Rattle.calls.specs.Calls.{state_of, Promised}
 use Rattle.calls.specs.declared.answers.Answer.{Answer}
 use Rattle.calls.specs.declared.answers.Answer.TheVariants.{Done, Refused}
 use Rattle.entry_calls.specs.EntryCalls.{refused_change, pay_out_change, hand_over_change, changed_table}
-use Rattle.entry_calls.specs.Theorems.ChangedRecord.{Changed, IfDone, pay_out_changed, hand_over_changed}
-use Rattle.entry_calls.specs.Theorems.ChangeIsCall.{pay_out_is_call, hand_over_is_call}
-use Rattle.entry_calls.specs.Theorems.ChangePromised.{change_promised}
+use Rattle.entry_calls.proofs.Theorems.ChangedRecord.{Changed, IfDone, pay_out_changed, hand_over_changed}
+use Rattle.entry_calls.proofs.Theorems.ChangeIsCall.{pay_out_is_call, hand_over_is_call}
+use Rattle.entry_calls.proofs.Theorems.ChangePromised.{change_promised}
 use Rattle.entry_calls.specs.declared.EntryChange.{EntryChange}
 use Rattle.party_table.specs.PartyTable.{snapshot_of}
 use Rattle.pioneer.specs.ReadResult.{not_done}
-use Rattle.pioneer_accept.specs.Theorems.Snapshots.{same_entries, snapshot_sound, snapshot_entries}
+use Rattle.pioneer_accept.proofs.Theorems.Snapshots.{same_entries, snapshot_sound, snapshot_entries}
 
 module _ (table : List Party) where
   -- the table that a change leaves, by its answer
@@ -39,13 +39,6 @@ module _ (table : List Party) where
       by_answer : (answer : Answer) → ChangeLeaves (record { answer = answer; place = change.place; party = change.party })
       by_answer Done = changed refl refl
       by_answer (Refused r) = kept refl refl
-
-  pub changed_length : (change : EntryChange) → length (changed_table table change) ≡ length table
-  changed_length change = by_leaves (change_leaves change)
-    where
-      by_leaves : ChangeLeaves change → length (changed_table table change) ≡ length table
-      by_leaves (kept h e) = ap length e
-      by_leaves (changed h e) = ap length e ∙ length-set table change.place change.party
 
   pub refused_leaves : (change : EntryChange) → T (not_done change.answer) → table ≡ changed_table table change
   refused_leaves change refused = by_leaves (change_leaves change)

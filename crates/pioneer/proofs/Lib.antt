@@ -1,4 +1,3 @@
 pub mod Changes
 pub mod Readings
-pub mod Records
 pub mod Writings

@@ -12,14 +12,14 @@ use Rattle.ledger.specs.Limits.{most_entries}
 use Rattle.ledger.specs.Lists.{at_start}
 use Rattle.ledger.specs.Records.{no_parties}
 use Rattle.ledger.specs.SoundConditions.{SoundLedger}
-use Rattle.ledger.specs.Theorems.Sound.{sound_means}
+use Rattle.ledger.proofs.Theorems.Sound.{sound_means}
 use Rattle.ledger.specs.declared.records.Party.{Party}
 use Rattle.ledger.specs.declared.records.Ledger.{Ledger}
-use Rattle.stored.specs.Theorems.Layout.{take_at_start}
+use Rattle.stored.proofs.Theorems.Layout.{take_at_start}
 use Rattle.stored.specs.Form.{stored_entries, stored_ledger}
 use Rattle.stored.specs.Reading.{read_answer, read_by, read_back, table_by, read_of}
-use Rattle.stored.specs.Theorems.StoredAccepted.{accepted_means}
-use Rattle.stored.specs.Theorems.ReadLedger.{entries_count}
+use Rattle.stored.proofs.Theorems.StoredAccepted.{accepted_means}
+use Rattle.stored.proofs.Theorems.ReadLedger.{entries_count}
 use Rattle.pioneer.specs.ReadResult.{read_refused, read_result}
 
 module _ (ledger : Ledger) (table : List Party) (file : List ℕ) where

@@ -1,6 +1,8 @@
 // The public calls on a pioneer ledger and its lent party table: document 01, 'Ledger calls' and 'Stored form'. Each decides on
 // values, a snapshot of the table among them, and writes to the table once nothing can be refused any more. Accept stands in a
 // crate of its own, `pioneer_accept`.
+#![tactic(auto)]
+
 ghost use Rattle.std.specs.Prelude.{◌≡◌};
 ghost use Rattle.calls.specs.Decision.{pay_out, hand_over, of_entry_call};
 ghost use Rattle.calls.specs.Calls.{state_of, Promised};
@@ -71,7 +73,7 @@ pub fn write(ledger: Ledger, table: &[Party], out: &mut [u8]) -> Written
     stored_writing::write(ledger, parties, table.len(), out)
 }
 
-#[derive(Drop)]
+#[derive(Clone, Copy)]
 pub struct ReadResult {
     pub answer: FileAnswer,
     pub ledger: Ledger,

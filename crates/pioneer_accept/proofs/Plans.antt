@@ -1,35 +1,32 @@
 -- What accept leaves of the table, by its plan, and that the plan can be carried out there: on a sound ledger the snapshot has the table's entries; any
 -- other ledger is refused with 13.
 use Prim.Native.Nat.{◌+◌, ◌<◌, ◌^◌}
-use mathlib.Core.Path.{◌≡◌, refl, sym, ◌∙◌, ap, subst}
+use mathlib.Core.Path.{◌≡◌, refl, sym, ◌∙◌, subst}
 use mathlib.Core.List.{List}
 use mathlib.Core.Bool.{true, false, not}
-use lib.ListN.{length, take, get_or}
-use lib.Seq.{length-sets}
+use lib.ListN.{length, get_or}
 use lib.Dec.{T}
 use Rattle.tagged.specs.File.{refusal}
 use Rattle.tagged.specs.Refusals.{ledger_unsound}
 use Rattle.charge.specs.declared.Pricing.{Pricing}
 use Rattle.ledger.specs.Limits.{most_schemes}
 use Rattle.ledger.specs.Sound.{sound}
-use Rattle.ledger.specs.Table.{credit_each}
-use Rattle.ledger.specs.Theorems.Table.{length_credit_each}
 use Rattle.ledger.specs.declared.records.Party.{Party}
 use Rattle.ledger.specs.declared.records.Ledger.{Ledger}
-use Rattle.calls.specs.Theorems.Lists.{by_test}
+use Rattle.calls.proofs.Theorems.Lists.{by_test}
 use Rattle.calls.specs.declared.answers.Acceptance.{Acceptance}
 use Rattle.calls.specs.declared.answers.AcceptAnswer.{AcceptAnswer}
 use Rattle.calls.specs.declared.answers.AcceptAnswer.TheVariants.{Accepted, NotAccepted}
 use Rattle.acceptance.specs.PlanCarried.{plan_carried_out}
 use Rattle.acceptance.specs.Plan.{refused_plan, plan_of, plan_table}
-use Rattle.acceptance.specs.Theorems.Plan.{plan_refused_13}
+use Rattle.acceptance.proofs.Theorems.Plan.{plan_refused_13}
 use Rattle.acceptance.specs.PlanFits.{PlanFits}
-use Rattle.acceptance.specs.Theorems.PlanFits.{plan_fits}
+use Rattle.acceptance.proofs.Theorems.PlanFits.{plan_fits}
 use Rattle.acceptance.specs.declared.accept.Plan.{Plan}
 use Rattle.party_table.specs.PartyTable.{snapshot_of}
-use Rattle.party_table.specs.Theorems.PartyTable.{snapshot_length}
+use Rattle.party_table.proofs.Theorems.PartyTable.{snapshot_length}
 use Rattle.pioneer_accept.specs.AcceptResult.{not_accepted}
-use Rattle.pioneer_accept.specs.Theorems.Snapshots.{snapshot_sound, snapshot_entry}
+use Rattle.pioneer_accept.proofs.Theorems.Snapshots.{snapshot_sound, snapshot_entry}
 
 by_acceptance : {P : Type 0} (answer : AcceptAnswer) → T (not (not_accepted answer)) → ((acceptance : Acceptance) → answer ≡ Accepted acceptance → P) → P
 by_acceptance (Accepted acceptance) accepted given = given acceptance refl
@@ -60,16 +57,6 @@ module _ (ledger : Ledger) (table : List Party) where
       by_answer : (answer : AcceptAnswer) → PlanLeaves (with_answer answer)
       by_answer (Accepted acceptance) = changed refl refl
       by_answer (NotAccepted r) = kept refl refl
-
-  pub plan_length : (plan : Plan) → length (plan_table ledger table plan) ≡ length table
-  plan_length plan = by_leaves (plan_leaves plan)
-    where
-      by_leaves : PlanLeaves plan → length (plan_table ledger table plan) ≡ length table
-      by_leaves (kept h e) = ap length e
-      by_leaves (changed h e) =
-          ap length e
-          ∙ length-sets (credit_each table (take ledger.entries plan.credits)) ledger.entries (take plan.added_count plan.added)
-          ∙ length_credit_each table (take ledger.entries plan.credits)
 
   pub kept_leaves : (plan : Plan) → T (not_accepted plan.answer) → table ≡ plan_table ledger table plan
   kept_leaves plan refused = by_leaves (plan_leaves plan)

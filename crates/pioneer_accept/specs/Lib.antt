@@ -1,2 +1,1 @@
 pub mod AcceptResult
-pub mod Theorems

@@ -1,5 +1,7 @@
 // Accept over a ledger and its lent party table: document 01, 'Ledger calls'. It decides on values, a snapshot of the table among
 // them, and writes to the table once nothing can be refused any more. `pioneer` passes it on with the other public calls.
+#![tactic(auto)]
+
 ghost use Rattle.std.specs.Prelude.{◌≡◌, length};
 ghost use Rattle.calls.specs.Decision.{accept, of_accept};
 ghost use Rattle.calls.specs.Calls.{state_of, Promised};
@@ -12,7 +14,7 @@ use calls::answers::AcceptAnswer;
 use ledger::limits::MOST_ENTRIES;
 use ledger::records::{Ledger, Party};
 
-#[derive(Drop)]
+#[derive(Clone, Copy)]
 pub struct AcceptResult {
     pub answer: AcceptAnswer,
     pub ledger: Ledger,

@@ -4,4 +4,3 @@ pub mod BandLimits
 pub mod BandEnding
 pub mod BandPromises
 pub mod Cases
-pub mod Theorems

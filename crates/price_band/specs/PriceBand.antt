@@ -9,7 +9,6 @@ use Rattle.request.specs.Request.{request_of}
 use Rattle.reconciliation.specs.declared.Reconciliation.{Reconciliation}
 use Rattle.charge.specs.Price.{values_priced, price_of}
 use Rattle.charge.specs.declared.Pricing.{Pricing}
-use Rattle.charge.specs.declared.Pricing.TheVariants as Pricing
 use Rattle.price_band.specs.declared.Bands.{Bands}
 use Rattle.price_band.specs.declared.Band.{Band}
 use Rattle.price_band.specs.declared.BandPricing.{BandPricing}

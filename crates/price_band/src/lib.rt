@@ -1,5 +1,7 @@
 // The charge of a request whose usage is known only between two figures: what IR, CC and NC come to at
 // least and at most.
+#![tactic(auto)]
+
 ghost use Rattle.std.specs.Prelude.{◌≡◌, true, ◌≤◌};
 ghost use Rattle.tagged.specs.File.{refusal};
 ghost use Rattle.field_values.specs.Limits.{highest_revenue};
@@ -20,7 +22,7 @@ use tagged::file::{Refusal, fields_part};
 use tagged::refusals::{LOW_ABOVE_HIGH, VALUE_NOT_LISTED};
 
 // Year-one revenue of distribution and of transmission, each known only between two figures.
-#[derive(Drop)]
+#[derive(Clone, Copy)]
 pub struct Bands {
     pub distribution_low: u64,
     pub distribution_high: u64,
@@ -28,7 +30,7 @@ pub struct Bands {
     pub transmission_high: u64,
 }
 
-#[derive(Drop)]
+#[derive(Clone, Copy)]
 pub struct Band {
     pub lowest_ir: u64,
     pub highest_ir: u64,
@@ -38,7 +40,7 @@ pub struct Band {
     pub highest_nc: i64,
 }
 
-#[derive(Drop)]
+#[derive(Clone, Copy)]
 pub enum BandPricing {
     Priced(Band),
     NotPriced(Refusal),
@@ -172,6 +174,7 @@ fn judged_band(book: &[u8], request: &[u8], bill: Bill, bands: Bands) -> BandPri
 
 // Lowest and highest IR, CC and NC of a request by a rate book, with these bands in place of field 08,
 // or the refusal: book, request, 4, 5, then 3 and 15 for the bands.
+#[tactic(auto, unfolding(crate::specs::PriceBand::band_of))]
 pub fn price_band(book: &[u8], request: &[u8], bands: Bands) -> BandPricing
     ensures { result ≡ band_of book.now request.now bands }
 {

@@ -1,14 +1,18 @@
 // Printing the page of two files, for the programs.
+#![tactic(auto)]
+
 ghost use Rattle.std.specs.Prelude.{◌≡◌};
 ghost use Rattle.charge.specs.Price.{price_of};
 ghost use Rattle.page_text.specs.Page.{page_written, page_output};
 ghost use Rattle.print_slip.specs.Counted.{counted};
 
 use charge::Pricing;
-use libc::STDOUT_FILENO;
 use page_text::{PAGE, PageWritten};
 use print_slip::READ_SIZE;
 use slip_text::SlipWritten;
+use std::io;
+use std::io::Write;
+use std::rt::Files;
 use tagged::file::Refusal;
 
 // The page of a rate book and a request by what counts of them, at the start of a lent output.
@@ -20,12 +24,12 @@ fn files_page(book: &[u8], request: &[u8], out: &mut [u8]) -> PageWritten
 }
 
 // The line `REFUSED n file place`, as a slip has it.
-fn print_refusal(refusal: Refusal) {
+fn print_refusal(rt: &impl Print, refusal: Refusal) {
     let mut text = [0u8; slip_text::ROOM];
     let written = slip_text::slip_text(Pricing::NotPriced(refusal), &mut text);
     match written {
         SlipWritten::Written(size) => {
-            io::write_all(STDOUT_FILENO, &text[..size]);
+            let _ = io::writer(rt).write_all(&text[..size]);
         }
         SlipWritten::Refused(_) => {}
     }
@@ -33,11 +37,11 @@ fn print_refusal(refusal: Refusal) {
 
 // Prints the page of a rate book and a request, each by its file's name, or the line of the refusal. A
 // file that can't be read counts as empty.
-pub fn print_page(book: &[u8], request: &[u8]) {
+pub fn print_page(rt: &(impl Files + Print), book: &[u8], request: &[u8]) {
     let mut book_space = [0u8; READ_SIZE];
     let mut request_space = [0u8; READ_SIZE];
-    let book_size = files::read_file(book, &mut book_space);
-    let request_size = files::read_file(request, &mut request_space);
+    let book_size = files::read_file(rt, book, &mut book_space);
+    let request_size = files::read_file(rt, request, &mut request_space);
     let mut out = [0u8; PAGE];
     let written = files_page(
         &book_space[..book_size],
@@ -46,10 +50,10 @@ pub fn print_page(book: &[u8], request: &[u8]) {
     );
     match written {
         PageWritten::Written => {
-            io::write_all(STDOUT_FILENO, &out);
+            let _ = io::writer(rt).write_all(&out);
         }
         PageWritten::Refused(refusal) => {
-            print_refusal(refusal);
+            print_refusal(rt, refusal);
         }
     }
 }

@@ -1,11 +1,15 @@
 // Printing the slip of two files, for the programs.
+#![tactic(auto)]
+
 ghost use Rattle.std.specs.Prelude.{◌≡◌};
 ghost use Rattle.charge.specs.Price.{price_of};
 ghost use Rattle.slip_text.specs.Slip.{slip_written, slip_buffer};
 ghost use Rattle.print_slip.specs.Counted.{counted};
 
-use libc::STDOUT_FILENO;
 use slip_text::{ROOM, SlipWritten};
+use std::io;
+use std::io::Write;
+use std::rt::Files;
 
 // How many bytes of a file count.
 const COUNTED_SIZE: usize = 4_096;
@@ -16,7 +20,7 @@ pub const READ_SIZE: usize = 8_192;
 
 // What counts of a file.
 pub fn counted<'a>(file: &'a [u8]) -> &'a [u8]
-    ensures { (result.now ≡ counted file.now) × (result.ref_ptr ≡ file.entry.ptr) }
+    ensures { (result.now ≡ counted file.now) × (result.ref_ptr ≡ file.entry.ref_ptr) }
 {
     if file.len() < COUNTED_SIZE {
         return file;
@@ -35,11 +39,11 @@ fn files_slip(book: &[u8], request: &[u8], text: &mut [u8]) -> SlipWritten
 
 // Prints the slip of a rate book and a request, each by its file's name. A file that can't be read
 // counts as empty.
-pub fn print_slip(book: &[u8], request: &[u8]) {
+pub fn print_slip(rt: &(impl Files + Print), book: &[u8], request: &[u8]) {
     let mut book_space = [0u8; READ_SIZE];
     let mut request_space = [0u8; READ_SIZE];
-    let book_size = files::read_file(book, &mut book_space);
-    let request_size = files::read_file(request, &mut request_space);
+    let book_size = files::read_file(rt, book, &mut book_space);
+    let request_size = files::read_file(rt, request, &mut request_space);
     let mut text = [0u8; ROOM];
     let written = files_slip(
         &book_space[..book_size],
@@ -48,7 +52,7 @@ pub fn print_slip(book: &[u8], request: &[u8]) {
     );
     match written {
         SlipWritten::Written(size) => {
-            io::write_all(STDOUT_FILENO, &text[..size]);
+            let _ = io::writer(rt).write_all(&text[..size]);
         }
         SlipWritten::Refused(_) => {}
     }

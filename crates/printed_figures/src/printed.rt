@@ -287,7 +287,7 @@ const FIGURES: [u64; FIGURE_COUNT] = [
 ];
 
 // A printed figure, taken apart: its size and unit in cents or in percents.
-#[derive(Drop)]
+#[derive(Clone, Copy)]
 pub struct Printed {
     pub pricing: u64,
     pub figure: u64,

@@ -24,7 +24,7 @@ use revenue::{Stream, TRANSMISSION_OPEX_FACTOR};
 use tagged::file::FileAnswer;
 
 // A figure, and how far it may lie off.
-#[derive(Drop)]
+#[derive(Clone, Copy)]
 struct Near {
     // at least the figure, in cents
     figure: u64,
@@ -34,7 +34,7 @@ struct Near {
 
 // By how much at most a stream's inputs lie off: its revenue in ten-thousandths of a cent, its
 // factors in hundred-millionths.
-#[derive(Drop)]
+#[derive(Clone, Copy)]
 struct Offs {
     revenue: u64,
     opex: u64,
@@ -42,7 +42,7 @@ struct Offs {
 }
 
 // The units of an example's inputs, by name.
-#[derive(Drop)]
+#[derive(Clone, Copy)]
 struct InputUnits {
     revenue: u64,
     distribution_tariff: u64,
@@ -54,7 +54,7 @@ struct InputUnits {
 }
 
 // By how much at most a figure lies off, in cents.
-#[derive(Drop)]
+#[derive(Clone, Copy)]
 pub struct Bounds {
     pub mc: u64,
     pub cc2: u64,

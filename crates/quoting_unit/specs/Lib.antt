@@ -5,4 +5,3 @@ pub mod ResultParts
 pub mod UnitPlaces
 pub mod UnitResults
 pub mod Cases
-pub mod Theorems

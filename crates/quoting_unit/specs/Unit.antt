@@ -1,5 +1,5 @@
 -- What each call of the unit leaves, by its inputs alone. Where the answer or the figures are too short for their places that is 14 and every buffer as it
--- was; otherwise the result is 0 or the refusal, and where it is 0 the answer says more. `tableSize` is the party table's length in records; more than 512
+-- was; otherwise the result is 0 or the refusal, and where it is 0 the answer says more. `table_size` is the party table's length in records; more than 512
 -- counts as 512.
 use Rattle.std.specs.Prelude.{ℕ, Bool, true, cond, List, [], ◌∷◌, ℤ}
 use Rattle.tagged.specs.Refusals.{output_too_short}

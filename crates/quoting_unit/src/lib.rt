@@ -1,6 +1,8 @@
-// The static library for the firmware of quoting units: the calls of document 01 on numbers and lent buffers of numbers alone. Each
+// The calls for the firmware of quoting units, which `quoting_unit_c` exports to C: those of document 01 on numbers and lent buffers of numbers alone. Each
 // result is 0 where the call is done, otherwise the refusal in one number; a refusal changes no lent buffer. Short answer or figures
 // are 14 before anything else. `table_size` is the party table's length in records; more than 512 counts as 512.
+#![tactic(auto)]
+
 ghost use Rattle.std.specs.Prelude.{◌≡◌, ◌≤◌, ◌++◌, length, drop};
 ghost use Rattle.numbers.specs.Check.{check};
 ghost use Rattle.reconciliation.specs.Figures.{percent_is_there, percent_figure, percent_quotient, percent_remainder, figure_values};
@@ -37,7 +39,7 @@ const HIGHEST_PLACE: u64 = 72057594037927935;
 const TOO_SHORT: u64 = OUTPUT_TOO_SHORT as u64;
 
 // How a call ends.
-#[derive(Drop)]
+#[derive(Clone, Copy)]
 struct Outcome {
     // 0 where the call is done
     result: u64,
@@ -199,8 +201,7 @@ fn write_figures(r: Reconciliation, figures: &mut [i64])
 }
 
 // The reconciliation of a request by a rate book, into the figures.
-#[unsafe(no_mangle)]
-pub extern "C" fn fikrem_price(book: &[u8], request: &[u8], figures: &mut [i64]) -> u64
+pub fn fikrem_price(book: &[u8], request: &[u8], figures: &mut [i64]) -> u64
     ensures { let end = unit_call (price book.now request.now) (lent_figures figures.old) in
         (result ≡ end.result) × (figures.new ≡ end.lent.figures) }
 {
@@ -234,13 +235,7 @@ fn slip_outcome(written: SlipWritten) -> Outcome
 }
 
 // The slip of a request by a rate book, into the text. A request that is not priced has a slip too: the line `REFUSED n file place`.
-#[unsafe(no_mangle)]
-pub extern "C" fn fikrem_slip_text(
-    book: &[u8],
-    request: &[u8],
-    text: &mut [u8],
-    answer: &mut [u64],
-) -> u64
+pub fn fikrem_slip_text(book: &[u8], request: &[u8], text: &mut [u8], answer: &mut [u64]) -> u64
     ensures { let end = unit_call (slip_text book.now request.now) (lent_output text.old answer.old) in
         (result ≡ end.result) × (text.new ≡ end.lent.output) × (answer.new ≡ end.lent.answer) }
 {
@@ -264,8 +259,7 @@ fn call_outcome(answer: StoredAnswer) -> Outcome
 }
 
 // The stored form of a new ledger, into the lent output.
-#[unsafe(no_mangle)]
-pub extern "C" fn fikrem_new_ledger(out: &mut [u8], answer: &mut [u64]) -> u64
+pub fn fikrem_new_ledger(out: &mut [u8], answer: &mut [u64]) -> u64
     ensures { let end = unit_call new_ledger (lent_output out.old answer.old) in
         (result ≡ end.result) × (out.new ≡ end.lent.output) × (answer.new ≡ end.lent.answer) }
 {
@@ -318,8 +312,7 @@ fn acceptance_outcome(accepted: StoredAcceptance) -> Outcome
 }
 
 // Accept on a stored ledger: the new stored form into the lent output, and the reconciliation into the figures.
-#[unsafe(no_mangle)]
-pub extern "C" fn fikrem_accept(
+pub fn fikrem_accept(
     stored: &[u8],
     table_size: usize,
     book: &[u8],
@@ -350,8 +343,7 @@ pub extern "C" fn fikrem_accept(
 }
 
 // Pay-out on a stored ledger: the new stored form into the lent output.
-#[unsafe(no_mangle)]
-pub extern "C" fn fikrem_pay_out(
+pub fn fikrem_pay_out(
     stored: &[u8],
     table_size: usize,
     entry: u32,
@@ -371,8 +363,7 @@ pub extern "C" fn fikrem_pay_out(
 }
 
 // Hand-over on a stored ledger: the new stored form into the lent output.
-#[unsafe(no_mangle)]
-pub extern "C" fn fikrem_hand_over(
+pub fn fikrem_hand_over(
     stored: &[u8],
     table_size: usize,
     entry: u32,
@@ -408,8 +399,7 @@ fn check_outcome(check: StoredCheck) -> Outcome
 }
 
 // Whether a stored ledger can be read.
-#[unsafe(no_mangle)]
-pub extern "C" fn fikrem_check_ledger(stored: &[u8], table_size: usize, answer: &mut [u64]) -> u64
+pub fn fikrem_check_ledger(stored: &[u8], table_size: usize, answer: &mut [u64]) -> u64
     ensures { let end = unit_call (check_ledger stored.now table_size) (lent_answer answer.old) in
         (result ≡ end.result) × (answer.new ≡ end.lent.answer) }
 {
@@ -421,8 +411,7 @@ pub extern "C" fn fikrem_check_ledger(stored: &[u8], table_size: usize, answer: 
 }
 
 // The check of a file's bytes before its last two, which are to hold it: for whoever writes a rate book or a request.
-#[unsafe(no_mangle)]
-pub extern "C" fn fikrem_check(bytes: &[u8]) -> u32
+pub fn fikrem_check(bytes: &[u8]) -> u32
     ensures { result ≡ check bytes.now }
 {
     numbers::check::check(bytes)

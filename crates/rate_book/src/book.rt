@@ -19,7 +19,7 @@ use field_values::limits::{MOST_ZONES, Rates};
 use tagged::file::{FileAnswer, Refusal, fields_part};
 use tagged::refusals::VALUE_NOT_LISTED;
 
-#[derive(Drop)]
+#[derive(Clone, Copy)]
 pub struct Book {
     // discount rate b, hundredths of a percent
     pub rate: u16,
@@ -43,7 +43,7 @@ pub struct Book {
 }
 
 // The zone rates stand beside the book.
-#[derive(Drop)]
+#[derive(Clone, Copy)]
 pub struct BookRead {
     pub answer: FileAnswer,
     pub book: Book,

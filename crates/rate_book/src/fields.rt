@@ -14,14 +14,14 @@ use numbers::big_endian::{read_u8, read_u16, read_u32};
 use tagged::find::{find, place_of, start_of};
 
 // Field 03: the sums of selected opex and of distribution revenue.
-#[derive(Drop)]
+#[derive(Clone, Copy)]
 pub struct Sums {
     pub opex: u64,
     pub revenue: u64,
 }
 
 // Field 06.
-#[derive(Drop)]
+#[derive(Clone, Copy)]
 pub struct Terms {
     pub threshold: u32,
     pub fee: u32,
@@ -31,7 +31,7 @@ pub struct Terms {
 }
 
 // Field 07.
-#[derive(Drop)]
+#[derive(Clone, Copy)]
 pub struct Charging {
     // 1 where capacity is charged, otherwise 0
     pub charged: u8,

@@ -1,2 +1,1 @@
-pub mod Assembled
-pub mod Signs
+pub mod Theorems

@@ -5,4 +5,3 @@ pub mod Percent
 pub mod Reconciliation
 pub mod SlipReconciliation
 pub mod Cases
-pub mod Theorems

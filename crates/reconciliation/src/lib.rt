@@ -1,4 +1,6 @@
 // The charge, its reconciliation and its percentages, in whole cents.
+#![tactic(auto)]
+
 ghost use Rattle.std.specs.Prelude.{◌≡◌, ◌+◌, ◌*◌, ◌-◌, ◌<◌, ◌≤◌, min, pos, neg_ℤ, ◌-ℤ◌};
 ghost use Rattle.reconciliation.specs.Percent.{nearest, whole_of, percent_of};
 ghost use Rattle.reconciliation.specs.Reconciliation.{ic_of, m_of, credit_of, not_charged_of, reconciliation_of};
@@ -8,14 +10,14 @@ ghost use Rattle.capacity.specs.CapacityLimits.{highest_capacity_cost};
 ghost use Rattle.reconciliation.specs.FigureLimits.{signed_below, percent_below, highest_m, highest_incremental_cost, CostsWithin};
 
 // A whole number of percent: the nearest; and beside it the one rounded down, with what that leaves of 100 times the numerator.
-#[derive(Drop)]
+#[derive(Clone, Copy)]
 pub struct WholePercent {
     pub rounded: i64,
     pub quotient: i64,
     pub remainder: u64,
 }
 
-#[derive(Drop)]
+#[derive(Clone, Copy)]
 pub enum Percent {
     Whole(WholePercent),
     // no percentage: the divisor is 0
@@ -25,7 +27,7 @@ pub enum Percent {
 // The costs that a connection enters: minimum scheme extension, capacity, customer enhancement
 // extension, its capacity, distributor enhancement, transmission works, historical cost recovery,
 // operating loading.
-#[derive(Drop)]
+#[derive(Clone, Copy)]
 pub struct Costs {
     pub me: u64,
     pub mc: u64,
@@ -37,7 +39,7 @@ pub struct Costs {
     pub ol: u64,
 }
 
-#[derive(Drop)]
+#[derive(Clone, Copy)]
 pub struct Reconciliation {
     pub me: u64,
     pub mc: u64,

@@ -1,5 +1,5 @@
 -- A request's values within document 01's limits.
-use Rattle.std.specs.Prelude.{ℕ, ◌-◌, ◌^◌, ◌<◌, ◌≤◌, ◌≡◌, length, get_or}
+use Rattle.std.specs.Prelude.{ℕ, ◌^◌, ◌<◌, ◌≤◌, ◌≡◌, length, get_or}
 use Rattle.field_values.specs.Limits.{tier_count, highest_class, highest_amount, highest_mode, highest_demand, highest_rate, highest_revenue, lowest_capacity, highest_capacity, highest_mark}
 use Rattle.field_values.specs.FactorLimits.{FactorsWithin}
 use Rattle.request.specs.Fields.{highest_loading}

@@ -15,7 +15,7 @@ use tagged::find::{Place, find, place_of};
 
 // Field 05: minimum scheme extension, customer enhancement extension, distributor enhancement,
 // transmission works, historical cost recovery, operating loading.
-#[derive(Drop)]
+#[derive(Clone, Copy)]
 pub struct Amounts {
     pub me: u32,
     pub ce: u32,
@@ -26,7 +26,7 @@ pub struct Amounts {
 }
 
 // Field 06, by tier.
-#[derive(Drop)]
+#[derive(Clone, Copy)]
 pub struct Tiers {
     pub modes: [u8; TIERS],
     pub demands: [u32; TIERS],
@@ -34,14 +34,14 @@ pub struct Tiers {
 }
 
 // Field 08: year-one revenue.
-#[derive(Drop)]
+#[derive(Clone, Copy)]
 pub struct Revenues {
     pub distribution: u32,
     pub transmission: u32,
 }
 
 // Field 0C.
-#[derive(Drop)]
+#[derive(Clone, Copy)]
 pub struct Connection {
     pub month: u16,
     pub capacity: u32,

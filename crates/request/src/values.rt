@@ -17,7 +17,7 @@ use field_values::limits::{SPECIAL_PRICING, TIERS};
 use tagged::file::{FileAnswer, Refusal};
 use tagged::refusals::VALUE_NOT_LISTED;
 
-#[derive(Drop)]
+#[derive(Clone, Copy)]
 pub struct Request {
     pub person: u32,
     // 0 residential, 1 non-residential, 2 special pricing
@@ -50,7 +50,7 @@ pub struct Request {
     pub mark: u8,
 }
 
-#[derive(Drop)]
+#[derive(Clone, Copy)]
 pub struct RequestRead {
     pub answer: FileAnswer,
     pub request: Request,

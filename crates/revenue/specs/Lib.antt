@@ -1,4 +1,3 @@
 pub mod RevenueLimits
 pub mod Revenue
 pub mod Cases
-pub mod Theorems

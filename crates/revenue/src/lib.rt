@@ -1,4 +1,6 @@
 // Incremental revenue: the lines charges of the years 0 to 30 at most, scaled and discounted year by year.
+#![tactic(auto)]
+
 ghost use Rattle.std.specs.Prelude.{◌≡◌, suc, ◌*◌, ◌<◌, ◌≤◌, min};
 ghost use Rattle.field_values.specs.FactorLimits.{FactorsWithin};
 ghost use Rattle.field_values.specs.Limits.{highest_factor, highest_revenue, sums_below};
@@ -14,7 +16,7 @@ pub const TRANSMISSION_OPEX_FACTOR: u16 = 10_000;
 
 // A stream of revenue, distribution or transmission: its year-one figure, its opex factor, and the
 // factor lists of its years.
-#[derive(Drop)]
+#[derive(Clone, Copy)]
 pub struct Stream {
     pub revenue: u32,
     pub opex_factor: u16,
@@ -103,6 +105,7 @@ pub fn life_of(class: u8) -> usize
 }
 
 // IR: both streams over the years 0 to life.
+#[tactic(auto, using(crate::proofs::Years::years), unfolding(crate::specs::Revenue::incremental_revenue))]
 pub fn incremental_revenue(distribution: Stream, transmission: Stream, b: u16, life: usize) -> u64
     requires { StreamWithin distribution × StreamWithin transmission × (life ≤ longest_life) }
     ensures { (result ≡ incremental_revenue distribution transmission b (suc life)) × (result ≤ highest_incremental_revenue) }

@@ -1,3 +1,3 @@
 pub mod Copying
 pub mod Lines
-pub mod Signs
+pub mod Theorems

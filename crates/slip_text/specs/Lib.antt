@@ -3,4 +3,3 @@ pub mod SlipReading
 pub mod ExactReading
 pub mod SlipEnding
 pub mod Cases
-pub mod Theorems

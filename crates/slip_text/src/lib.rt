@@ -1,4 +1,6 @@
 // The slip: the lines that the printing program writes for a pricing answer.
+#![tactic(auto)]
+
 ghost use Rattle.std.specs.Prelude.{◌≡◌, ◌+◌, ◌<◌, ◌≤◌, nat_abs, length, drop};
 ghost use mathlib.Core.List.{[], ◌∷◌, ◌++◌, flatten};
 ghost use Rattle.slip_text.specs.Slip.{room, text_of, decimal, signed_decimal, percent_text, exact_text, figure_text, line, figure_lines, reconciliation_lines, refusal_text, slip_of, slip_written, slip_buffer};
@@ -12,21 +14,21 @@ use tagged::refusals::OUTPUT_TOO_SHORT;
 pub const ROOM: usize = 384;
 
 // What is written so far: the first `len` bytes.
-#[derive(Drop)]
+#[derive(Clone, Copy)]
 struct Text {
     bytes: [u8; ROOM],
     len: usize,
 }
 
 // A figure of the slip.
-#[derive(Drop)]
+#[derive(Clone, Copy)]
 enum Figure {
     Unsigned(u64),
     Signed(i64),
     Percentage(Percent),
 }
 
-#[derive(Drop)]
+#[derive(Clone, Copy)]
 pub enum SlipWritten {
     // so many bytes were written
     Written(usize),
@@ -42,6 +44,8 @@ fn no_text() -> Text
     }
 }
 
+// `inline(never)`, here and below: in a caller's frame the copies of the text would stay on the stack.
+#[inline(never)]
 fn with_byte(text: Text, byte: u8) -> Text
     requires { text.len < room }
     ensures { (text_of result ≡ text_of text ++ byte ∷ []) × (result.len ≡ text.len + 1) }
@@ -53,6 +57,7 @@ fn with_byte(text: Text, byte: u8) -> Text
     longer
 }
 
+#[inline(never)]
 fn with_bytes(text: Text, bytes: &[u8]) -> Text
     requires { text.len + length bytes.now ≤ room }
     ensures { (text_of result ≡ text_of text ++ bytes.now) × (result.len ≡ text.len + length bytes.now) }
@@ -90,6 +95,8 @@ pub fn size(n: i64) -> u64
 }
 
 // "a negative figure starts with `-`". A sign and at most 20 digits are at most 21 bytes.
+#[tactic(auto, using(crate::proofs::Lines::digits))]
+#[inline(never)]
 fn with_signed(text: Text, n: i64) -> Text
     requires { text.len + 21 ≤ room }
     ensures { (text_of result ≡ text_of text ++ signed_decimal n) × (result.len ≤ text.len + 21) }
@@ -101,6 +108,7 @@ fn with_signed(text: Text, n: i64) -> Text
 }
 
 // "“none” is written `-`"
+#[inline(never)]
 fn with_percent(text: Text, percent: Percent) -> Text
     requires { text.len + 21 ≤ room }
     ensures { (text_of result ≡ text_of text ++ percent_text percent) × (result.len ≤ text.len + 21) }
@@ -113,6 +121,7 @@ fn with_percent(text: Text, percent: Percent) -> Text
 
 // "quotient, a blank, remainder; `-` where the divisor is 0". A sign, twice at most 20 digits and the
 // blank are at most 42 bytes.
+#[tactic(auto, using(crate::proofs::Lines::digits))]
 fn with_exact(text: Text, percent: Percent) -> Text
     requires { text.len + 42 ≤ room }
     ensures { (text_of result ≡ text_of text ++ exact_text percent) × (result.len ≤ text.len + 42) }
@@ -127,6 +136,7 @@ fn with_exact(text: Text, percent: Percent) -> Text
 }
 
 // A blank and a figure.
+#[tactic(auto, using(crate::proofs::Lines::digits))]
 fn with_figure(text: Text, figure: Figure) -> Text
     requires { text.len + 22 ≤ room }
     ensures { (text_of result ≡ text_of text ++ 32 ∷ figure_text figure) × (result.len ≤ text.len + 22) }
@@ -140,6 +150,7 @@ fn with_figure(text: Text, figure: Figure) -> Text
 }
 
 // A line: its label, a blank, its figure, byte 0A.
+#[inline(never)]
 fn with_line(text: Text, label: &[u8], figure: Figure) -> Text
     requires { text.len + length label.now + 23 ≤ room }
     ensures { (text_of result ≡ text_of text ++ line label.now (figure_text figure)) × (result.len ≤ text.len + length label.now + 23) }
@@ -164,13 +175,13 @@ fn figures_text(r: Reconciliation) -> Text
     let reliance = r.reliance;
     let upfront = r.upfront;
     let nc_ratio = r.nc_ratio;
-    let text = with_line(no_text(), b"CC", Figure::Unsigned(r.cc));
-    let text = with_line(text, b"IC", Figure::Unsigned(r.ic));
-    let text = with_line(text, b"IR", Figure::Unsigned(r.ir));
-    let text = with_line(text, b"NIC", Figure::Signed(r.nic));
-    let text = with_line(text, b"NC", Figure::Signed(r.nc));
-    let text = with_line(text, b"RELIANCE", Figure::Percentage(reliance));
-    let text = with_line(text, b"UPFRONT", Figure::Percentage(upfront));
+    let mut text = with_line(no_text(), b"CC", Figure::Unsigned(r.cc));
+    text = with_line(text, b"IC", Figure::Unsigned(r.ic));
+    text = with_line(text, b"IR", Figure::Unsigned(r.ir));
+    text = with_line(text, b"NIC", Figure::Signed(r.nic));
+    text = with_line(text, b"NC", Figure::Signed(r.nc));
+    text = with_line(text, b"RELIANCE", Figure::Percentage(reliance));
+    text = with_line(text, b"UPFRONT", Figure::Percentage(upfront));
     with_line(text, b"NCRATIO", Figure::Percentage(nc_ratio))
 }
 
@@ -186,6 +197,7 @@ fn reconciliation_text(r: Reconciliation) -> Text
 }
 
 // "A refusal is the one line `REFUSED n file place`."
+#[inline(never)]
 fn refusal_text(r: Refusal) -> Text
     ensures { (text_of result ≡ refusal_text r) × (result.len ≤ room) }
 {
@@ -196,6 +208,7 @@ fn refusal_text(r: Refusal) -> Text
     with_byte(text, b'\n')
 }
 
+#[tactic(auto, unfolding(crate::specs::Slip::slip_of))]
 fn pricing_text(pricing: Pricing) -> Text
     ensures { (text_of result ≡ slip_of pricing) × (result.len ≤ room) }
 {

@@ -4,7 +4,7 @@ use ledger::records::Ledger;
 use tagged::file::FileAnswer;
 
 // A refused reading hands back the ledger that it was given, and no entries.
-#[derive(Drop)]
+#[derive(Clone, Copy)]
 pub struct ReadBack {
     pub answer: FileAnswer,
     pub ledger: Ledger,

@@ -1,7 +1,7 @@
 // What writing a ledger answers.
 use tagged::file::Refusal;
 
-#[derive(Drop)]
+#[derive(Clone, Copy)]
 pub enum Written {
     // the form's length
     Length(usize),

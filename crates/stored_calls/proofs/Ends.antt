@@ -8,32 +8,31 @@ use native.Mathlib.Omega.{arith}
 use lib.ListN.{length, take, length-take}
 use lib.Seq.{take-take}
 use Rattle.tagged.specs.File.{fields_part}
-use Rattle.tagged.specs.declared.file.Refusal.{Refusal}
 use Rattle.tagged.specs.declared.file.FileAnswer.{FileAnswer}
 use Rattle.tagged.specs.declared.file.FileAnswer.TheVariants.{Stands, Refused}
 use Rattle.ledger.specs.Limits.{most_schemes, most_entries}
 use Rattle.ledger.specs.Lists.{at_start}
 use Rattle.ledger.specs.Records.{no_parties, new_ledger}
-use Rattle.ledger.specs.Theorems.Table.{length_no_parties}
+use Rattle.ledger.proofs.Theorems.Table.{length_no_parties}
 use Rattle.ledger.specs.Sound.{sound}
-use Rattle.ledger.specs.Theorems.Sound.{sound_means, new_ledger_sound}
+use Rattle.ledger.proofs.Theorems.Sound.{sound_means, new_ledger_sound}
 use Rattle.ledger.specs.declared.records.Party.{Party}
 use Rattle.ledger.specs.declared.records.Ledger.{Ledger}
 use Rattle.calls.specs.Decision.{Call, CallAnswer}
 use Rattle.calls.specs.Carried.{State}
 use Rattle.calls.specs.Calls.{state_of, leaves, Fits}
-use Rattle.kept_sound.specs.Theorems.KeptSound.{call_keeps_sound, leaves_length}
+use Rattle.kept_sound.proofs.Theorems.KeptSound.{call_keeps_sound, leaves_length}
 use Rattle.calls_by_value.specs.ByValue.{SoundOnRecords, PromisedOnRecords}
 use Rattle.stored.specs.Form.{stored_form, stored_entries, stored_ledger}
-use Rattle.stored.specs.Theorems.StoredAccepted.{accepted_means}
+use Rattle.stored.proofs.Theorems.StoredAccepted.{accepted_means}
 use Rattle.stored.specs.Reading.{ReadEnd, read_answer, read_by, read_back, table_by}
 use Rattle.stored.specs.Writing.{output_by, form_end, write_of}
-use Rattle.stored.specs.Theorems.Writing.{write_sound}
-use Rattle.stored.specs.Theorems.SameForm.{same_form}
+use Rattle.stored.proofs.Theorems.Writing.{write_sound}
+use Rattle.stored.proofs.Theorems.SameForm.{same_form}
 use Rattle.stored.specs.declared.reading.ReadBack.{ReadBack}
-use Rattle.stored_calls.specs.StoredCalls.{not_read, stored_read, read_end, end_by, once_read, call_on_read, stored_call_of}
-use Rattle.stored_calls.specs.Theorems.StoredCalls.{length_room}
-use Rattle.stored_calls.specs.Theorems.StoredCallsRefusals.{places_read, sound_read}
+use Rattle.stored_calls.specs.StoredCalls.{stored_read, read_end, end_by, once_read, call_on_read, stored_call_of}
+use Rattle.stored_calls.proofs.Theorems.StoredCalls.{length_room}
+use Rattle.stored_calls.proofs.Theorems.StoredCallsRefusals.{places_read, sound_read}
 
 -- ---- reading
 
@@ -79,9 +78,6 @@ module _ (file : List ℕ) (room : ℕ) (call : Call) (read : ReadBack) (same : 
   -- by reading's answer
   answered_by : {answer : FileAnswer} (out : List ℕ) → read.answer ≡ answer → once_read answer before call out ≡ stored_call_of file room call out
   answered_by out told = ap (λ answer. once_read answer before call out) (sym told) ∙ ap (λ end. call_on_read end call out) same
-
-  pub not_read_lem : {r : Refusal} (out : List ℕ) → read.answer ≡ Refused r → record { answer = not_read r; output = out } ≡ stored_call_of file room call out
-  not_read_lem out told = answered_by out told
 
   module _ (stands : read.answer ≡ Stands) where
     pub sound_here : SoundOnRecords room read.ledger read.parties

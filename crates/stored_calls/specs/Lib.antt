@@ -3,4 +3,3 @@ pub mod StoredCallEnding
 pub mod StoredRefusals
 pub mod StoredCallsRefusals
 pub mod Cases
-pub mod Theorems

@@ -2,6 +2,8 @@
 // into a table of `room` records, MOST_ENTRIES where that is more, the call is made on it, and the new form goes to the start of a lent
 // buffer. In turn: reading's refusals, the call's, and 14 where the buffer is shorter than the new form. A refusal leaves the
 // buffer as it was. Reading finds the ledger sound, and the call leaves it so: neither tests it again.
+#![tactic(auto)]
+
 ghost use Rattle.std.specs.Prelude.{◌≡◌, ◌≤◌};
 ghost use Rattle.ledger.specs.Limits.{most_schemes, most_entries};
 ghost use Rattle.calls.specs.Decision.{accept, pay_out, hand_over, of_accept, of_entry_call};
@@ -16,13 +18,13 @@ use stored::writing::Written;
 use tagged::file::{FileAnswer, Refusal};
 
 // The new form's length with the acceptance.
-#[derive(Drop)]
+#[derive(Clone, Copy)]
 pub struct StoredAcceptance {
     pub acceptance: Acceptance,
     pub length: usize,
 }
 
-#[derive(Drop)]
+#[derive(Clone, Copy)]
 pub enum StoredAccept {
     // reading's refusal: file 1 is the stored ledger
     NotRead(Refusal),
@@ -31,7 +33,7 @@ pub enum StoredAccept {
     Accepted(StoredAcceptance),
 }
 
-#[derive(Drop)]
+#[derive(Clone, Copy)]
 pub enum StoredAnswer {
     // reading's refusal: file 1 is the stored ledger
     NotRead(Refusal),
@@ -40,7 +42,7 @@ pub enum StoredAnswer {
     Done(usize),
 }
 
-#[derive(Drop)]
+#[derive(Clone, Copy)]
 pub struct StoredCounts {
     pub month: u16,
     pub connections: u32,
@@ -50,7 +52,7 @@ pub struct StoredCounts {
     pub entries: u32,
 }
 
-#[derive(Drop)]
+#[derive(Clone, Copy)]
 pub enum StoredCheck {
     NotRead(Refusal),
     Sound(StoredCounts),

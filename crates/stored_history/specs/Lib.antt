@@ -1,4 +1,4 @@
 pub mod StoredDemandThree
 pub mod EveryListOfStoredCalls
 pub mod Cases
-pub mod Theorems
+pub mod Laws

@@ -6,13 +6,13 @@ use native.Mathlib.Omega.{arith}
 use lib.ListN.{length, get_or, set, drop, length-append, length-take, length-drop}
 use Rattle.field_walk.specs.Walk.{FieldAt, FieldsWalk, value_of}
 use Rattle.tagged.specs.Find.{fields_of, fields_with, value_place, rest_place, part_of}
-use Rattle.tagged.specs.Theorems.FieldsWith.{with_this, with_past}
+use Rattle.tagged.proofs.Theorems.FieldsWith.{with_this, with_past}
 use Rattle.tagged.specs.WalkRelations.{Fields}
-use Rattle.tagged.specs.Theorems.Walk.{walk_fields}
+use Rattle.tagged.proofs.Theorems.Walk.{walk_fields}
 use Rattle.tagged.specs.FoundFields.{Next}
-use Rattle.tagged.specs.Theorems.FoundFields.{walk_next, walk_more, walk_end, walk_fields_of}
+use Rattle.tagged.proofs.Theorems.FoundFields.{walk_next, walk_more, walk_end, walk_fields_of}
 use Rattle.ledger.specs.Lists.{at_start}
-use Rattle.stored.specs.Theorems.Layout.{at_start_one_more}
+use Rattle.stored.proofs.Theorems.Layout.{at_start_one_more}
 use Rattle.stored.specs.Form.{each_with}
 
 -- of these fields, those with this tag have values of that length
@@ -81,10 +81,6 @@ module _ {A : Type 0} {read : List ℕ → A} {tag size : ℕ} {s : List ℕ} {n
 
       sized_after : SizedWith tag size others
       sized_after g among = so_far.sized g (subst (Memᴰ g) (sym front.2) (Memᴰ.tail among))
-
-      pub collect_shorter : length (part_of (rest_place rest) rest) < length rest
-      collect_shorter =
-          omega (arith, ap length after, length-drop (so_far.at + (f.len + 3)) s, ap length so_far.rest_is, length-drop so_far.at s)
 
       -- a field with another tag is passed by
       pub collect_passes : (get_or rest 0 0 ≡ tag → ⊥) → Collected read tag size s none table count (part_of (rest_place rest) rest)

@@ -1,9 +1,12 @@
 // Reading a stored ledger: the ledger and its entries, or the refusal.
+#![tactic(auto)]
+
 ghost use Rattle.std.specs.Prelude.{◌≡◌, ◌≤◌, length};
 ghost use Rattle.field_walk.specs.Walk.{FieldsWalk};
 ghost use Rattle.ledger.specs.Lists.{at_start};
 ghost use Rattle.ledger.specs.Limits.{most_schemes, most_entries};
 ghost use Rattle.ledger.specs.Records.{no_parties};
+ghost use Rattle.ledger.specs.Sound.{sound};
 ghost use Rattle.stored.specs.StoredRows.{stored_rows};
 ghost use Rattle.stored.specs.Form.{scheme_of_bytes, party_of_bytes, stored_schemes, stored_entries, no_schemes, stored_ledger};
 ghost use Rattle.stored.specs.Reading.{table_answer, fields_answer, refused_read, read_by, read_back};
@@ -17,14 +20,14 @@ use tagged::file::{FileAnswer, Refusal};
 use tagged::refusals::{LEDGER_UNSOUND, NO_ENTRY_LEFT, VALUE_NOT_LISTED};
 
 // The schemes of a file, in the first `count` places.
-#[derive(Drop)]
+#[derive(Clone, Copy)]
 struct SchemesRead {
     schemes: Schemes,
     count: usize,
 }
 
 // The entries of a file, in the first `count` places.
-#[derive(Drop)]
+#[derive(Clone, Copy)]
 struct EntriesRead {
     parties: Parties,
     count: usize,
@@ -65,6 +68,9 @@ fn read_party(value: &[u8]) -> Party
     }
 }
 
+// `inline(never)`, here and below: in a caller's frame the copies of the records would stay on the
+// stack.
+#[inline(never)]
 fn read_schemes(fields: &[u8]) -> SchemesRead
     requires { FieldsWalk stored_rows fields.now }
     ensures { (result.schemes ≡ at_start (stored_schemes fields.now) no_schemes) × (result.count ≡ length (stored_schemes fields.now)) × (result.count ≤ most_schemes) }
@@ -87,6 +93,7 @@ fn read_schemes(fields: &[u8]) -> SchemesRead
     }
 }
 
+#[inline(never)]
 fn read_entries(fields: &[u8]) -> EntriesRead
     requires { FieldsWalk stored_rows fields.now }
     ensures { (result.parties ≡ at_start (stored_entries fields.now) no_parties) × (result.count ≡ length (stored_entries fields.now)) × (result.count ≤ most_entries) }
@@ -137,6 +144,14 @@ fn refused(ledger: Ledger, refusal: Refusal) -> ReadBack
     }
 }
 
+// Whether a ledger is sound with these entries, in a table of `room` records.
+#[inline(never)]
+fn is_sound(ledger: &Ledger, parties: &Parties, room: usize) -> bool
+    ensures { result ≡ sound ledger.now parties.now room }
+{
+    ledger::sound::sound(*ledger, *parties, room)
+}
+
 // The ledger and the entries of a file's fields, where they are sound in a table of `room` records.
 fn read_values(ledger: Ledger, room: usize, fields: &[u8]) -> ReadBack
     requires { FieldsWalk stored_rows fields.now }
@@ -155,7 +170,7 @@ fn read_values(ledger: Ledger, room: usize, fields: &[u8]) -> ReadBack
         );
     }
     let read = read_ledger(fields, entries.count);
-    if !ledger::sound::sound(read, parties, room) {
+    if !is_sound(&read, &parties, room) {
         return refused(
             ledger,
             Refusal {

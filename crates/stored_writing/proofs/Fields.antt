@@ -10,16 +10,16 @@ use lib.Seq.{take-suc, length-take-le}
 use Rattle.ledger.specs.Lists.{at_start}
 use Rattle.ledger.specs.Columns.{sum_of}
 use Rattle.numbers.specs.BigEndian.{bytes_of, written}
-use Rattle.numbers.specs.Theorems.BigEndian.{length_bytes_of, length_written, take_written, written_written}
+use Rattle.numbers.proofs.Theorems.BigEndian.{length_bytes_of, length_written, take_written, written_written}
 use Rattle.numbers.specs.Check.{check}
 use Rattle.tagged.specs.Encoded.{encoded_parts, closed}
-use Rattle.tagged.specs.Theorems.FoundFields.{encoded_parts_append}
+use Rattle.tagged.proofs.Theorems.FoundFields.{encoded_parts_append}
 use Rattle.ledger.specs.declared.records.Party.{Party}
 use Rattle.ledger.specs.declared.records.Ledger.{Ledger}
 use Rattle.stored.specs.Layout.{record_bytes, head_values}
-use Rattle.stored.specs.Theorems.Layout.{length_record_bytes, written_each, written_each_lem, written_at_start}
+use Rattle.stored.proofs.Theorems.Layout.{length_record_bytes, written_each, written_each_lem, written_at_start}
 use Rattle.stored.specs.Form.{letters_part, head_part, scheme_part, party_part, scheme_parts, party_parts, stored_parts, header_length, scheme_length, check_length, form_length}
-use Rattle.stored.specs.Theorems.Form.{length_one, length_encoded_parts, length_each, length_front, length_until_entries, length_fields}
+use Rattle.stored.proofs.Theorems.Form.{length_one, length_encoded_parts, length_each, length_front, length_until_entries, length_fields}
 
 -- a number as one byte is that byte
 bytes_of_one : (n : ℕ) → bytes_of 1 n ≡ n ∷ []

@@ -1,4 +1,6 @@
 // Writing a ledger and its entries as their stored form.
+#![tactic(auto)]
+
 ghost use Rattle.std.specs.Prelude.{◌≡◌, [], ◌∷◌, ◌++◌, map, ◌+◌, ◌*◌, ◌≤◌, length, take};
 ghost use Rattle.numbers.specs.BigEndian.{bytes_of, written};
 ghost use Rattle.numbers.specs.Check.{check};

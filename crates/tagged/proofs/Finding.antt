@@ -9,7 +9,7 @@ use borrow.Author.Tests.{leb-true, eq-eqb, ne_eqb}
 use Rattle.tagged.specs.declared.find.Place.TheVariants.{At, Nowhere}
 use Rattle.field_walk.specs.Walk.{length_at}
 use Rattle.tagged.specs.Find.{whole_field, fields_from, first_with, first_place}
-use Rattle.field_walk.proofs.Rest.{rest_from, rest_from_drop, SoFar, at_start, one_field_on}
+use Rattle.field_walk.proofs.Rest.{rest_from, rest_from_drop, SoFar, one_field_on}
 
 second_true : (first second : Bool) → cond first false second ≡ true → second ≡ true
 second_true true second e = absurd (true≢false (sym e))
@@ -21,9 +21,6 @@ whole_fits s e h = leb-true _ _ (second_true (ltb (length s) 3) _ (sym e ∙ h))
 
 abbrev pub SearchSoFar : ℕ → List ℕ → List ℕ → ℕ → Type 0
 SearchSoFar tag file rest at = SoFar (first_place tag file) file rest at (λ most. first_with tag (fields_from most at rest))
-
-pub search_starts : (tag : ℕ) (file : List ℕ) → SearchSoFar tag file file 0
-search_starts tag file = at_start file _
 
 module _ (tag : ℕ) (file rest : List ℕ) (at : ℕ) (s : SearchSoFar tag file rest at) {whole : Bool} (e : whole ≡ whole_field rest) where
   pub search_ends : whole ≡ false → first_place tag file ≡ Nowhere

@@ -1,5 +1,5 @@
 -- What a walk by any rows says of its fields: they stand by the rows (`Stand`), and they are the file, one after the other (`Fields`).
-use Rattle.std.specs.Prelude.{ℕ, ◌+◌, ◌-◌, ◌<◌, ◌≤◌, ◌≡◌, true, length, get_or}
+use Rattle.std.specs.Prelude.{ℕ, ◌+◌, ◌<◌, ◌≤◌, ◌≡◌, true, length, get_or}
 use mathlib.Core.List.{List, [], ◌∷◌, ◌++◌, Memᴰ}
 use Rattle.numbers.specs.BigEndian.{number_at}
 use Rattle.field_walk.specs.Walk.{tag_of, least_of, most_of, permitted_by, FieldAt}

@@ -6,14 +6,14 @@ use crate::refusals::{CHECK_DIFFERS, FILE_DOES_NOT_WALK};
 use field_walk::walk::{Row, Walked};
 
 // How a call is refused: document 01's number, the file and the place.
-#[derive(Drop)]
+#[derive(Clone, Copy)]
 pub struct Refusal {
     pub number: u8,
     pub file: u8,
     pub place: usize,
 }
 
-#[derive(Drop)]
+#[derive(Clone, Copy)]
 pub enum FileAnswer {
     Stands,
     Refused(Refusal),
@@ -58,7 +58,7 @@ fn check_stands(file: &[u8]) -> bool
 
 // The fields of a file: all but its last five bytes.
 pub fn fields_part<'a>(file: &'a [u8]) -> &'a [u8]
-    ensures { (result.now ≡ fields_part file.now) × (result.ref_ptr ≡ file.entry.ptr) }
+    ensures { (result.now ≡ fields_part file.now) × (result.ref_ptr ≡ file.entry.ref_ptr) }
 {
     if file.len() < 5 {
         return &file[..0];

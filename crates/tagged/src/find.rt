@@ -3,7 +3,7 @@ ghost use Rattle.std.specs.Prelude.{◌≡◌, length};
 ghost use Rattle.tagged.specs.Find.{whole_field, first_place, value_place, rest_place, start_of, PlaceWithin, IsPart};
 
 // Where a part of a file stands.
-#[derive(Drop)]
+#[derive(Clone, Copy)]
 pub enum Place {
     At { start: usize, len: usize },
     Nowhere,

@@ -2,6 +2,8 @@
 //
 // Document 01, 'Tagged fields' and 'How calls end'. A kind of file (rate book, request, stored
 // ledger) hands its rows to the one walker; nothing here knows which kinds there are.
+#![tactic(auto)]
+
 pub mod file;
 pub mod find;
 pub mod refusals;

@@ -1,5 +1,7 @@
 // Deciding: what becomes of a priced request, its joining and then its opening. All refusals of accept but 13 and pricing's are
 // here, and nothing is changed.
+#![tactic(auto)]
+
 ghost use Rattle.std.specs.Prelude.{◌≡◌, true, ℕ, ◌*◌, ◌≤◌, take};
 ghost use Rattle.ledger.specs.Limits.{most_schemes, most_entries};
 ghost use Rattle.ledger.specs.Books.{Books, scheme_particulars};

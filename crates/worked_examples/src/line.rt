@@ -1,11 +1,12 @@
 // A line of the program's text.
 ghost use Rattle.std.specs.Prelude.{◌≤◌, length};
 
-use libc::STDOUT_FILENO;
 use printed_figures::printed::NAMES;
+use std::io;
+use std::io::Write;
 
 // A figure with its sign: `negative` is 1 or 0.
-#[derive(Drop)]
+#[derive(Clone, Copy)]
 pub struct SignedFigure {
     pub negative: u64,
     pub size: u64,
@@ -42,42 +43,42 @@ pub fn word(text: &[u8], start: usize) -> &[u8]
     &text[start..]
 }
 
-pub fn write(text: &[u8]) {
-    io::write_all(STDOUT_FILENO, text);
+pub fn write(rt: &impl Print, text: &[u8]) {
+    let _ = io::writer(rt).write_all(text);
 }
 
-pub fn write_number(n: u64) {
-    io::print_decimal(STDOUT_FILENO, n);
+pub fn write_number(rt: &impl Print, n: u64) {
+    let _ = print!(rt; "{n}");
 }
 
 // A blank and a figure.
-pub fn write_signed(n: SignedFigure) {
-    write(b" ");
+pub fn write_signed(rt: &impl Print, n: SignedFigure) {
+    write(rt, b" ");
     if n.negative == 1 {
-        write(b"-");
+        write(rt, b"-");
     }
-    write_number(n.size);
+    write_number(rt, n.size);
 }
 
 // A blank and a figure's name.
-pub fn write_name(figure: u64) {
-    write(b" ");
+pub fn write_name(rt: &impl Print, figure: u64) {
+    write(rt, b" ");
     if figure < 13 {
-        write(word(&NAMES, figure as usize * 9));
+        write(rt, word(&NAMES, figure as usize * 9));
     }
 }
 
-pub fn write_marks(within: bool, half: bool, no_evidence: bool) {
+pub fn write_marks(rt: &impl Print, within: bool, half: bool, no_evidence: bool) {
     if within {
-        write(b" yes");
+        write(rt, b" yes");
     } else {
-        write(b" NO");
+        write(rt, b" NO");
     }
     if half {
-        write(b" half");
+        write(rt, b" half");
     }
     if no_evidence {
-        write(b" no evidence for CC");
+        write(rt, b" no evidence for CC");
     }
-    write(b"\n");
+    write(rt, b"\n");
 }

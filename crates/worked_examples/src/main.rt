@@ -5,9 +5,11 @@
 // within half the printed unit alone. "no evidence for CC": the credit share was fitted to the
 // printed charge. An example with a star is recast: what document 000 recovers by yearly charges
 // stands as capacity that isn't charged.
+#![tactic(auto)]
+
 mod line;
 
-ghost use Rattle.io.specs.Counts.{IsPrefixLen};
+ghost use Rattle.std.specs.Counts.{IsPrefixLen};
 
 use charge::Pricing;
 use line::{SignedFigure, signed, unsigned, word, write, write_number, write_signed};
@@ -15,9 +17,10 @@ use printed_figures::printed::Printed;
 use printed_figures::tolerance::{Bounds, capped};
 use printed_figures::{printed, tolerance};
 use reconciliation::{Percent, Reconciliation};
+use std::rt::Files;
 use tagged::file::Refusal;
 
-#[derive(Drop)]
+#[derive(Clone, Copy)]
 struct Tally {
     figures: u64,
     within: u64,
@@ -99,20 +102,20 @@ fn one_more(n: u64, counts: bool) -> u64 {
     if counts { capped(n) + 1 } else { n }
 }
 
-fn write_example(pricing: usize) {
+fn write_example(rt: &impl Print, pricing: usize) {
     if pricing < printed::PRICING_COUNT {
-        write(word(&printed::FILES, pricing * printed::ROW));
+        write(rt, word(&printed::FILES, pricing * printed::ROW));
     }
 }
 
 // The bytes of the file that a pricing's row names in a column.
-fn read_column(pricing: usize, column: usize, space: &mut [u8]) -> usize
+fn read_column(rt: &impl Files, pricing: usize, column: usize, space: &mut [u8]) -> usize
     ensures { IsPrefixLen result space.new }
 {
     if pricing < printed::PRICING_COUNT {
         if column < printed::ROW {
             let place = pricing * printed::ROW + column;
-            return files::read_file(word(&printed::FILES, place), space);
+            return files::read_file(rt, word(&printed::FILES, place), space);
         }
     }
     0
@@ -121,6 +124,7 @@ fn read_column(pricing: usize, column: usize, space: &mut [u8]) -> usize
 // A printed figure, where it is of this pricing, against the computed one, which may lie off by the
 // bound besides.
 fn held_figure(
+    rt: &impl Print,
     pricing: usize,
     row: Printed,
     r: Reconciliation,
@@ -140,12 +144,17 @@ fn held_figure(
     let half = capped(row.unit / 2);
     let tolerance = half + capped(bound_of(bounds, figure));
     let off = distance(printed, computed);
-    write_example(pricing);
-    line::write_name(figure);
-    write_signed(printed);
-    write_signed(computed);
-    write_signed(unsigned(tolerance));
-    line::write_marks(off <= tolerance, off <= half, no_evidence(fitted, figure));
+    write_example(rt, pricing);
+    line::write_name(rt, figure);
+    write_signed(rt, printed);
+    write_signed(rt, computed);
+    write_signed(rt, unsigned(tolerance));
+    line::write_marks(
+        rt,
+        off <= tolerance,
+        off <= half,
+        no_evidence(fitted, figure),
+    );
     Tally {
         figures: one_more(tally.figures, true),
         within: one_more(tally.within, off <= tolerance),
@@ -154,6 +163,7 @@ fn held_figure(
 }
 
 fn held_figures(
+    rt: &impl Print,
     pricing: usize,
     r: Reconciliation,
     bounds: Bounds,
@@ -163,20 +173,20 @@ fn held_figures(
     let mut sum = tally;
     let mut k: usize = 0;
     while k < printed::FIGURE_COUNT {
-        sum = held_figure(pricing, printed::figure(k), r, bounds, fitted, sum);
+        sum = held_figure(rt, pricing, printed::figure(k), r, bounds, fitted, sum);
         k += 1;
     }
     sum
 }
 
 // A refused example counts as one figure that isn't within.
-fn refused(pricing: usize, refusal: Refusal, tally: Tally) -> Tally {
-    write_example(pricing);
-    write(b" REFUSED");
-    write_signed(unsigned(refusal.number as u64));
-    write_signed(unsigned(refusal.file as u64));
-    write_signed(unsigned(refusal.place as u64));
-    write(b"\n");
+fn refused(rt: &impl Print, pricing: usize, refusal: Refusal, tally: Tally) -> Tally {
+    write_example(rt, pricing);
+    write(rt, b" REFUSED");
+    write_signed(rt, unsigned(refusal.number as u64));
+    write_signed(rt, unsigned(refusal.file as u64));
+    write_signed(rt, unsigned(refusal.place as u64));
+    write(rt, b"\n");
     Tally {
         figures: one_more(tally.figures, true),
         within: tally.within,
@@ -185,34 +195,40 @@ fn refused(pricing: usize, refusal: Refusal, tally: Tally) -> Tally {
 }
 
 // The share was fitted to the charge where its unit isn't 0.
-fn held_answer(pricing: usize, answer: Pricing, bounds: Bounds, tally: Tally) -> Tally {
+fn held_answer(
+    rt: &impl Print,
+    pricing: usize,
+    answer: Pricing,
+    bounds: Bounds,
+    tally: Tally,
+) -> Tally {
     match answer {
-        Pricing::NotPriced(refusal) => refused(pricing, refusal, tally),
+        Pricing::NotPriced(refusal) => refused(rt, pricing, refusal, tally),
         Pricing::Priced(bill) => {
             let r = bill.reconciliation;
             let units = printed::units(pricing);
-            held_figures(pricing, r, bounds, units[3] != 0, tally)
+            held_figures(rt, pricing, r, bounds, units[3] != 0, tally)
         }
     }
 }
 
-fn held_request(pricing: usize, book: &[u8], tally: Tally) -> Tally {
-    let mut space = io::buffer();
-    let size = read_column(pricing, printed::REQUEST, &mut space);
+fn held_request(rt: &(impl Files + Print), pricing: usize, book: &[u8], tally: Tally) -> Tally {
+    let mut space = [0u8; 4096];
+    let size = read_column(rt, pricing, printed::REQUEST, &mut space);
     let request = &space[..size];
     let bounds = tolerance::file_bounds(book, request, printed::units(pricing));
     let answer = charge::price(book, request);
-    held_answer(pricing, answer, bounds, tally)
+    held_answer(rt, pricing, answer, bounds, tally)
 }
 
-fn held_pricing(pricing: usize, tally: Tally) -> Tally {
-    let mut space = io::buffer();
-    let size = read_column(pricing, printed::BOOK, &mut space);
+fn held_pricing(rt: &(impl Files + Print), pricing: usize, tally: Tally) -> Tally {
+    let mut space = [0u8; 4096];
+    let size = read_column(rt, pricing, printed::BOOK, &mut space);
     let book = &space[..size];
-    held_request(pricing, book, tally)
+    held_request(rt, pricing, book, tally)
 }
 
-fn held_pricings() -> Tally {
+fn held_pricings(rt: &(impl Files + Print)) -> Tally {
     let mut tally = Tally {
         figures: 0,
         within: 0,
@@ -220,19 +236,19 @@ fn held_pricings() -> Tally {
     };
     let mut pricing: usize = 0;
     while pricing < printed::PRICING_COUNT {
-        tally = held_pricing(pricing, tally);
+        tally = held_pricing(rt, pricing, tally);
         pricing += 1;
     }
     tally
 }
 
-fn main() {
-    write(b"example figure printed computed tolerance within\n");
-    let tally = held_pricings();
-    write_number(tally.figures);
-    write(b" figures, ");
-    write_number(tally.within);
-    write(b" within their tolerance, ");
-    write_number(tally.half);
-    write(b" within half the printed unit alone\n");
+fn main(rt: HostRuntime) {
+    write(&rt, b"example figure printed computed tolerance within\n");
+    let tally = held_pricings(&rt);
+    write_number(&rt, tally.figures);
+    write(&rt, b" figures, ");
+    write_number(&rt, tally.within);
+    write(&rt, b" within their tolerance, ");
+    write_number(&rt, tally.half);
+    write(&rt, b" within half the printed unit alone\n");
 }

@@ -128,8 +128,11 @@ accept_cases =
     refused_case new_ledger [] (Priced opening) (refusal 9 0 0) ∷
     []
 
-pub accept_cases_hold :
+abbrev pub AcceptCasesHold : Type 0
+AcceptCasesHold =
     map {B = CallAnswer × State} (λ row. (answered_by row.0.0 row.0.1, leaves_by row.0.0 row.0.1)) accept_cases
     ≡ map (λ row. (row.1, row.2)) accept_cases
+
+pub accept_cases_hold : AcceptCasesHold
 unfolding verdict sound parties_sound schemes_sound all_zero sum_over first_put_in scheme_place
 accept_cases_hold = refl

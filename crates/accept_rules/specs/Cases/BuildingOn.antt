@@ -71,8 +71,11 @@ short_table_cases =
     (bill 5000001 24398 5000, is_refused (refusal 9 0 0), opened) ∷
     []
 
-pub short_table_cases_hold :
+abbrev pub ShortTableCasesHold : Type 0
+ShortTableCasesHold =
     map {B = CallAnswer × State} (λ row. (answered_by opened (Priced row.0), leaves_by opened (Priced row.0))) short_table_cases
     ≡ map (λ row. (row.1, row.2)) short_table_cases
+
+pub short_table_cases_hold : ShortTableCasesHold
 unfolding verdict sound parties_sound schemes_sound all_zero sum_over first_put_in scheme_place
 short_table_cases_hold = refl

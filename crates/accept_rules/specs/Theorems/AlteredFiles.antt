@@ -6,7 +6,7 @@ use Rattle.tagged.specs.File.{refusal}
 use Rattle.tagged.specs.Refusals.{ledger_unsound}
 use Rattle.tagged.specs.declared.file.Refusal.{Refusal}
 use Rattle.charge.specs.Price.{price_of}
-use Rattle.charge.specs.Theorems.Bill.{altered_book_not_priced, altered_request_not_priced}
+use Rattle.charge.proofs.Theorems.Bill.{altered_book_not_priced, altered_request_not_priced}
 use Rattle.charge.specs.declared.Bill.{Bill}
 use Rattle.charge.specs.declared.Pricing.TheVariants.{Priced, NotPriced}
 use Rattle.ledger.specs.Sound.{sound}

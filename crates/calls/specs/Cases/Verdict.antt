@@ -24,9 +24,6 @@ use Rattle.calls.specs.declared.courses.Verdict.{Verdict}
 use Rattle.calls.specs.declared.courses.Verdict.TheVariants.{Accepts, Refuses}
 use Rattle.calls.specs.declared.answers.JoiningAnswer.{JoiningAnswer}
 use Rattle.calls.specs.declared.answers.OpeningAnswer.{OpeningAnswer}
-use Rattle.calls.specs.declared.courses.Joining.TheVariants as Joining
-use Rattle.calls.specs.declared.answers.JoiningAnswer.TheVariants as JoiningAnswer
-use Rattle.calls.specs.declared.answers.OpeningAnswer.TheVariants as OpeningAnswer
 
 -- ---- bills
 

@@ -1,6 +1,5 @@
 -- Document 01, 'Marked figures', over the definitions. M6 to M8 are the ledger's.
 use Rattle.std.specs.Prelude.{ℕ, ◌*◌, ◌-◌, ◌≡◌, refl, true, false, replicate, ℤ, pos, negsuc}
-use Rattle.std.proofs.Common.{ap}
 use mathlib.Core.List.{List, [], ◌∷◌, ◌++◌, flat_map}
 use Rattle.numbers.specs.BigEndian.{number, bytes_of}
 use Rattle.numbers.specs.Check.{check, check_from}
@@ -128,13 +127,13 @@ pub record MarkedFigures : Type 0 where
   pub m9 : percent_of (negsuc 0) 200 ≡ whole (negsuc 0) (negsuc 0) 100
 
 pub marked_figures : MarkedFigures
-unfolding check_from discount
+unfolding check_from number bytes_of due_from all_had front_of walk_from fields_from first_with fields_with judge_numbers same_bytes judge_zones_from book_of request_of discount incremental_revenue zone_found values_priced request_priced price_of flat_map
 marked_figures =
     record {
       m1 = (refl, refl, refl);
       m2 = (refl, refl);
       m3 = refl;
-      m4 = ap figures_of slip_priced;
+      m4 = refl;
       m5 = (refl, refl, refl, refl);
       m9 = refl;
     }

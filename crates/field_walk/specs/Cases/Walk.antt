@@ -1,5 +1,5 @@
 -- Small files, walked: every way in which a field can't stand, with its offset.
-use Rattle.std.specs.Prelude.{ℕ, ◌-◌, ◌≡◌, refl, List, [], ◌∷◌, map}
+use Rattle.std.specs.Prelude.{ℕ, ◌≡◌, refl, List, [], ◌∷◌, map}
 use Rattle.numbers.specs.BigEndian.{number}
 use Rattle.field_walk.specs.Walk.{due_from, all_had, front_of, FieldAt, Walk, fields, stops, walk_from, walk}
 

@@ -1,17 +1,17 @@
 -- Document 01, 'How calls end', for a caller that looks at the result: it is 0 exactly where the file stands, and otherwise has number 1, 2 or 3.
 use Rattle.std.specs.Prelude.{ℕ, ◌≡◌, refl, List}
 use Rattle.tagged.specs.Refusals.{value_not_listed}
-use Rattle.tagged.specs.Theorems.File.{RefusesTo}
+use Rattle.tagged.proofs.Theorems.File.{RefusesTo}
 use Rattle.tagged.specs.declared.file.FileAnswer.{FileAnswer}
 use Rattle.tagged.specs.declared.file.FileAnswer.TheVariants.{Stands, Refused}
 use Rattle.rate_book.specs.Book.{book_of}
-use Rattle.rate_book.specs.Theorems.Book.{book_refusal_numbers}
+use Rattle.rate_book.proofs.Theorems.Book.{book_refusal_numbers}
 use Rattle.request.specs.Request.{request_of}
-use Rattle.request.specs.Theorems.Request.{request_refusal_numbers}
+use Rattle.request.proofs.Theorems.Request.{request_refusal_numbers}
 use Rattle.ledger.specs.RefusalNumbers.{one_to}
-use Rattle.ledger.specs.Theorems.RefusalNumbers.{within_one_to}
+use Rattle.ledger.proofs.Theorems.RefusalNumbers.{within_one_to}
 use Rattle.quoting_unit.specs.UnitResults.{Results}
-use Rattle.quoting_unit.specs.Theorems.UnitResults.{is_done, is_refused}
+use Rattle.quoting_unit.proofs.Theorems.UnitResults.{is_done, is_refused}
 use Rattle.fikrem_files.specs.FileResult.{file_read_alone, file_result}
 
 -- the result of a reading, by its answer

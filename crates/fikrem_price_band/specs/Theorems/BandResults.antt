@@ -6,16 +6,16 @@ use Rattle.tagged.specs.File.{refusal}
 use Rattle.tagged.specs.Refusals.{bespoke_not_allowed, output_too_short}
 use Rattle.tagged.specs.declared.file.Refusal.{Refusal}
 use Rattle.ledger.specs.RefusalNumbers.{one_of, one_to}
-use Rattle.ledger.specs.Theorems.RefusalNumbers.{one_of_more, within_one_to}
+use Rattle.ledger.proofs.Theorems.RefusalNumbers.{one_of_more, within_one_to}
 use Rattle.price_band.specs.PriceBand.{band_of}
 use Rattle.price_band.specs.BandEnding.{BandRefusal}
-use Rattle.price_band.specs.Theorems.BandEnding.{band_refusal}
+use Rattle.price_band.proofs.Theorems.BandEnding.{band_refusal}
 use Rattle.price_band.specs.declared.Bands.{Bands}
 use Rattle.price_band.specs.declared.Band.{Band}
 use Rattle.price_band.specs.declared.BandPricing.{BandPricing}
 use Rattle.price_band.specs.declared.BandPricing.TheVariants.{Priced, NotPriced}
 use Rattle.quoting_unit.specs.UnitResults.{Results}
-use Rattle.quoting_unit.specs.Theorems.UnitResults.{is_done, is_refused}
+use Rattle.quoting_unit.proofs.Theorems.UnitResults.{is_done, is_refused}
 use Rattle.fikrem_price_band.specs.BandResult.{band_places, BandEnd, end_of, band_end}
 use Rattle.fikrem_price_band.specs.BandResults.{band_numbers}
 

@@ -1,26 +1,19 @@
 -- M7 as a history from bytes: its opening and its two joinings, another scheme between them, then a pay-out and a hand-over, and calls that are refused.
 -- Every figure of the history stands here as a literal.
-use Rattle.std.specs.Prelude.{ℕ, ◌≡◌, refl, Bool, true, false, List, [], ◌∷◌, replicate}
-use Rattle.std.proofs.Common.{sym, ap, subst}
+use Rattle.std.specs.Prelude.{ℕ, ◌≡◌, Bool, true, false, List, [], ◌∷◌, replicate}
 use Rattle.tagged.specs.File.{refusal}
-use Rattle.charge.specs.Price.{price_of}
-use Rattle.charge.specs.Cases.MarkedFigures.{slip_book, scheme_request, scheme_bill, scheme_bills}
+use Rattle.charge.specs.Cases.MarkedFigures.{slip_book, scheme_request, scheme_bill}
 use Rattle.charge.specs.declared.Bill.{Bill}
-use Rattle.charge.specs.declared.Pricing.{Pricing}
-use Rattle.charge.specs.declared.Pricing.TheVariants.{Priced}
 use Rattle.ledger.specs.Records.{scheme_of, party_of, ledger_of, no_scheme}
-use Rattle.ledger.specs.Books.{SchemeParticulars, EntryParticulars, Books}
+use Rattle.ledger.specs.Books.{SchemeParticulars, EntryParticulars}
 use Rattle.calls.specs.Rules.{Credit}
-use Rattle.calls.specs.Verdict.{verdict}
-use Rattle.calls.specs.Decision.{Call, accept, pay_out, hand_over, Decision, CallAnswer, is_accepted, is_done, is_refused}
+use Rattle.calls.specs.Decision.{Call, accept, pay_out, hand_over, CallAnswer, is_accepted, is_done, is_refused}
 use Rattle.calls.specs.declared.answers.JoiningAnswer.{JoiningAnswer}
 use Rattle.calls.specs.declared.answers.JoiningAnswer.TheVariants.{NotAsked, Joined}
 use Rattle.calls.specs.declared.answers.OpeningAnswer.{OpeningAnswer}
 use Rattle.calls.specs.declared.answers.OpeningAnswer.TheVariants.{NotOpened, Opened}
-use Rattle.history.specs.History.{Entering, History, Account, account_of, cost, fee, joinings, collected, fees, credited, paid_of, standing_credits, capacity, put_ins, credited_to, paid_to, person_of, connections, charged, borne, cost_entered, openings, times, books_in, ledger_in, parties_in, history_from, answers_from, no_history, history_of, answers_of}
+use Rattle.history.specs.History.{Entering, History, Account, account_of, cost, fee, joinings, collected, fees, credited, paid_of, standing_credits, capacity, put_ins, credited_to, paid_to, person_of, connections, charged, borne, cost_entered, openings, times, books_in, ledger_in, parties_in, history_of, answers_of}
 use Rattle.history.specs.DemandThree.{Balanced}
-use Rattle.history.specs.Cases.DecidedCalls.{priced_as, called_as, history_by, answers_by}
-use Rattle.history.specs.Cases.PricedCalls.{priced_requests}
 
 -- ---- the calls, on a table of four records
 
@@ -42,36 +35,6 @@ marked_calls =
     pay_out 2 493335 ∷
     hand_over 2 4712 ∷
     []
-
--- the same, by what pricing answers of the four requests
-abbrev rules : Pricing → Pricing → Pricing → Pricing → List (Books → Decision)
-rules opening joining other last =
-    priced_as opening ∷
-    priced_as joining ∷
-    priced_as other ∷
-    priced_as last ∷
-    priced_as other ∷
-    called_as (pay_out 1 1000000) ∷
-    called_as (pay_out 2 493335) ∷
-    called_as (hand_over 2 4712) ∷
-    []
-
-abbrev billed : List (Books → Decision)
-billed =
-    rules (Priced (scheme_bill 6000000 24315 10000 0)) (Priced (scheme_bill 1039630 24315 5000 1)) (Priced (scheme_bill 5000001 24315 10000 0))
-    (Priced (scheme_bill 1039630 24398 5000 1))
-
-unfoldable pub marked_by_bills : History
-marked_by_bills = history_by 4 no_history billed
-
-rules_priced : rules (price_of slip_book (scheme_request 6000000 24315 10000 0)) (price_of slip_book (scheme_request 1039630 24315 5000 1))
-    (price_of slip_book (scheme_request 5000001 24315 10000 0)) (price_of slip_book (scheme_request 1039630 24398 5000 1))
-    ≡ billed
-rules_priced = λ i. rules (scheme_bills.opening i) (scheme_bills.joining i) (scheme_bills.above_threshold i) (priced_requests.marked_last i)
-
-pub marked_by_bills_lem : history_of 4 marked_calls ≡ marked_by_bills
-unfolding history_from history_by marked_by_bills
-marked_by_bills_lem = ap (history_by 4 no_history) rules_priced
 
 -- ---- the rows
 
@@ -240,38 +203,5 @@ pub record HistoryIs (history : History) (answers : List CallAnswer) : Type 0 wh
       is_done ∷
       []
 
-account_cases : HistoryIs marked_by_bills (answers_by 4 no_history billed)
-unfolding marked_by_bills history_by answers_by verdict
-account_cases =
-    record {
-      balanced =
-          record {
-            collected_whole = refl;
-            collected_credited = refl;
-            credited_parties = refl;
-            paid_parties = refl;
-            cost_borne = refl;
-          };
-      marked_scheme = refl;
-      other_scheme = refl;
-      never_opened = refl;
-      parties = refl;
-      entered = refl;
-      paid = refl;
-      handed = refl;
-      month = refl;
-      next_scheme = refl;
-      next_entry = refl;
-      opened_times = refl;
-      made_times = refl;
-      sums = refl;
-      books = refl;
-      ledger = refl;
-      table = refl;
-      answered = refl;
-    }
-
-pub marked_history : HistoryIs (history_of 4 marked_calls) (answers_of 4 marked_calls)
-unfolding history_from answers_from history_by answers_by marked_by_bills
-marked_history =
-    subst (λ (made : List (Books → Decision)). HistoryIs (history_by 4 no_history made) (answers_by 4 no_history made)) (sym rules_priced) account_cases
+abbrev pub MarkedHistory : Type 0
+MarkedHistory = HistoryIs (history_of 4 marked_calls) (answers_of 4 marked_calls)

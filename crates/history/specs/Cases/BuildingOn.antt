@@ -1,21 +1,13 @@
 -- Document 02, E4: a joiner who builds on, as a history from bytes, by books of different fee, minimum and term. Both schemes are joined later, and each counts the
 -- accept by its own answer: entry 3, with which the second scheme opens, is no party of the first. Every figure stands here as a literal.
-use Rattle.std.specs.Prelude.{◌≡◌, refl, true, false, List, [], ◌∷◌, replicate}
-use Rattle.std.proofs.Common.{sym, subst}
-use Rattle.charge.specs.Price.{price_of}
-use Rattle.charge.specs.declared.Pricing.{Pricing}
-use Rattle.charge.specs.declared.Pricing.TheVariants.{Priced}
+use Rattle.std.specs.Prelude.{◌≡◌, true, false, List, [], ◌∷◌, replicate}
 use Rattle.ledger.specs.Records.{scheme_of, party_of, ledger_of, no_scheme}
-use Rattle.ledger.specs.Books.{Books}
-use Rattle.calls.specs.Verdict.{verdict}
-use Rattle.calls.specs.Decision.{Call, accept, pay_out, Decision, CallAnswer, is_done}
+use Rattle.calls.specs.Decision.{Call, accept, pay_out, CallAnswer, is_done}
 use Rattle.calls.specs.declared.answers.JoiningAnswer.TheVariants.{NotAsked}
 use Rattle.calls.specs.declared.answers.OpeningAnswer.TheVariants.{NotOpened, Opened}
-use Rattle.history.specs.History.{History, account_of, connections, charged, borne, cost_entered, ledger_in, parties_in, history_from, answers_from, no_history, history_of, answers_of}
+use Rattle.history.specs.History.{History, account_of, connections, charged, borne, cost_entered, ledger_in, parties_in, history_of, answers_of}
 use Rattle.history.specs.DemandThree.{Balanced}
-use Rattle.history.specs.Cases.DecidedCalls.{priced_as, called_as, history_by, answers_by}
 use Rattle.history.specs.Cases.BuildingBooks.{first_terms, second_terms, book_of, building_request, building_bill}
-use Rattle.history.specs.Cases.PricedCalls.{priced_requests}
 use Rattle.history.specs.Cases.Accounts.{scheme_figures, enters, credit, accepted, joined}
 
 -- on a table of five records: the opening, the joiner who builds on, a later joiner of each scheme, and all that entry 3 was credited paid out
@@ -27,21 +19,6 @@ building_calls =
     accept (book_of first_terms) (building_request 0 5000 2) ∷
     pay_out 3 2499993 ∷
     []
-
--- the same, by what pricing answers of the four requests
-abbrev rules : Pricing → Pricing → Pricing → Pricing → List (Books → Decision)
-rules opening building first second = priced_as opening ∷ priced_as building ∷ priced_as first ∷ priced_as second ∷ called_as (pay_out 3 2499993) ∷ []
-
-abbrev billed : List (Books → Decision)
-billed =
-    rules (Priced (building_bill first_terms 6000000 10000 0)) (Priced (building_bill second_terms 5000001 5000 1)) (Priced (building_bill first_terms 0 5000 1))
-    (Priced (building_bill first_terms 0 5000 2))
-
-rules_priced : rules (price_of (book_of first_terms) (building_request 6000000 10000 0)) (price_of (book_of second_terms) (building_request 5000001 5000 1))
-    (price_of (book_of first_terms) (building_request 0 5000 1)) (price_of (book_of first_terms) (building_request 0 5000 2))
-    ≡ billed
-rules_priced =
-    λ i. rules (priced_requests.first_opening i) (priced_requests.building_on i) (priced_requests.joins_first i) (priced_requests.joins_second i)
 
 pub record BuiltOn (history : History) (answers : List CallAnswer) : Type 0 where
   pub joined_balanced : Balanced (account_of 1 history)
@@ -105,23 +82,5 @@ pub record BuiltOn (history : History) (answers : List CallAnswer) : Type 0 wher
       is_done ∷
       []
 
-built_on_cases : BuiltOn (history_by 5 no_history billed) (answers_by 5 no_history billed)
-unfolding history_by answers_by verdict
-built_on_cases =
-    record {
-      joined_balanced =
-          record { collected_whole = refl; collected_credited = refl; credited_parties = refl; paid_parties = refl; cost_borne = refl };
-      built_balanced = record { collected_whole = refl; collected_credited = refl; credited_parties = refl; paid_parties = refl; cost_borne = refl };
-      joined_scheme = refl;
-      built_scheme = refl;
-      entered = refl;
-      sums = refl;
-      ledger = refl;
-      table = refl;
-      answered = refl;
-    }
-
-pub built_on : BuiltOn (history_of 5 building_calls) (answers_of 5 building_calls)
-unfolding history_from answers_from history_by answers_by
-built_on =
-    subst (λ (made : List (Books → Decision)). BuiltOn (history_by 5 no_history made) (answers_by 5 no_history made)) (sym rules_priced) built_on_cases
+abbrev pub BuiltOnHistory : Type 0
+BuiltOnHistory = BuiltOn (history_of 5 building_calls) (answers_of 5 building_calls)

@@ -1,18 +1,13 @@
 -- What narrower bounds would come to, by two histories from bytes: one of a few cents, and M7's. Of both the bounds of `Fair` hold, and less would not: one
 -- cent and the fee for each joining above is too little, so is the fee once, and so is no cent below; and a party can be credited more than it put in, so
 -- that the bounds have no difference. That the bounds are the least isn't said.
-use Rattle.std.specs.Prelude.{ℕ, ◌+◌, ◌*◌, ◌<◌, ◌≡◌, refl, List, [], ◌∷◌, eqb}
-use Rattle.std.proofs.Common.{sym, subst, arith}
-use Rattle.charge.specs.declared.Pricing.TheVariants.{Priced}
+use Rattle.std.specs.Prelude.{ℕ, ◌+◌, ◌*◌, ◌<◌, ◌≡◌, List, [], ◌∷◌, eqb}
 use Rattle.ledger.specs.Lists.{keep, sum_by}
-use Rattle.calls.specs.Verdict.{verdict}
 use Rattle.calls.specs.Decision.{Call, accept}
-use Rattle.history.specs.History.{Entering, History, Account, account_of, cost, fee, joinings, capacity, credited_to, history_from, no_history, history_of}
+use Rattle.history.specs.History.{Entering, Account, account_of, cost, fee, joinings, capacity, credited_to, history_of}
 use Rattle.history.specs.Fair.{BoundFigures, Fair}
-use Rattle.history.specs.Cases.CentsBook.{cents_book, cents_request, cents_bill}
-use Rattle.history.specs.Cases.DecidedCalls.{priced_as, history_by}
-use Rattle.history.specs.Cases.PricedCalls.{priced_requests}
-use Rattle.history.specs.Cases.Accounts.{marked_calls, marked_by_bills, marked_by_bills_lem}
+use Rattle.history.specs.Cases.CentsBook.{cents_book, cents_request}
+use Rattle.history.specs.Cases.Accounts.{marked_calls}
 
 -- ---- a history of a few cents: cost 10, fee and minimum 1, capacities 19, 8, 215
 
@@ -20,17 +15,6 @@ use Rattle.history.specs.Cases.Accounts.{marked_calls, marked_by_bills, marked_b
 abbrev pub cents_calls : List Call
 cents_calls =
     accept cents_book (cents_request 10 19 0) ∷ accept cents_book (cents_request 0 8 1) ∷ accept cents_book (cents_request 0 215 1) ∷ []
-
-unfoldable cents_by_bills : History
-cents_by_bills =
-    history_by 3 no_history (priced_as (Priced (cents_bill 10 19 0)) ∷ priced_as (Priced (cents_bill 0 8 1)) ∷ priced_as (Priced (cents_bill 0 215 1)) ∷ [])
-
-cents_by_bills_lem : history_of 3 cents_calls ≡ cents_by_bills
-unfolding history_from history_by cents_by_bills
-cents_by_bills_lem =
-    λ i.
-    history_by 3 no_history
-    (priced_as (priced_requests.cents_opening i) ∷ priced_as (priced_requests.cents_joining i) ∷ priced_as (priced_requests.cents_last i) ∷ [])
 
 -- ---- the figures that the bounds are made of
 
@@ -76,23 +60,5 @@ pub record Tight (first second marked : BoundFigures) : Type 0 where
 abbrev pub TightIn : (cents marked : Account) → Type 0
 TightIn cents marked = Tight (figures_of 1 cents) (figures_of 2 cents) (figures_of 1 marked)
 
-bound_cases : TightIn (account_of 1 cents_by_bills) (account_of 1 marked_by_bills)
-unfolding cents_by_bills marked_by_bills history_by verdict
-bound_cases =
-    record {
-      first_figures = refl;
-      second_figures = refl;
-      marked_figures = refl;
-      first_fair = record { low = omega arith; high = omega arith };
-      second_fair = record { low = omega arith; high = omega arith };
-      marked_fair = record { low = omega arith; high = omega arith };
-      above_one_cent = omega arith;
-      above_one_fee = omega arith;
-      below_share = omega arith;
-      credited_above = omega arith;
-    }
-
-pub tight_bounds : TightIn (account_of 1 (history_of 3 cents_calls)) (account_of 1 (history_of 4 marked_calls))
-tight_bounds =
-    subst (λ (h : History). TightIn (account_of 1 h) (account_of 1 (history_of 4 marked_calls))) (sym cents_by_bills_lem)
-    (subst (λ (h : History). TightIn (account_of 1 cents_by_bills) (account_of 1 h)) (sym marked_by_bills_lem) bound_cases)
+abbrev pub TightBounds : Type 0
+TightBounds = TightIn (account_of 1 (history_of 3 cents_calls)) (account_of 1 (history_of 4 marked_calls))

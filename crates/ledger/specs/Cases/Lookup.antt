@@ -1,5 +1,5 @@
 -- Places of schemes and entries by number: 0, the first, the last and one past it.
-use Rattle.std.specs.Prelude.{◌-◌, ◌≡◌, refl, [], ◌∷◌, map}
+use Rattle.std.specs.Prelude.{◌≡◌, refl, [], ◌∷◌, map}
 use Rattle.ledger.specs.Lookup.{scheme_place, entry_place}
 use Rattle.ledger.specs.declared.lookup.SchemeAt.{SchemeAt}
 use Rattle.ledger.specs.declared.lookup.EntryAt.{EntryAt}

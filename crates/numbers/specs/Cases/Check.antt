@@ -1,5 +1,5 @@
 -- The check's marked figures.
-use Rattle.std.specs.Prelude.{◌-◌, ◌≡◌, refl, [], ◌∷◌}
+use Rattle.std.specs.Prelude.{◌≡◌, refl, [], ◌∷◌}
 use Rattle.numbers.specs.Check.{check_from, check}
 
 -- M1: "check of no bytes 0; of 01 02, 517; of FF FF, 527."

@@ -1,5 +1,5 @@
 -- Percentages and the slip's reconciliation, as document 01 marks them.
-use Rattle.std.specs.Prelude.{◌-◌, ◌≡◌, refl, ℤ, pos, negsuc}
+use Rattle.std.specs.Prelude.{◌≡◌, refl, ℤ, pos, negsuc}
 use Rattle.reconciliation.specs.Percent.{percent_of}
 use Rattle.reconciliation.specs.SlipReconciliation.{slip_reconciliation}
 use Rattle.reconciliation.specs.Cases.Reconciliation.{whole}

@@ -1,5 +1,5 @@
 -- Lines of a slip in literals: a refusal, no percentage, a negative figure, 0; and a buffer as long as the slip, shorter and longer.
-use Rattle.std.specs.Prelude.{◌^◌, ◌+◌, ◌-◌, [], ◌∷◌, ◌++◌, ◌≡◌, refl, pos, negsuc, replicate}
+use Rattle.std.specs.Prelude.{◌^◌, ◌-◌, [], ◌∷◌, ◌++◌, ◌≡◌, refl, pos, negsuc, replicate}
 use Rattle.tagged.specs.File.{refusal}
 use Rattle.reconciliation.specs.declared.Percent.TheVariants.{None}
 use Rattle.charge.specs.declared.Pricing.TheVariants.{NotPriced}

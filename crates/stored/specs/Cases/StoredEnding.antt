@@ -3,7 +3,6 @@ use Rattle.std.specs.Prelude.{◌≡◌, refl, [], ◌∷◌, pos}
 use Rattle.tagged.specs.Ending.{file_ending}
 use Rattle.tagged.specs.File.{refusal}
 use Rattle.tagged.specs.declared.file.FileAnswer.{FileAnswer}
-use Rattle.tagged.specs.declared.file.FileAnswer.TheVariants as FileAnswer
 use Rattle.stored.specs.StoredEnding.{written_ending}
 use Rattle.stored.specs.declared.writing.Written.TheVariants.{Length, Refused}
 

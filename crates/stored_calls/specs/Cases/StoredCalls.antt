@@ -20,7 +20,7 @@ use Rattle.ledger.specs.Lookup.{scheme_place}
 use Rattle.calls.specs.Verdict.{verdict}
 use Rattle.calls.specs.Decision.{accept, pay_out, hand_over, accept_by, answer_to}
 use Rattle.calls.specs.Carried.{State, books_on, carried_out}
-use Rattle.calls.specs.Calls.{answered, leaves}
+use Rattle.calls.specs.Calls.{state_of, answered, leaves}
 use Rattle.calls.specs.declared.answers.JoiningAnswer.{JoiningAnswer}
 use Rattle.calls.specs.declared.answers.JoiningAnswer.TheVariants.{NotAsked, Joined}
 use Rattle.calls.specs.declared.answers.OpeningAnswer.{OpeningAnswer}
@@ -31,7 +31,6 @@ use Rattle.stored.specs.Writing.{written_answer, write_of}
 use Rattle.stored.specs.Reading.{table_answer, read_answer}
 use Rattle.stored.specs.Cases.Stored.{new_form, one_form, joined_form, joined_scheme, form_with}
 use Rattle.stored_calls.specs.StoredCalls.{StoredCallAnswer, not_read, not_made, made_accepted, made_done, stored_read, end_by, stored_call_of, counts_of, new_stored_of, check_stored_of}
-use Rattle.stored_calls.specs.Theorems.StoredCallsRefusals.{state_read}
 use Rattle.stored_calls.specs.declared.StoredCheck.TheVariants as StoredCheck
 
 -- an output as long as the form, and one byte shorter
@@ -76,6 +75,10 @@ bill x scheme =
 
 abbrev answer : ℕ → JoiningAnswer → OpeningAnswer → ℕ → StoredCallAnswer
 answer x joining opening size = made_accepted (record { reconciliation = (bill x 0).reconciliation; joining = joining; opening = opening }) size
+
+-- what is read of a stored ledger, into a table of so many records
+abbrev state_read : List ℕ → ℕ → State
+state_read file room = state_of (stored_read file room).ledger (stored_read file room).table
 
 -- what accept comes to on a sound ledger with this pricing
 abbrev priced : State → Pricing → List ℕ → StoredCallAnswer

@@ -1,5 +1,5 @@
 -- What a call on stored bytes counts as in demand 3, and which bytes are kept after it, case by case: three bytes of output, over two that were kept before.
-use Rattle.std.specs.Prelude.{◌≡◌, refl, [], ◌∷◌}
+use Rattle.std.specs.Prelude.{◌≡◌, [], ◌∷◌}
 use Rattle.tagged.specs.File.{refusal}
 use Rattle.calls.specs.Decision.{is_accepted, is_done, is_refused}
 use Rattle.calls.specs.declared.answers.Acceptance.{Acceptance}
@@ -14,6 +14,3 @@ pub record BytesKept : Type 0 where
   pub call_refused : step (not_made (refusal 11 0 0)) ≡ record { answer = is_refused (refusal 11 0 0); kept = 1 ∷ 2 ∷ [] }
   pub call_accepted : (acceptance : Acceptance) → step (made_accepted acceptance 1) ≡ record { answer = is_accepted acceptance; kept = 7 ∷ [] }
   pub call_done : step (made_done 2) ≡ record { answer = is_done; kept = 7 ∷ 8 ∷ [] }
-
-pub bytes_kept_cases : BytesKept
-bytes_kept_cases = record { ledger_refused = refl; call_refused = refl; call_accepted = λ acceptance. refl; call_done = refl }

@@ -1,5 +1,5 @@
 -- Small files: each way in which the last five bytes, the check or a field can't stand, with number and place.
-use Rattle.std.specs.Prelude.{ℕ, ◌-◌, ◌≡◌, refl, List, [], ◌∷◌, map}
+use Rattle.std.specs.Prelude.{ℕ, ◌≡◌, refl, List, [], ◌∷◌, map}
 use Rattle.numbers.specs.BigEndian.{number}
 use Rattle.numbers.specs.Check.{check_from}
 use Rattle.field_walk.specs.Walk.{due_from, all_had, front_of, walk_from}

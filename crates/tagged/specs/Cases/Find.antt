@@ -1,5 +1,5 @@
 -- Small fields, and what is found by tag.
-use Rattle.std.specs.Prelude.{ℕ, ◌-◌, ◌≡◌, refl, List, [], ◌∷◌, map}
+use Rattle.std.specs.Prelude.{ℕ, ◌≡◌, refl, List, [], ◌∷◌, map}
 use Rattle.numbers.specs.BigEndian.{number}
 use Rattle.tagged.specs.Find.{fields_from, fields_of, first_with, value_place, rest_place, part_of, field_value, field_start}
 

@@ -1,0 +1,5 @@
+use Rattle.accept_rules.specs.Theorems.AlteredFiles.{altered_book_not_accepted, altered_request_not_accepted}
+use Rattle.accept_rules.proofs.altered_files_refused.Goals as goal
+
+pub returns : goal.returns
+returns c = record { book = altered_book_not_accepted; request = altered_request_not_accepted }

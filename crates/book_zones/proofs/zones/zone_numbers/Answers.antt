@@ -1,0 +1,13 @@
+use Rattle.std.proofs.Common.{arith}
+use Rattle.book_zones.specs.Zones.{zone_number}
+use Rattle.book_zones.proofs.Theorems.ZoneFields.{zones_stand}
+use Rattle.book_zones.proofs.Filling.{filled_more}
+use Rattle.book_zones.proofs.zones.zone_numbers.Goals as goal
+
+pub loop-zone-preserved : goal.loop-zone-preserved
+loop-zone-preserved c =
+    let s = c.args.fields.now in (
+      omega arith,
+      rw (c.loop-zone.invariant.1, c.zone_number.ensures, c.number_width-width.ensures.0, c.first_zone-first.ensures.0)
+          (filled_more 0 (zone_number s) s (zones_stand s c.requires) c.loop-zone.zone (omega arith)),
+    )

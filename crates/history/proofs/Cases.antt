@@ -1,0 +1,5 @@
+pub mod DecidedCalls
+pub mod PricedCalls
+pub mod Accounts
+pub mod BuildingOn
+pub mod Fair

@@ -1,0 +1,7 @@
+use Rattle.history.proofs.Cases.Accounts.{marked_history}
+use Rattle.history.proofs.Cases.BuildingOn.{built_on}
+use Rattle.history.proofs.Cases.Fair.{tight_bounds}
+use Rattle.history.proofs.marked_history.Goals as goal
+
+pub returns : goal.returns
+returns c = record { marked = marked_history; built_on = built_on; bounds = tight_bounds }

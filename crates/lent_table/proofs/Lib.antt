@@ -1,3 +1,0 @@
-pub mod Fronts
-pub mod Lists
-pub mod Records

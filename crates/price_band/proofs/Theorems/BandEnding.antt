@@ -1,0 +1,79 @@
+-- Pricing between two figures refuses as pricing does, or with 3 or 15 for its bands; its ending tells its answer.
+use Rattle.std.specs.Prelude.{ℕ, ◌≤◌, ◌≡◌, List, pos, nat_abs, get_or}
+use Rattle.std.proofs.Math.Path.{refl, ap}
+use Rattle.std.proofs.Common.{sym, ◌∙◌, ⊎_elim, arith}
+use Rattle.std.proofs.Math.Logic.{inl, inr}
+use Rattle.tagged.specs.Ending.{Ending, number_is_0}
+use Rattle.tagged.specs.Refusals.{value_not_listed, low_above_high}
+use Rattle.tagged.proofs.Theorems.Ending.{refused_by_number, refused_not_done, refusal_by_ending}
+use Rattle.tagged.proofs.Theorems.Impossible.{impossible}
+use Rattle.tagged.proofs.Theorems.Walk.{by_test}
+use Rattle.tagged.specs.declared.file.Refusal.{Refusal}
+use Rattle.charge.specs.Price.{price_of}
+use Rattle.charge.proofs.Theorems.Bill.{priced_by}
+use Rattle.charge.proofs.Theorems.PriceRefusals.{pricing_refusal}
+use Rattle.charge.specs.declared.Pricing.{Pricing}
+use Rattle.price_band.specs.PriceBand.{within_limits, low_to_high, if_bands, band_at_ends, if_priced, band_of, band_values}
+use Rattle.price_band.specs.BandEnding.{band_ending, has_band, BandRefusal}
+use Rattle.price_band.proofs.Theorems.PriceBand.{ends_priced}
+use Rattle.price_band.specs.declared.Bands.{Bands}
+use Rattle.price_band.specs.declared.Band.{Band}
+use Rattle.price_band.specs.declared.BandPricing.{BandPricing}
+use Rattle.price_band.specs.declared.BandPricing.TheVariants.{Priced, NotPriced}
+
+module _ (book_file request_file : List ℕ) (bands : Bands) where
+  pub band_refusal : (r : Refusal) → band_of book_file request_file bands ≡ NotPriced r → BandRefusal r
+  unfolding band_of
+  band_refusal r = by_pricing (price_of book_file request_file) refl
+    where
+      by_pricing : (pricing : Pricing) → price_of book_file request_file ≡ pricing → if_priced pricing (if_bands bands (band_at_ends book_file request_file bands)) ≡ NotPriced r →
+          BandRefusal r
+      by_pricing (Pricing.NotPriced s) p e = let same : s ≡ r = cc in inl (pricing_refusal book_file request_file r (p ∙ ap Pricing.NotPriced same))
+      by_pricing (Pricing.Priced bill) p e =
+          by_test (λ band. band ≡ NotPriced r → BandRefusal r) (within_limits bands) _ _
+          (λ _.
+          by_test (λ band. band ≡ NotPriced r → BandRefusal r) (low_to_high bands) _ _
+          (λ _ e. impossible (cc (sym e ∙ ends_priced book_file request_file (priced_by book_file request_file bill p) bands)))
+          (λ _ e. inr (inr (cc))))
+          (λ _ e. inr (inl (cc))) e
+
+  numbered : (r : Refusal) → band_of book_file request_file bands ≡ NotPriced r → 1 ≤ r.number
+  numbered r e =
+      ⊎_elim (λ priced. ⊎_elim (λ h. h.0) (λ h. h.0) priced)
+      (⊎_elim (λ same. let is : r.number ≡ value_not_listed = ap (λ s. s.number) same in omega arith) (λ same. let is : r.number ≡ low_above_high = ap (λ s. s.number) same in omega arith))
+      (band_refusal r e)
+
+  -- number 0 exactly where there is a band
+  pub band_by_number : number_is_0 (band_ending (band_of book_file request_file bands)) ≡ has_band (band_of book_file request_file bands)
+  band_by_number = by (band_of book_file request_file bands) numbered
+    where
+      by : (pricing : BandPricing) → ((r : Refusal) → pricing ≡ NotPriced r → 1 ≤ r.number) → number_is_0 (band_ending pricing) ≡ has_band pricing
+      by (Priced band) numbers = refl
+      by (NotPriced r) numbers = refused_by_number r (numbers r refl)
+
+-- ---- the ending tells the answer
+band_by_values : (band other : Band) → band_values band ≡ band_values other → band ≡ other
+band_by_values band other e =
+    let figure : (place : ℕ) → get_or (band_values band) place (pos 0) ≡ get_or (band_values other) place (pos 0) = λ place. ap (λ values. get_or values place (pos 0)) e in
+    λ i.
+    record {
+      lowest_ir = nat_abs (figure 0 i);
+      highest_ir = nat_abs (figure 1 i);
+      lowest_cc = nat_abs (figure 2 i);
+      highest_cc = nat_abs (figure 3 i);
+      lowest_nc = figure 4 i;
+      highest_nc = figure 5 i;
+    }
+
+pub band_by_ending : (book_file request_file other_book other_request : List ℕ) (bands other_bands : Bands) →
+    band_ending (band_of book_file request_file bands) ≡ band_ending (band_of other_book other_request other_bands) →
+    band_of book_file request_file bands ≡ band_of other_book other_request other_bands
+band_by_ending book_file request_file other_book other_request bands other_bands =
+    by (band_of book_file request_file bands) (band_of other_book other_request other_bands) (numbered book_file request_file bands) (numbered other_book other_request other_bands)
+  where
+    by : (pricing other : BandPricing) → ((r : Refusal) → pricing ≡ NotPriced r → 1 ≤ r.number) → ((r : Refusal) → other ≡ NotPriced r → 1 ≤ r.number) →
+        band_ending pricing ≡ band_ending other → pricing ≡ other
+    by (Priced band) (Priced other) numbers others e = ap Priced (band_by_values band other (ap (λ (ending : Ending). ending.values) e))
+    by (Priced band) (NotPriced s) numbers others e = absurd (refused_not_done s _ (others s refl) (sym e))
+    by (NotPriced r) (Priced other) numbers others e = absurd (refused_not_done r _ (numbers r refl) e)
+    by (NotPriced r) (NotPriced s) numbers others e = ap NotPriced (refusal_by_ending r s e)

@@ -1,0 +1,15 @@
+-- Each return is one case: answer short, figures short, not read, refused, and accepted, whose figures `accepted_bounded` bounds.
+use Rattle.std.proofs.Common.{arith, sym}
+use Rattle.numbers.specs.BigEndian.{Bytes}
+use Rattle.quoting_unit.proofs.Theorems.UnitFigures.{accepted_bounded}
+use Rattle.quoting_unit.proofs.fikrem_accept.Goals as goal
+
+pub write_figures-requires : goal.write_figures-requires
+write_figures-requires c =
+    let args = c.args in
+    let book : Bytes args.book.now = λ k. (c.type_inv.book k).fits in
+    let request : Bytes args.request.now = λ k. (c.type_inv.request k).fits in (
+      accepted_bounded args.stored.now args.table_size args.book.now args.request.now args.out.now _ _ book request
+          (sym (rw c.in-Accepted.is at c.accept_stored-called.ensures.result_value)),
+      omega arith,
+    )

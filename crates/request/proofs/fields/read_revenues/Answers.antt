@@ -1,0 +1,15 @@
+-- The rows give the value eight bytes, two numbers of four.
+use Rattle.std.proofs.Common.{T, leb, length, ℕ, ◌≤◌}
+use Rattle.field_values.proofs.Theorems.Reading.{reaches}
+use Rattle.request.proofs.Theorems.RequestSizes.{request_sizes}
+use Rattle.request.proofs.fields.read_revenues.Goals as goal
+
+pub read_u32-requires : goal.read_u32-requires
+read_u32-requires c =
+    let fits : (k : ℕ) → T (leb k 8) → k ≤ length c.find-value.result.now = λ k. reaches c.find-value.ensures.bytes (request_sizes c.args.fields.now c.requires).revenues in
+    fits _ tt
+
+pub read_u32-requires-2 : goal.read_u32-requires-2
+read_u32-requires-2 c =
+    let fits : (k : ℕ) → T (leb k 8) → k ≤ length c.find-value.result.now = λ k. reaches c.find-value.ensures.bytes (request_sizes c.args.fields.now c.requires).revenues in
+    fits _ tt
