@@ -17,7 +17,7 @@ fn main() {
     for name in ["quoting_unit", "fikrem_page", "fikrem_price_band", "fikrem_files"] {
         let library = folder.join(format!("lib{name}.a"));
         println!("cargo:rerun-if-changed={}", library.display());
-        assert!(library.exists(), "there is no {}: build it by 'rt staticlib {name}'", library.display());
+        assert!(library.exists(), "there is no {}: build it by 'python3 tools/archives.py'", library.display());
         println!("cargo:rustc-link-lib=static:-bundle={name}");
     }
 }

@@ -2,15 +2,15 @@
 //! compared in `raw.rs`'s words.
 
 use fikrem::Refusal;
-use std::collections::BTreeMap;
+use std::collections::{BTreeMap, BTreeSet};
 use std::{env, fs, path::Path};
 
 const HEADER: &str = "../../include/fikrem.h";
 const RAW: &str = "src/raw.rs";
 const LIBRARY: &str = "../../crates/quoting_unit/src/lib.rt";
-const PAGE_LIBRARY: &str = "../../crates/fikrem_page/src/lib.rt";
 const BAND_LIBRARY: &str = "../../crates/fikrem_price_band/src/lib.rt";
-const FILES_LIBRARY: &str = "../../crates/fikrem_files/src/lib.rt";
+/// Each of these libraries has its exports in the crate `NAME_c`.
+const LIBRARIES: [&str; 4] = ["quoting_unit", "fikrem_page", "fikrem_price_band", "fikrem_files"];
 
 /// A function's parameters, each with its kind, and the kind of its result.
 type Function = (Vec<(String, String)>, String);
@@ -98,9 +98,14 @@ fn as_pointer((name, kind): (String, String)) -> Vec<(String, String)> {
     vec![(name.clone(), format!("{pointer} {element}")), (format!("{name}_{count}"), "usize".to_string())]
 }
 
+/// The text of a crate's code.
+fn code(name: &str) -> String {
+    text(&format!("../../crates/{name}/src/lib.rt"))
+}
+
 fn functions_of_library() -> BTreeMap<String, Function> {
-    let library = [LIBRARY, PAGE_LIBRARY, BAND_LIBRARY, FILES_LIBRARY].map(text).concat();
-    let exported = library.split("#[no_mangle]").skip(1).map(|part| split(part, "pub extern \"C\" fn ").1);
+    let library = LIBRARIES.map(|name| code(&format!("{name}_c"))).concat();
+    let exported = library.split("#[unsafe(no_mangle)]").skip(1).map(|part| split(part, "pub extern \"C\" fn ").1);
     exported
         .map(function_of_rust)
         .map(|(name, (parameters, result))| (name, (parameters.into_iter().flat_map(as_pointer).collect(), result)))
@@ -117,6 +122,37 @@ fn the_same_functions() {
     for (name, function) in &library {
         assert_eq!(&header[name], function, "{name} of {HEADER} and {LIBRARY}");
         assert_eq!(&raw[name], function, "{name} of {RAW} and {LIBRARY}");
+    }
+}
+
+/// A text without its layout: its blanks, its ends of lines, and the comma after a last parameter.
+fn without_layout(text: &str) -> String {
+    text.split_whitespace().collect::<String>().replace(",)", ")")
+}
+
+/// The words of a crate's clauses that stand in other modules, each as `module.word`.
+fn words_of_clauses(code: &str) -> BTreeSet<String> {
+    let imports = code.split("ghost use ").skip(1).map(|import| split(split(import, "};").0, ".{"));
+    imports.flat_map(|(module, words)| words.split(',').map(move |word| format!("{module}.{}", word.trim()))).collect()
+}
+
+/// An export has the parameters and the clauses of the library's function of the same name, word for word and of the same modules, and
+/// calls it.
+#[test]
+fn the_same_clauses() {
+    for name in LIBRARIES {
+        let (library, exports) = (code(name), code(&format!("{name}_c")));
+        let others = words_of_clauses(&exports);
+        let others: Vec<_> = others.difference(&words_of_clauses(&library)).cloned().collect();
+        assert!(others.is_empty(), "{name} takes no such words into its clauses: {others:?}");
+        let library = without_layout(&library);
+        for export in exports.split("pub extern \"C\" fn ").skip(1) {
+            let (head, body) = split(export, "\n{\n");
+            let function = without_layout(&format!("pub fn {head} {{"));
+            assert!(library.contains(&function), "{name} has no function of these clauses: {head}");
+            let called = format!("{name}::{}(", split(head, "(").0);
+            assert!(body.trim_start().starts_with(&called), "not a call of {called}: {body}");
+        }
     }
 }
 
