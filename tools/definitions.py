@@ -1,9 +1,16 @@
-"""Holds every crate's specs/ to one shape, and names and imports to their use.
+"""Holds every crate's specs/ and the theorems in its proofs/ to one shape, and names and imports to their use.
 
-specs/X.antt has definitions alone, specs/Cases/ computed tables, specs/Theorems/ theorems, each with what only they need. Checked: no definition file has a
-theorem; contracts and definition files cite definition files alone; no file of specs/ imports a proof; every top-level name is used somewhere or stands in
-docs/RULES.md or docs/PROMISES.md; every import is used. Prints what fails and ends with 1. docs/ARCHITECTURE.md has the list of definition files that
---list prints: those that the public calls and the demands come to, in reading order, with their lines without imports, and then the others.
+specs/X.antt has definitions alone, specs/Cases/ computed tables, specs/Theorems/ theorems, each with what only they need; theorems, and the proofs of cases, may
+stand in proofs/Theorems/ and proofs/Cases/ instead. specs/Laws.antt has the statements that functions without code have as their contracts. Checked:
+
+- no definition file has a theorem, and none cites a case or a theorem; Laws may cite definitions that stand beside its own crate's theorems;
+- a contract cites definition files alone; that of a function without parameters and code also cites statements of its own crate's cases;
+- no definition file and no contract imports a proof, but for `Option` and `sets`, definitions that std has among its proofs;
+- of proofs, a file of Cases or Theorems imports std's, another crate's Theorems and Cases, and in proofs/ also its own crate's; a crate's theorems stand in one folder;
+- every top-level name is used somewhere or stands in docs/RULES.md or docs/PROMISES.md, and every import is used.
+
+Prints what fails and ends with 1. docs/ARCHITECTURE.md has the lists that --list prints, with their lines without imports: the definition files that the public
+calls and the demands come to, in reading order, the laws, and then the other definition files.
 """
 import pathlib
 import re
@@ -16,10 +23,22 @@ ROOTS = "numbers/Check reconciliation/ExactPercent charge/Price price_band/Price
     "quoting_unit/Unit fikrem_page/PageResult fikrem_price_band/BandResult fikrem_files/FileResult history/DemandThree " \
     "stored_history/StoredDemandThree"
 MOST_LINES = 4000
+# the laws' statements, beside those
+MOST_LAW_LINES = 130
 WORD = re.compile(r"[^\s(){}\[\],;:.&«»⌜⌝λ]+")
 DECLARED = re.compile(r"(\s*)((?:(?:abbrev|unfoldable|pub) )*)(record |data )?«?([^\s«»]+)»?( :| where| \(| \{|$)")
 IMPORT = re.compile(r"\s*(?:ghost |pub )*use ([^{;]+?)(?:(?:\.|::)\{(.*)\})?(?: as (\S+?))?;?$")
-SPECS = re.compile(r"Rattle·(\w+?)(?:·specs)?\.specs\.(?:specs\.)?((?:Cases\.|Theorems\.)?\w+)")
+# the prover's own questions: it uses what a file of this name declares with such a type
+ANSWERED = ("Answers.antt", "Invariants.antt")
+GOAL = re.compile(r"\s*(?:(?:pub|abbrev) )*(\S+) : goal\.\S+$")
+# traits that a .rt file brings in for their methods
+TRAITS = ("std::io::Read", "std::io::Write")
+# definitions that std has among its proofs
+STD_DEFINITIONS = {"Rattle.std.proofs.Math.Option": {"Option", "none", "some"}, "Rattle.std.proofs.lemmas.List.Edits": {"sets"}}
+PROOFS = re.compile(r"Rattle\.(\w+)\.proofs\.(\w+).*")
+# a function without parameters and code, with its contract
+LAW = re.compile(r"^pub fn \w+\(\)\n((?:    ensures .*\n)+)\{\}$", re.MULTILINE)
+SPECS = re.compile(r"Rattle\.(\w+)\.specs\.((?:Cases\.|Theorems\.)?\w+)")
 
 
 def crates():
@@ -64,7 +83,7 @@ def declared(lines):
 
 def stands_in(name, words, text):
     """Whether the code has the name; of an operator, whether it has each part."""
-    parts = [part for part in name.split("_") if part] if name.startswith("_") or name.endswith("_") else [name]
+    parts = [part for part in name.split("◌") if part]
     return all(part in words or (not part[0].isalnum() and part in text) for part in parts)
 
 
@@ -75,39 +94,65 @@ def definition_files():
                 yield f"{crate}/{path.stem}", path
 
 
+def statements(crate, module):
+    """The definitions of a file of Cases or Theorems."""
+    path = (root / "crates" / crate / "specs" / module.replace(".", "/")).with_suffix(".antt")
+    return {name for name, definition in declared(code(path)[0]) if definition}
+
+
+def may_cite(path, module, names, definitions):
+    """Whether a definition file or a contract may import these names of a module."""
+    if PROOFS.match(module):
+        return bool(names) and set(names) <= STD_DEFINITIONS.get(module, set())
+    found = SPECS.fullmatch(module)
+    if not found or not found[2].startswith(("Cases.", "Theorems.")):
+        return True
+    own = path.relative_to(root / "crates").parts[0] == found[1] and set(names) <= statements(found[1], found[2])
+    if path in definitions.values():
+        return own and path.name == "Laws.antt" and found[2].startswith("Theorems.")
+    text = "\n".join(code(path)[0])
+    clauses = "".join(LAW.findall(text))
+    return own and found[2].startswith("Cases.") and all(WORD.findall(text).count(name) == WORD.findall(clauses).count(name) for name in names)
+
+
 def check_shape(failures, definitions):
-    """Definition files have definitions alone, and they and the contracts cite no other."""
+    """Definition files have definitions alone, they and the contracts cite no other, and theorems and cases rest on theorems and cases."""
     for name, path in definitions.items():
-        lines, imports = code(path)
-        failures += [f"{name}: {theorem} is not a definition" for theorem, definition in declared(lines) if not definition]
-    contracts = [path for path in (root / "crates").glob("*/src/*.rt")]
-    for path in list(definitions.values()) + contracts:
-        for module, names, _ in code(path)[1]:
-            found = SPECS.fullmatch(module)
-            if found and found[2].startswith(("Cases.", "Theorems.")):
-                failures.append(f"{path.relative_to(root)} cites {module}")
-    for path in (root / "crates").glob("*/specs/**/*.antt"):
-        failures += [f"{path.relative_to(root)} imports {module}" for module, _, _ in code(path)[1] if re.match(r"Rattle·\w+(?:·proofs)?\.proofs", module)]
+        failures += [f"{name}: {theorem} is not a definition" for theorem, definition in declared(code(path)[0]) if not definition]
+    for path in [*definitions.values(), *(root / "crates").glob("*/src/*.rt")]:
+        failures += [f"{path.relative_to(root)} cites {module}" for module, names, _ in code(path)[1] if not may_cite(path, module, names, definitions)]
+    for crate in crates():
+        folder = root / "crates" / crate
+        if (folder / "specs/Theorems").is_dir() and (folder / "proofs/Theorems").is_dir():
+            failures.append(f"crates/{crate} has theorems in specs/ and in proofs/")
+        for path in sorted(path for part in ("specs", "proofs") for kind in ("Cases", "Theorems") for path in (folder / part / kind).rglob("*.antt")):
+            for module, _, _ in code(path)[1]:
+                found = PROOFS.match(module)
+                in_specs = path.relative_to(folder).parts[0] == "specs"
+                if found and found[1] != "std" and (found[2] not in ("Cases", "Theorems") or (in_specs and found[1] == crate)):
+                    failures.append(f"{path.relative_to(root)} imports {module}")
 
 
 def check_uses(failures):
     """Every import of a file is used in it, and every top-level name of a hand-written file somewhere."""
     used, named = {}, {}
     for path in sorted((root / "crates").rglob("*")):
-        if path.suffix not in (".antt", ".rt") or "target" in path.parts:
+        if path.suffix not in (".antt", ".rt") or "out" in path.parts:
             continue
         lines, imports = code(path)
         text = "\n".join(lines)
         words = set(WORD.findall(text))
         for module, names, passed_on in imports:
-            failures += [f"{path.relative_to(root)} imports {name} and doesn't use it" for name in names if not passed_on and not stands_in(name, words, text)]
+            failures += [f"{path.relative_to(root)} imports {name} and doesn't use it" for name in names
+                         if not passed_on and module not in TRAITS and not stands_in(name, words, text)]
         indents = {found[4]: len(found[1]) for found in map(DECLARED.match, lines) if found and found[5] == " :"}
         for line in lines:
             first = re.match(r"(\s*)(?:(?:abbrev|unfoldable|pub) )*(\S*)", line)
             own = first[2] if indents.get(first[2]) == len(first[1]) and re.search(r" [:=]( |$)", line) else None
             used.update((word, True) for word in set(WORD.findall(line)) - {own})
-        if path.suffix == ".antt" and path.name != "Proof.antt":
-            named.update({(path, name): name for name, _ in declared(lines)})
+        if path.suffix == ".antt":
+            asked = {found[1] for found in map(GOAL.match, lines) if found} if path.name in ANSWERED else set()
+            named.update({(path, name): name for name, _ in declared(lines) if name not in asked})
     cited = (root / "docs/RULES.md").read_text() + (root / "docs/PROMISES.md").read_text()
     for (path, _), name in named.items():
         if name not in used and not re.search(rf"(?<![\w′·-]){re.escape(name)}(?![\w′·-])", cited):
@@ -148,10 +193,11 @@ def in_reading_order(names, definitions):
 
 
 def listing(definitions):
-    """The two lists as lines of Markdown, a line for each crate, and the lines of the first."""
+    """The three lists as lines of Markdown, a line for each crate, and how many lines of definitions each comes to."""
     believed, lines = reached(definitions), []
+    laws = {name for name in definitions if name.endswith("/Laws")}
     total = {}
-    for title, names in (("believed", believed), ("inner", set(definitions) - believed)):
+    for title, names in (("believed", believed - laws), ("laws", laws), ("inner", set(definitions) - believed - laws)):
         length = {name: sum(not IMPORT.fullmatch(line) or is_comment(line) for line in definitions[name].read_text().splitlines()) for name in names}
         total[title] = sum(length.values())
         by_crate = {}
@@ -173,10 +219,11 @@ def main():
     page = (root / "docs/ARCHITECTURE.md").read_text()
     for title, rows in lists:
         failures += [f"docs/ARCHITECTURE.md has no line {row}" for row in rows if row not in page]
-    if f"{total['believed']:,} lines" not in page or total["believed"] > MOST_LINES:
-        failures.append(f"docs/ARCHITECTURE.md: the definitions have {total['believed']:,} lines, at most {MOST_LINES:,} are meant")
+    for title, what, most in (("believed", "definitions", MOST_LINES), ("laws", "laws", MOST_LAW_LINES)):
+        if f"{total[title]:,} lines" not in page or total[title] > most:
+            failures.append(f"docs/ARCHITECTURE.md: the {what} have {total[title]:,} lines, at most {most:,} are meant")
     print(*failures, sep="\n")
-    print(f"definitions: {len(definitions)} files, {total['believed']} lines to believe, {len(failures)} failures")
+    print(f"definitions: {len(definitions)} files, {total['believed']} lines to believe and {total['laws']} of laws, {len(failures)} failures")
     sys.exit(1 if failures else 0)
 
 

@@ -2,7 +2,7 @@
 
 A reference of RULES is `path: name, name`, where a path starts in crates/ or is rust/..; a cell is a dash or references with commas between them, and the
 edits have a column of their own. Of PROMISES are checked: `name` in `path`, with names before it; paths that start with crates/; `crate::module::function`;
-and a theorem's name, which has a hyphen, in any file. Every must-fail edit stands in one of the two pages, and so does every public theorem that nothing
+and any other name with a dash or an underscore: a theorem's, a function's, a crate's or an edit's, in any file. Every must-fail edit stands in one of the two pages, and so does every public theorem that nothing
 else uses, since it is there for the reader alone. A heading that a comment or a page cites as document 01's (`Document 01, 'Accept'`, document 01's
 'The slip') is one of RULES, and words that are quoted from document 01 come with theirs. Prints what is missing and ends with 1.
 
@@ -121,14 +121,14 @@ def check_promises(failures, cited, everywhere):
             failures.append(f"docs/PROMISES.md: there is no {span}")
         elif re.fullmatch(r"\w+(?:::\w+)+", span) and not function_stands(span):
             failures.append(f"docs/PROMISES.md: there is no {span}")
-        elif re.fullmatch(r"[a-z][\w]*(?:-\w+)+", span) and span not in everywhere:
+        elif re.fullmatch(r"[A-Za-z][a-z0-9]*(?:[-_][\w\']+)+", span) and span not in everywhere:
             failures.append(f"docs/PROMISES.md: no file has {span}")
     return checked
 
 
 def sources():
     """Every .antt and .rt file of the crates, without its comments."""
-    files = [file for file in (root / "crates").rglob("*") if file.suffix in (".antt", ".rt")]
+    files = [file for file in (root / "crates").rglob("*") if file.suffix in (".antt", ".rt") and "out" not in file.parts]
     return {file: re.sub(r"(?m)^\s*(?:--|//).*$", "", file.read_text()) for file in files}
 
 
@@ -178,6 +178,8 @@ def main():
     failures, cited = [], set()
     texts = sources()
     everywhere = {name for file, text in texts.items() if file.suffix == ".antt" for name, _ in definitions(text)}
+    everywhere |= {name for file, text in texts.items() if file.suffix == ".rt" for name in re.findall(r"\bfn (\w+)", text)}
+    everywhere |= {path.name for path in (root / "crates").iterdir()} | {edit.stem for edit in (root / "crates").glob("*/must-fail/*.edit")}
     found = check_rules(failures, cited)
     promised = check_promises(failures, cited, everywhere)
     headings = check_headings(failures)
