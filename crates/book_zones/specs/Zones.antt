@@ -1,20 +1,17 @@
 -- Document 01, 'Rate book', 08: "zone number (1), each above the last; five 4-byte rates, cents per kVA, at most 10,000,000".
 -- "The rates are held as a row of five tiers for each zone. The first zone, and in it the first tier, over the limit gives the place."
 -- Document 02, E6: "A book may carry field 09 (22 bytes, two-byte zone number, else as 08) in place of every 08."
-use Rattle.std.specs.Prelude.{ℕ, ◌+◌, ◌-◌, List, [], ◌∷◌, ◌++◌, map, cond, get_or, take, replicate, ltb, leb}
+use Rattle.std.specs.Prelude.{ℕ, ◌+◌, ◌-◌, List, [], ◌∷◌, ◌++◌, map, cond, get_or, take, replicate, ltb, leb, Err, Ok, None, Some, Option}
 use Rattle.numbers.specs.BigEndian.{number, number_at}
 use Rattle.tagged.specs.Find.{fields_of, fields_with, first_place, field_start}
 use Rattle.tagged.specs.declared.find.Place.{Place}
-use Rattle.tagged.specs.declared.find.Place.TheVariants.{At, Nowhere}
 use Rattle.field_values.specs.Limits.{most_zones, tier_count, highest_rate}
-use Rattle.field_values.specs.Judged.{judge, in_order, first_failure}
-use Rattle.field_values.specs.declared.judged.Judged.{Judged}
-use Rattle.field_values.specs.declared.judged.Judged.TheVariants.{Passes, Fails}
+use Rattle.field_values.specs.Judged.{judge, in_order, first_failure, Judged}
 
 -- the tag of the zones' fields: 09 where there is one, otherwise 08
-abbrev pub tag_by : Place → ℕ
-tag_by Nowhere = 8
-tag_by (At start len) = 9
+abbrev pub tag_by : Option Place → ℕ
+tag_by None = 8
+tag_by (Some place) = 9
 
 abbrev pub zone_tag : List ℕ → ℕ
 zone_tag s = tag_by (first_place 9 s)
@@ -69,7 +66,7 @@ judge_row rates row = first_failure (row_judgements rates row)
 
 -- the zones' values in byte order, where a zone's number must be at least `least`: one above the last
 unfoldable pub judge_zones_from : ℕ → List ℕ → List ℕ → Judged
-judge_zones_from least s [] = Passes
+judge_zones_from least s [] = Ok tt
 judge_zones_from least s (at ∷ starts) =
     first_failure
     (judge (leb least (zone_number s at)) at ∷
@@ -82,14 +79,14 @@ judge_zones s = judge_zones_from 0 s (zone_starts s)
 
 -- The same by two scans, of the numbers and of the rates, of zones that stand so far apart; the lower place is the answer.
 unfoldable pub judge_rise : ℕ → ℕ → ℕ → List ℕ → Judged
-judge_rise apart least at [] = Passes
+judge_rise apart least at [] = Ok tt
 judge_rise apart least at (number ∷ numbers) = in_order (judge (leb least number) at) (judge_rise apart (number + 1) (at + apart) numbers)
 
 unfoldable pub judge_rows : ℕ → ℕ → List (List ℕ) → Judged
-judge_rows apart rates [] = Passes
+judge_rows apart rates [] = Ok tt
 judge_rows apart rates (row ∷ rows) = in_order (judge_row rates row) (judge_rows apart (rates + apart) rows)
 
 abbrev pub lower : Judged → Judged → Judged
-lower Passes other = other
-lower (Fails at) Passes = Fails at
-lower (Fails at) (Fails at') = cond (ltb at' at) (Fails at') (Fails at)
+lower (Ok _) other = other
+lower (Err at) (Ok _) = Err at
+lower (Err at) (Err at') = cond (ltb at' at) (Err at') (Err at)

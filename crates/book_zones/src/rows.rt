@@ -23,6 +23,7 @@ pub const BOOK_ROWS: [Row; 9] = [
 
 // Whether a file stands as a rate book: its last five bytes, its check and its fields. `number` is the
 // file's in a refusal.
+// A function for each kind of file, so that no caller needs to know its rows.
 pub fn book_stands(number: u8, file: &[u8]) -> FileAnswer
     ensures { result ≡ file_answer book_rows number file.now }
 {

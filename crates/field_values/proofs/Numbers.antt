@@ -1,4 +1,5 @@
 -- The numbers of a value against their limits, one number on and past the last limit.
+use Rattle.std.specs.Prelude.{Err, Ok}
 use Prim.Native.Nat.{ℕ, suc, ◌+◌, ◌-◌, ◌≤◌, ◌<◌}
 use mathlib.Core.Path.{◌≡◌, sym, ap, ◌∙◌}
 use mathlib.Core.List.{List, []}
@@ -13,19 +14,18 @@ use borrow.Author.Tests.{eqb-true}
 use Rattle.numbers.specs.BigEndian.{number_at}
 use Rattle.tagged.proofs.Theorems.Walk.{by_test}
 use Rattle.field_values.specs.Judged.{width_of, within, judge_numbers, narrow}
-use Rattle.field_values.specs.declared.judged.Judged.TheVariants.{Passes, Fails}
 
 module _ (limits : List (List ℕ)) (k : ℕ) where
   pub numbers_at : (at : ℕ) (value : List ℕ) (offset : ℕ) → k < length limits →
       judge_numbers (drop k limits) (at + offset) (drop offset value)
-      ≡ cond (ltb (length value - offset) (width_of (get_or limits k []))) Passes
+      ≡ cond (ltb (length value - offset) (width_of (get_or limits k []))) (Ok tt)
       (cond (within (get_or limits k []) (number_at value offset (width_of (get_or limits k []))))
       (judge_numbers (drop (k + 1) limits) (at + (offset + width_of (get_or limits k []))) (drop (offset + width_of (get_or limits k [])) value))
-      (Fails (at + offset)))
+      (Err (at + offset)))
   unfolding judge_numbers
   numbers_at at value offset h = rw (drop-cons limits k [] h, add-one k, length-drop, drop-drop, add_assoc)
 
-  pub numbers_past : (at : ℕ) (value : List ℕ) → length limits ≤ k → judge_numbers (drop k limits) at value ≡ Passes
+  pub numbers_past : (at : ℕ) (value : List ℕ) → length limits ≤ k → judge_numbers (drop k limits) at value ≡ Ok tt
   unfolding judge_numbers
   numbers_past at value h = rw (drop_of_length-le limits h)
 

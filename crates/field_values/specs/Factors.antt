@@ -4,9 +4,8 @@ use Rattle.std.specs.Prelude.{ℕ, ◌+◌, ◌*◌, ◌/◌, ◌%◌, ◌≤◌
 use Rattle.numbers.specs.BigEndian.{number_at}
 use Rattle.tagged.specs.Find.{field_value}
 use Rattle.field_values.specs.Limits.{most_factors, highest_factor}
-use Rattle.field_values.specs.Judged.{judge_field}
+use Rattle.field_values.specs.Judged.{judge_field, Judged}
 use Rattle.field_values.specs.declared.factors.Factors.{Factors}
-use Rattle.field_values.specs.declared.judged.Judged.{Judged}
 
 -- "1 to 8 of 2 bytes, each 0 to 40,000"
 abbrev pub factor_limits : List (List ℕ)
@@ -35,6 +34,3 @@ factors_in value =
 -- the factors of the field with this tag
 abbrev pub factors_of : ℕ → List ℕ → Factors
 factors_of tag s = factors_in (field_value tag s)
-
-abbrev pub no_factors : Factors
-no_factors = record { count = 0; values = replicate most_factors 0 }

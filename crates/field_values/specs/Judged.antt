@@ -1,21 +1,23 @@
 -- Document 01, 'How calls end': 3, "value or letters not as listed" under 'Rate book' or 'Request', at "the value's first byte", "in byte order".
-use Rattle.std.specs.Prelude.{ℕ, ◌+◌, List, [], ◌∷◌, Bool, true, false, cond, length, get_or, take, drop, ltb, leb, eqb}
+use Rattle.std.specs.Prelude.{ℕ, ◌+◌, List, [], ◌∷◌, Bool, true, false, cond, length, get_or, take, drop, ltb, leb, eqb, Err, Ok, Result}
 use Rattle.numbers.specs.BigEndian.{number}
 use Rattle.tagged.specs.Find.{field_start, field_value}
-use Rattle.field_values.specs.declared.judged.Judged.{Judged}
-use Rattle.field_values.specs.declared.judged.Judged.TheVariants.{Passes, Fails}
+
+-- the value passes, or the place of what fails
+abbrev pub Judged : Type 0
+Judged = Result (Unit {0}) ℕ
 
 abbrev pub judge : Bool → ℕ → Judged
-judge true at = Passes
-judge false at = Fails at
+judge true at = Ok tt
+judge false at = Err at
 
 abbrev pub in_order : Judged → Judged → Judged
-in_order Passes second = second
-in_order (Fails at) second = Fails at
+in_order (Ok _) second = second
+in_order (Err at) second = Err at
 
 -- of judgements in byte order, the first that fails
 abbrev pub first_failure : List Judged → Judged
-first_failure [] = Passes
+first_failure [] = Ok tt
 first_failure (judged ∷ later) = in_order judged (first_failure later)
 
 -- A limit: the width of a number, its lowest and its highest value.
@@ -27,11 +29,11 @@ within limit n = cond (ltb n (get_or limit 1 0)) false (leb n (get_or limit 2 0)
 
 -- the numbers of a value that starts at the offset `at`, one after the other, against a limit each; the value may end before the limits do
 unfoldable pub judge_numbers : List (List ℕ) → ℕ → List ℕ → Judged
-judge_numbers [] at value = Passes
+judge_numbers [] at value = Ok tt
 judge_numbers (limit ∷ limits) at value =
     let later = judge_numbers limits (at + width_of limit) (drop (width_of limit) value) in
-    cond (ltb (length value) (width_of limit)) Passes
-    (cond (within limit (number (take (width_of limit) value))) later (Fails at))
+    cond (ltb (length value) (width_of limit)) (Ok tt)
+    (cond (within limit (number (take (width_of limit) value))) later (Err at))
 
 -- the numbers of the field with this tag
 abbrev pub judge_field : List (List ℕ) → ℕ → List ℕ → Judged

@@ -1,10 +1,13 @@
 // Factor lists: 1 to 8 factors in ten-thousandths.
 ghost use Rattle.std.specs.Prelude.{◌≡◌};
-ghost use Rattle.field_values.specs.Factors.{factor_at, factors_of, no_factors, judge_factors};
+ghost use Rattle.field_values.specs.Factors.{factor_at, factors_of, judge_factors};
 
 use crate::judged::{Judged, Limit};
 use crate::limits::{HIGHEST_FACTOR, MOST_FACTORS};
+use numbers::big_endian::BigEndian;
+use std::array;
 
+// A fixed array with its count: the firmware has no heap.
 #[derive(Clone, Copy)]
 pub struct Factors {
     pub count: usize,
@@ -19,15 +22,7 @@ pub fn judge_factors(fields: &[u8], tag: u8) -> Judged
     crate::judged::judge_field(fields, tag, &FACTOR_LIMITS)
 }
 
-pub fn no_factors() -> Factors
-    ensures { result ≡ no_factors }
-{
-    Factors {
-        count: 0,
-        values: [0; MOST_FACTORS],
-    }
-}
-
+// 0 past the list's end and no Option: so the fixed array is filled behind the last factor.
 fn factor_at(value: &[u8], at: usize) -> u16
     ensures { result ≡ factor_at value.now at }
 {
@@ -35,7 +30,7 @@ fn factor_at(value: &[u8], at: usize) -> u16
         return 0;
     }
     if at <= value.len() - 2 {
-        return numbers::big_endian::read_u16(value, at);
+        return u16::read(value, at);
     }
     0
 }
@@ -47,15 +42,6 @@ pub fn read_factors(fields: &[u8], tag: u8) -> Factors
     let value = tagged::find::find(fields, tag);
     Factors {
         count: value.len() / 2,
-        values: [
-            factor_at(value, 0),
-            factor_at(value, 2),
-            factor_at(value, 4),
-            factor_at(value, 6),
-            factor_at(value, 8),
-            factor_at(value, 10),
-            factor_at(value, 12),
-            factor_at(value, 14),
-        ],
+        values: array::from_fn(|place| factor_at(value, 2 * place)),
     }
 }

@@ -5,3 +5,4 @@
 pub mod factors;
 pub mod judged;
 pub mod limits;
+pub mod tiers;

@@ -40,6 +40,7 @@ pub const LOWEST_CAPACITY: u32 = 1;
 
 pub const HIGHEST_CAPACITY: u32 = 1_000_000;
 
+// The kinds are the file's bytes: an enum would take fewer values than the public functions do.
 // 0 residential, 1 non-residential, 2 special pricing
 pub const HIGHEST_CLASS: u32 = 2;
 

@@ -1,4 +1,5 @@
 -- The definitions over the rows of a form, one row on and past the last, in terms of the table.
+use Rattle.std.specs.Prelude.{None, Some}
 use mathlib.Core.Path.{◌≡◌, refl, ap, ◌∙◌}
 use mathlib.Core.List.{List, [], ◌∷◌}
 use mathlib.Core.Bool.{true, false, cond}
@@ -10,7 +11,6 @@ use lib.Seq.{drop-cons}
 use lib.Dec.{ltb, eqb}
 use Rattle.field_walk.specs.Walk.{due_from, all_had, tag_of, most_of, least_of, permitted_by, row_in, rows_in}
 use Rattle.field_walk.proofs.Theorems.Forms.{same_in, row_in_lem}
-use Rattle.field_walk.specs.declared.walk.Due.TheVariants.{Row, NotDue}
 
 module _ (rows : List (List ℕ)) (form k : ℕ) where
   pub permitted_in : (len : ℕ) → permitted_by (get_or (rows_in form rows) k []) len ≡ permitted_by (get_or rows k []) len
@@ -27,8 +27,8 @@ module _ (rows : List (List ℕ)) (form k : ℕ) where
       pub due_at : (tag : ℕ) →
           due_from (drop k (rows_in form rows)) k n tag
           ≡ cond (eqb (tag_of (get_or rows k [])) tag)
-          (cond (ltb n (most_of (row_in form (get_or rows k [])))) (Row k (n + 1)) NotDue)
-          (cond (ltb n (least_of (row_in form (get_or rows k [])))) NotDue (due_from (drop (k + 1) (rows_in form rows)) (k + 1) 0 tag))
+          (cond (ltb n (most_of (row_in form (get_or rows k [])))) (Some (k, n + 1)) None)
+          (cond (ltb n (least_of (row_in form (get_or rows k [])))) None (due_from (drop (k + 1) (rows_in form rows)) (k + 1) 0 tag))
       unfolding due_from
       due_at tag = rw (rows_on, same_in tag_of (get_or rows k []) refl form)
 
@@ -36,7 +36,7 @@ module _ (rows : List (List ℕ)) (form k : ℕ) where
       unfolding all_had
       had_at = rw rows_on
 
-    pub due_past : (tag : ℕ) → length rows ≤ k → due_from (drop k (rows_in form rows)) k n tag ≡ NotDue
+    pub due_past : (tag : ℕ) → length rows ≤ k → due_from (drop k (rows_in form rows)) k n tag ≡ None
     unfolding due_from
     due_past tag h = rw (past_in h)
 

@@ -2,14 +2,14 @@
 -- tag order, except where a count is given. Its permitted lengths stand in one constant table for each kind of file."
 -- A kind of file is its rows; the walk is one definition over any rows. It sees the file without the last five bytes, the field FF.
 -- A kind may have files of two forms: a row of one form permits its field in files of that form alone.
-use Rattle.std.specs.Prelude.{ℕ, zero, suc, ◌+◌, ◌-◌, ◌%◌, ◌<◌, ◌≤◌, ◌≡◌, List, [], ◌∷◌, map, Bool, true, false, cond, length, get_or, take, drop, ltb, leb, eqb}
+use Rattle.std.specs.Prelude.{ℕ, zero, suc, ◌+◌, ◌-◌, ◌%◌, ◌<◌, ◌≤◌, ◌≡◌, List, [], ◌∷◌, map, Bool, true, false, cond, length, get_or, take, drop, ltb, leb, eqb, Err, Ok, Result, Some, None, Option}
 use Rattle.numbers.specs.BigEndian.{number_at}
-use Rattle.field_walk.specs.declared.walk.Due.{Due}
-use Rattle.field_walk.specs.declared.walk.Due.TheVariants.{Row, NotDue}
 use Rattle.field_walk.specs.declared.walk.Front.{Front}
 use Rattle.field_walk.specs.declared.walk.Front.TheVariants.{End, Field, CannotStand}
-use Rattle.field_walk.specs.declared.walk.Walked.{Walked}
-use Rattle.field_walk.specs.declared.walk.Walked.TheVariants.{Walks, Stops}
+
+-- what the code answers of a walk: every field stands, or the offset of the first that can't
+abbrev pub Walked : Type 0
+Walked = Result (Unit {0}) ℕ
 
 -- A row: tag, lowest, highest and step of length, how often at least and at most, and the form that it is of: 0 for both.
 abbrev pub tag_of : List ℕ → ℕ
@@ -55,13 +55,17 @@ row_in form row = cond (in_form form row) row (tag_of row ∷ lowest_of row ∷ 
 abbrev pub rows_in : ℕ → List (List ℕ) → List (List ℕ)
 rows_in form rows = map (row_in form) rows
 
+-- the row that a field counts to, and how many fields of that row have then come
+abbrev pub Due : Type 0
+Due = Option (ℕ × ℕ)
+
 -- the row, at or after row k, that a field with this tag counts to, where n fields of row k have come
 unfoldable pub due_from : List (List ℕ) → ℕ → ℕ → ℕ → Due
-due_from [] k n tag = NotDue
+due_from [] k n tag = None
 due_from (row ∷ rows) k n tag =
     cond (eqb (tag_of row) tag)
-    (cond (ltb n (most_of row)) (Row k (n + 1)) NotDue)
-    (cond (ltb n (least_of row)) NotDue (due_from rows (k + 1) 0 tag))
+    (cond (ltb n (most_of row)) (Some (k, n + 1)) None)
+    (cond (ltb n (least_of row)) None (due_from rows (k + 1) 0 tag))
 
 -- no field is due any more, where n fields of the first row have come
 unfoldable pub all_had : List (List ℕ) → ℕ → Bool
@@ -80,8 +84,8 @@ length_at s = number_at s 1 2
 
 -- a field whose row is due also has a permitted length and ends within the rest s
 abbrev pub field_of : Due → List (List ℕ) → List ℕ → Front
-field_of NotDue rows s = CannotStand
-field_of (Row k n) rows s =
+field_of None rows s = CannotStand
+field_of (Some (k, n)) rows s =
     cond (permitted_by (get_or rows k []) (length_at s))
     (cond (leb (length_at s + 3) (length s)) (Field k n (length_at s)) CannotStand)
     CannotStand
@@ -147,13 +151,13 @@ FieldsWalk rows s = (fs : List FieldAt) × (walk rows s ≡ fields fs)
 
 -- what the code answers of a walk
 abbrev pub walked : Walk → Walked
-walked (fields fs) = Walks
-walked (stops at) = Stops at
+walked (fields fs) = Ok tt
+walked (stops at) = Err at
 
 -- What callers of the steps need besides: a row that is due is one of the table's, and a field ends within the rest.
 abbrev pub RowBelow : ℕ → Due → Type 0
-RowBelow size NotDue = Unit {0}
-RowBelow size (Row k n) = k < size
+RowBelow size None = Unit {0}
+RowBelow size (Some (k, n)) = k < size
 
 abbrev pub EndsWithin : ℕ → Front → Type 0
 EndsWithin size End = Unit {0}

@@ -1,9 +1,14 @@
 -- The check of a part of the bytes, and of those after it.
-use Prim.Native.Nat.{ℕ, suc, ◌+◌, ◌<◌, ◌≤◌}
-use mathlib.Core.Path.{◌≡◌, ap, sym, ◌∙◌}
-use mathlib.Core.List.{List}
-use lib.ListN.{length, get_or, take, drop, drop_of_length-le, take-append-drop}
-use lib.Seq.{drop-cons, take-add}
+use Prim.Native.Nat.{ℕ, zero, suc, ◌+◌, ◌*◌, ◌<◌, ◌≤◌}
+use mathlib.Core.Path.{◌≡◌, refl, ap, sym, ◌∙◌}
+use mathlib.Core.List.{List, [], ◌++◌, append_assoc}
+use lib.ListN.{length, get_or, drop, drop_of_length-le, take-append-drop}
+use lib.Seq.{drop-cons, drop-drop}
+use native.Mathlib.Numerals.{add-one}
+use native.Mathlib.Omega.{arith}
+use Rattle.std.specs.List.{flat_map}
+use Rattle.std.specs.Simd.{first_chunks}
+use Rattle.std.proofs.lemmas.List.Concat.{flat_map-cons}
 use Rattle.numbers.specs.Check.{check_step, check_from, check}
 use Rattle.numbers.proofs.Theorems.Check.{check_append}
 
@@ -16,9 +21,22 @@ pub check_end : (s : List ℕ) (i h : ℕ) → length s ≤ i → check_from h (
 unfolding check_from
 check_end s i h l = rw (drop_of_length-le s l)
 
--- the check of a start, going on over the bytes after it: over some of them, and over all
-pub check_more : (s : List ℕ) (n width : ℕ) → check_from (check (take n s)) (take width (drop n s)) ≡ check (take (n + width) s)
-check_more s n width = rw take-add (sym (check_append 0 (take n s) _))
+-- the check of the words from an index on, and past the last
+pub words_on : (words : List (List ℕ)) (i h : ℕ) → i < length words →
+    check_from h (flat_map (λ word. word) (drop i words)) ≡ check_from (check_from h (get_or words i [])) (flat_map (λ word. word) (drop (i + 1) words))
+words_on words i h l = rw (add-one i, drop-cons words i [] l, flat_map-cons) (check_append h (get_or words i []) _)
 
-pub check_rest : (s : List ℕ) (n : ℕ) → check_from (check (take n s)) (drop n s) ≡ check s
-check_rest s n = sym (check_append 0 (take n s) (drop n s)) ∙ ap check (take-append-drop n s)
+pub words_end : (words : List (List ℕ)) (i h : ℕ) → length words ≤ i → check_from h (flat_map (λ word. word) (drop i words)) ≡ h
+unfolding check_from
+words_end words i h l = rw (drop_of_length-le words l)
+
+-- the bytes of the first k words, and those after them
+whole : (k : ℕ) (s : List ℕ) → flat_map (λ word. word) (first_chunks 8 k s) ++ drop (k * 8) s ≡ s
+whole zero s = refl
+whole (suc k) s =
+    let on : drop (suc k * 8) s ≡ drop (k * 8) (drop 8 s) = rw drop-drop (ap (λ n. drop n s) (omega arith)) in
+    rw (flat_map-cons, on, append_assoc, whole k (drop 8 s)) (take-append-drop 8 s)
+
+-- going on over the bytes after the words
+pub check_rest : (s : List ℕ) (k : ℕ) → check_from (check (flat_map (λ word. word) (first_chunks 8 k s))) (drop (k * 8) s) ≡ check s
+check_rest s k = sym (check_append 0 _ (drop (k * 8) s)) ∙ ap check (whole k s)

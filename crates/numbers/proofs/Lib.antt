@@ -1,2 +1,3 @@
+pub mod StdBytes
 pub mod Checking
 pub mod Theorems

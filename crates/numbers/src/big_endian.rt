@@ -1,63 +1,83 @@
-// Big-endian numbers of 1, 2, 4 and 8 bytes, read at a place of a slice and written into a lent
-// one. A number of a width is two numbers of half the width.
-ghost use Rattle.std.specs.Prelude.{◌≡◌, ◌+◌, ◌*◌, ◌≤◌, length};
+// Big-endian numbers of 1, 2, 4 and 8 bytes, read at a place of a slice and written into a lent one.
+ghost use Rattle.std.specs.Prelude.{◌≡◌, ◌+◌, ◌≤◌, ℕ, length};
 ghost use Rattle.numbers.specs.BigEndian.{number_at, bytes_of, written};
 
-pub fn read_u8(s: &[u8], at: usize) -> u8
-    requires { at + 1 ≤ length s.now }
-    ensures { result ≡ number_at s.now at 1 }
-{
-    s[at]
+// A number of a width in a file.
+pub trait BigEndian {
+    ghost width: { ℕ };
+
+    ghost value: { Self → ℕ };
+
+    fn read(bytes: &[u8], at: usize) -> Self
+        requires { at + width ≤ length bytes.now }
+        ensures { value result ≡ number_at bytes.now at width };
+
+    fn write(self, out: &mut [u8], at: usize)
+        requires { at + width ≤ length out.old }
+        ensures { out.new ≡ written out.old at (bytes_of width (value self)) };
 }
 
-pub fn read_u16(s: &[u8], at: usize) -> u16
-    requires { at + 2 ≤ length s.now }
-    ensures { result ≡ number_at s.now at 2 }
-{
-    read_u8(s, at) as u16 * 256 + read_u8(s, at + 1) as u16
+impl BigEndian for u8 {
+    ghost width = { 1 };
+
+    ghost value = { λ n. n };
+
+    fn read(bytes: &[u8], at: usize) -> u8 {
+        bytes[at]
+    }
+
+    fn write(self, out: &mut [u8], at: usize) {
+        out[at] = self;
+    }
 }
 
-pub fn read_u32(s: &[u8], at: usize) -> u32
-    requires { at + 4 ≤ length s.now }
-    ensures { result ≡ number_at s.now at 4 }
-{
-    read_u16(s, at) as u32 * 65536 + read_u16(s, at + 2) as u32
+impl BigEndian for u16 {
+    ghost width = { 2 };
+
+    ghost value = { λ n. n };
+
+    fn read(bytes: &[u8], at: usize) -> u16 {
+        u16::from_be_bytes([bytes[at], bytes[at + 1]])
+    }
+
+    fn write(self, out: &mut [u8], at: usize) {
+        out[at..at + 2].copy_from_slice(&self.to_be_bytes());
+    }
 }
 
-pub fn read_u64(s: &[u8], at: usize) -> u64
-    requires { at + 8 ≤ length s.now }
-    ensures { result ≡ number_at s.now at 8 }
-{
-    read_u32(s, at) as u64 * 4294967296 + read_u32(s, at + 4) as u64
+impl BigEndian for u32 {
+    ghost width = { 4 };
+
+    ghost value = { λ n. n };
+
+    fn read(bytes: &[u8], at: usize) -> u32 {
+        u32::from_be_bytes([bytes[at], bytes[at + 1], bytes[at + 2], bytes[at + 3]])
+    }
+
+    fn write(self, out: &mut [u8], at: usize) {
+        out[at..at + 4].copy_from_slice(&self.to_be_bytes());
+    }
 }
 
-pub fn write_u8(out: &mut [u8], at: usize, n: u8)
-    requires { at + 1 ≤ length out.old }
-    ensures { out.new ≡ written out.old at (bytes_of 1 n) }
-{
-    out[at] = n;
-}
+impl BigEndian for u64 {
+    ghost width = { 8 };
 
-pub fn write_u16(out: &mut [u8], at: usize, n: u16)
-    requires { at + 2 ≤ length out.old }
-    ensures { out.new ≡ written out.old at (bytes_of 2 n) }
-{
-    write_u8(out, at, (n / 256) as u8);
-    write_u8(out, at + 1, (n % 256) as u8);
-}
+    ghost value = { λ n. n };
 
-pub fn write_u32(out: &mut [u8], at: usize, n: u32)
-    requires { at + 4 ≤ length out.old }
-    ensures { out.new ≡ written out.old at (bytes_of 4 n) }
-{
-    write_u16(out, at, (n / 65536) as u16);
-    write_u16(out, at + 2, (n % 65536) as u16);
-}
+    fn read(bytes: &[u8], at: usize) -> u64 {
+        u64::from_be_bytes([
+            bytes[at],
+            bytes[at + 1],
+            bytes[at + 2],
+            bytes[at + 3],
+            bytes[at + 4],
+            bytes[at + 5],
+            bytes[at + 6],
+            bytes[at + 7],
+        ])
+    }
 
-pub fn write_u64(out: &mut [u8], at: usize, n: u64)
-    requires { at + 8 ≤ length out.old }
-    ensures { out.new ≡ written out.old at (bytes_of 8 n) }
-{
-    write_u32(out, at, (n / 4294967296) as u32);
-    write_u32(out, at + 4, (n % 4294967296) as u32);
+    fn write(self, out: &mut [u8], at: usize) {
+        out[at..at + 8].copy_from_slice(&self.to_be_bytes());
+    }
 }

@@ -1,18 +1,14 @@
 -- Document 01, 'Rate book': the values of a book, or its refusal, from its bytes alone.
-use Rattle.std.specs.Prelude.{ℕ, List, [], ◌∷◌, length, replicate}
+use Rattle.std.specs.Prelude.{ℕ, List, [], ◌∷◌, length, Result}
 use Rattle.tagged.specs.File.{file_answer, fields_part}
 use Rattle.tagged.specs.declared.file.Refusal.{Refusal}
-use Rattle.tagged.specs.declared.file.FileAnswer.TheVariants.{Stands, Refused}
-use Rattle.field_values.specs.Limits.{most_zones}
-use Rattle.field_values.specs.Judged.{first_failure, judge_field, judge_letters}
-use Rattle.field_values.specs.Factors.{factors_of, no_factors, judge_factors}
+use Rattle.field_values.specs.Judged.{first_failure, judge_field, judge_letters, Judged}
+use Rattle.field_values.specs.Factors.{factors_of, judge_factors}
 use Rattle.field_values.specs.Reading.{reading_of}
-use Rattle.field_values.specs.declared.judged.Judged.{Judged}
 use Rattle.book_zones.specs.BookRows.{book_rows}
 use Rattle.book_zones.specs.Zones.{zone_starts, zone_numbers, judge_zones}
 use Rattle.rate_book.specs.Fields.{rate_limits, rate_in, sums_in, judge_sums, terms_in, judge_terms, charged_limits, charging_in}
 use Rattle.rate_book.specs.declared.book.Book.{Book}
-use Rattle.rate_book.specs.declared.book.BookRead.{BookRead}
 
 -- 01, "the four letters RATE"
 abbrev pub book_letters : List ℕ
@@ -53,31 +49,6 @@ book_values s =
       zone_numbers = zone_numbers s;
     }
 
--- what a refused reading returns beside the refusal: zeros
-abbrev pub no_book : Book
-no_book =
-    record {
-      rate = 0;
-      opex = 0;
-      revenue = 0;
-      distribution = no_factors;
-      transmission = no_factors;
-      threshold = 0;
-      fee = 0;
-      minimum = 0;
-      term = 0;
-      charged = 0;
-      share = 0;
-      zones = 0;
-      zone_numbers = replicate most_zones 0;
-    }
-
-abbrev pub refused_book : Refusal → BookRead
-refused_book r = record { answer = Refused r; book = no_book }
-
-abbrev pub accepted_book : Book → BookRead
-accepted_book book = record { answer = Stands; book = book }
-
 -- "Order for a file: 1 for its last five bytes, 2, 1 for the rest, 3 in byte order."
-unfoldable pub book_of : ℕ → List ℕ → BookRead
-book_of number file = reading_of refused_book number (file_answer book_rows number file) (judge_book (fields_part file)) (accepted_book (book_values (fields_part file)))
+unfoldable pub book_of : ℕ → List ℕ → Result Book Refusal
+book_of number file = reading_of number (file_answer book_rows number file) (judge_book (fields_part file)) (book_values (fields_part file))

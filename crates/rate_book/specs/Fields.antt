@@ -4,8 +4,7 @@ use Rattle.std.specs.Prelude.{ℕ, ◌+◌, List, [], ◌∷◌, ltb, leb}
 use Rattle.numbers.specs.BigEndian.{number_at}
 use Rattle.tagged.specs.Find.{field_start, field_value}
 use Rattle.field_values.specs.Limits.{highest_discount_rate, highest_threshold, highest_minimum, lowest_term, highest_share}
-use Rattle.field_values.specs.Judged.{judge, first_failure}
-use Rattle.field_values.specs.declared.judged.Judged.{Judged}
+use Rattle.field_values.specs.Judged.{judge, first_failure, Judged}
 use Rattle.rate_book.specs.declared.fields.Sums.{Sums}
 use Rattle.rate_book.specs.declared.fields.Terms.{Terms}
 use Rattle.rate_book.specs.declared.fields.Charging.{Charging}

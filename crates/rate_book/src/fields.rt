@@ -1,16 +1,16 @@
 // The fields of a rate book one by one: the limits on a field's values, and its reader. The two lists
 // of factors have theirs in `field_values`, the zones in `book_zones`.
 ghost use Rattle.std.specs.Prelude.{◌≡◌, ◌+◌, ◌<◌, ◌≤◌, length};
-ghost use Rattle.field_walk.specs.Walk.{FieldsWalk};
 ghost use Rattle.field_values.specs.Limits.{sums_below};
-ghost use Rattle.book_zones.specs.BookRows.{book_rows};
 ghost use Rattle.rate_book.specs.Fields.{rate_in, sum_from, sums_in, judge_sums, terms_in, judge_terms, charging_in};
 
-use field_values::judged::{Judged, Limit, in_order, judge};
+use book_zones::zones::BookFields;
+use field_values::judged::{Judged, Limit, judge};
 use field_values::limits::{
-    HIGHEST_DISCOUNT_RATE, HIGHEST_MINIMUM, HIGHEST_SHARE, HIGHEST_THRESHOLD, LOWEST_TERM,
+    HIGHEST_DISCOUNT_RATE, HIGHEST_MINIMUM, HIGHEST_SHARE, HIGHEST_THRESHOLD, LOWEST_TERM, TIERS,
 };
-use numbers::big_endian::{read_u8, read_u16, read_u32};
+use field_values::tiers::by_tier;
+use numbers::big_endian::BigEndian;
 use tagged::find::{find, place_of, start_of};
 
 // Field 03: the sums of selected opex and of distribution revenue.
@@ -34,6 +34,7 @@ pub struct Terms {
 #[derive(Clone, Copy)]
 pub struct Charging {
     // 1 where capacity is charged, otherwise 0
+    // A byte and no bool: fields that walk may hold any.
     pub charged: u8,
     // credit share
     pub share: u16,
@@ -44,11 +45,10 @@ pub const RATE_LIMITS: [Limit; 1] = [[2, 0, HIGHEST_DISCOUNT_RATE]];
 pub const CHARGED_LIMITS: [Limit; 2] = [[1, 0, 1], [2, 0, HIGHEST_SHARE]];
 
 // Field 02: the discount rate.
-pub fn read_rate(fields: &[u8]) -> u16
-    requires { FieldsWalk book_rows fields.now }
-    ensures { result ≡ rate_in fields.now }
+pub fn read_rate(book: BookFields) -> u16
+    ensures { result ≡ rate_in book.entry.fields.now }
 {
-    read_u16(find(fields, 2), 0)
+    u16::read(find(book.fields, 2), 0)
 }
 
 // The sum of five 4-byte figures that stand 8 bytes apart.
@@ -56,18 +56,14 @@ fn sum_from(value: &[u8], from: usize) -> u64
     requires { from + 36 ≤ length value.now }
     ensures { (result ≡ sum_from value.now from) × (result < sums_below) }
 {
-    read_u32(value, from) as u64
-        + read_u32(value, from + 8) as u64
-        + read_u32(value, from + 16) as u64
-        + read_u32(value, from + 24) as u64
-        + read_u32(value, from + 32) as u64
+    let figures: [u32; TIERS] = by_tier(value, from, 8);
+    figures.iter().map(|figure| u64::from(*figure)).sum()
 }
 
-pub fn read_sums(fields: &[u8]) -> Sums
-    requires { FieldsWalk book_rows fields.now }
-    ensures { result ≡ sums_in fields.now }
+pub fn read_sums(book: BookFields) -> Sums
+    ensures { result ≡ sums_in book.entry.fields.now }
 {
-    let value = find(fields, 3);
+    let value = find(book.fields, 3);
     Sums {
         opex: sum_from(value, 0),
         revenue: sum_from(value, 4),
@@ -75,54 +71,44 @@ pub fn read_sums(fields: &[u8]) -> Sums
 }
 
 // The opex sum is at most the revenue sum, which isn't 0.
-pub fn judge_sums(fields: &[u8]) -> Judged
-    requires { FieldsWalk book_rows fields.now }
-    ensures { result ≡ judge_sums fields.now }
+pub fn judge_sums(book: BookFields) -> Judged
+    ensures { result ≡ judge_sums book.entry.fields.now }
 {
-    let at = start_of(place_of(fields, 3));
-    let sums = read_sums(fields);
-    in_order(
-        judge(sums.opex <= sums.revenue, at),
-        judge(0 < sums.revenue, at),
-    )
+    let at = start_of(place_of(book.fields, 3));
+    let sums = read_sums(book);
+    judge(sums.opex <= sums.revenue, at)?;
+    judge(0 < sums.revenue, at)
 }
 
-pub fn read_terms(fields: &[u8]) -> Terms
-    requires { FieldsWalk book_rows fields.now }
-    ensures { result ≡ terms_in fields.now }
+pub fn read_terms(book: BookFields) -> Terms
+    ensures { result ≡ terms_in book.entry.fields.now }
 {
-    let value = find(fields, 6);
+    let value = find(book.fields, 6);
     Terms {
-        threshold: read_u32(value, 0),
-        fee: read_u32(value, 4),
-        minimum: read_u32(value, 8),
-        term: read_u16(value, 12),
+        threshold: u32::read(value, 0),
+        fee: u32::read(value, 4),
+        minimum: u32::read(value, 8),
+        term: u16::read(value, 12),
     }
 }
 
-pub fn judge_terms(fields: &[u8]) -> Judged
-    requires { FieldsWalk book_rows fields.now }
-    ensures { result ≡ judge_terms fields.now }
+pub fn judge_terms(book: BookFields) -> Judged
+    ensures { result ≡ judge_terms book.entry.fields.now }
 {
-    let at = start_of(place_of(fields, 6));
-    let terms = read_terms(fields);
-    let later = in_order(
-        judge(terms.minimum <= HIGHEST_MINIMUM, at + 8),
-        judge(LOWEST_TERM <= terms.term, at + 12),
-    );
-    in_order(
-        judge(terms.threshold <= HIGHEST_THRESHOLD, at),
-        in_order(judge(terms.fee <= terms.minimum, at + 4), later),
-    )
+    let at = start_of(place_of(book.fields, 6));
+    let terms = read_terms(book);
+    judge(terms.threshold <= HIGHEST_THRESHOLD, at)?;
+    judge(terms.fee <= terms.minimum, at + 4)?;
+    judge(terms.minimum <= HIGHEST_MINIMUM, at + 8)?;
+    judge(LOWEST_TERM <= terms.term, at + 12)
 }
 
-pub fn read_charging(fields: &[u8]) -> Charging
-    requires { FieldsWalk book_rows fields.now }
-    ensures { result ≡ charging_in fields.now }
+pub fn read_charging(book: BookFields) -> Charging
+    ensures { result ≡ charging_in book.entry.fields.now }
 {
-    let value = find(fields, 7);
+    let value = find(book.fields, 7);
     Charging {
-        charged: read_u8(value, 0),
-        share: read_u16(value, 1),
+        charged: u8::read(value, 0),
+        share: u16::read(value, 1),
     }
 }

@@ -1,9 +1,8 @@
 -- Document 01, 'Request': the fields one by one, each with the limits on its values and what it says. The three lists of factors have theirs in field_values.
-use Rattle.std.specs.Prelude.{ℕ, ◌+◌, ◌*◌, cond, List, [], ◌∷◌, ◌++◌, replicate, eqb}
+use Rattle.std.specs.Prelude.{ℕ, ◌+◌, ◌*◌, cond, List, [], ◌∷◌, ◌++◌, replicate, eqb, None, Some, Option}
 use Rattle.numbers.specs.BigEndian.{number_at}
 use Rattle.tagged.specs.Find.{first_place, field_value}
 use Rattle.tagged.specs.declared.find.Place.{Place}
-use Rattle.tagged.specs.declared.find.Place.TheVariants.{At, Nowhere}
 use Rattle.field_values.specs.Limits.{tier_count, highest_class, special_pricing, highest_amount, highest_mode, highest_demand, highest_rate, highest_revenue, lowest_capacity, highest_capacity, highest_mark, highest_of_two_bytes}
 use Rattle.request.specs.declared.fields.Amounts.{Amounts}
 use Rattle.request.specs.declared.fields.Tiers.{Tiers}
@@ -22,9 +21,9 @@ abbrev pub class_in : List ℕ → ℕ
 class_in s = number_at (field_value 3 s) 0 1
 
 -- 04, "zone number", or 0D in its place: any value of its width. Document 02, E6: "a two-byte number up to 255 means the same zone as the one-byte number"
-abbrev pub zone_by : Place → List ℕ → ℕ
-zone_by Nowhere s = number_at (field_value 4 s) 0 1
-zone_by (At start len) s = number_at (field_value 13 s) 0 2
+abbrev pub zone_by : Option Place → List ℕ → ℕ
+zone_by None s = number_at (field_value 4 s) 0 1
+zone_by (Some place) s = number_at (field_value 13 s) 0 2
 
 abbrev pub zone_in : List ℕ → ℕ
 zone_in s = zone_by (first_place 13 s) s

@@ -1,17 +1,13 @@
 -- Document 01, 'Request': the values of a request, or its refusal, from its bytes alone.
-use Rattle.std.specs.Prelude.{ℕ, List, [], ◌∷◌, replicate}
+use Rattle.std.specs.Prelude.{ℕ, List, [], ◌∷◌, Result}
 use Rattle.tagged.specs.File.{file_answer, fields_part}
 use Rattle.tagged.specs.declared.file.Refusal.{Refusal}
-use Rattle.tagged.specs.declared.file.FileAnswer.TheVariants.{Stands, Refused}
-use Rattle.field_values.specs.Limits.{tier_count}
-use Rattle.field_values.specs.Judged.{first_failure, judge_field, judge_letters}
-use Rattle.field_values.specs.Factors.{factors_of, no_factors, judge_factors}
+use Rattle.field_values.specs.Judged.{first_failure, judge_field, judge_letters, Judged}
+use Rattle.field_values.specs.Factors.{factors_of, judge_factors}
 use Rattle.field_values.specs.Reading.{reading_of}
-use Rattle.field_values.specs.declared.judged.Judged.{Judged}
 use Rattle.request.specs.RequestRows.{request_rows}
 use Rattle.request.specs.Fields.{person_in, class_limits, class_in, zone_in, amount_limits, amounts_in, five_tier_limits, tiers_in, added_limits, added_in, revenue_limits, revenues_in, connection_limits, connection_in}
 use Rattle.request.specs.declared.values.Request.{Request}
-use Rattle.request.specs.declared.values.RequestRead.{RequestRead}
 
 -- 01, "the letters CONN"
 abbrev pub request_letters : List ℕ
@@ -69,41 +65,6 @@ request_values s =
       mark = (connection_in s).mark;
     }
 
--- what a refused reading returns beside the refusal: zeros
-abbrev pub no_request : Request
-no_request =
-    record {
-      person = 0;
-      class = 0;
-      zone = 0;
-      me = 0;
-      ce = 0;
-      de = 0;
-      tw = 0;
-      hr = 0;
-      ol = 0;
-      modes = replicate tier_count 0;
-      demands = replicate tier_count 0;
-      bespoke_rates = replicate tier_count 0;
-      added_demands = replicate tier_count 0;
-      distribution_revenue = 0;
-      transmission_revenue = 0;
-      part_year = no_factors;
-      distribution_tariff = no_factors;
-      transmission_tariff = no_factors;
-      month = 0;
-      capacity = 0;
-      scheme = 0;
-      mark = 0;
-    }
-
-abbrev pub refused_request : Refusal → RequestRead
-refused_request r = record { answer = Refused r; request = no_request }
-
-abbrev pub accepted_request : Request → RequestRead
-accepted_request request = record { answer = Stands; request = request }
-
 -- "Order for a file: 1 for its last five bytes, 2, 1 for the rest, 3 in byte order."
-unfoldable pub request_of : ℕ → List ℕ → RequestRead
-request_of number file =
-    reading_of refused_request number (file_answer request_rows number file) (judge_request (fields_part file)) (accepted_request (request_values (fields_part file)))
+unfoldable pub request_of : ℕ → List ℕ → Result Request Refusal
+request_of number file = reading_of number (file_answer request_rows number file) (judge_request (fields_part file)) (request_values (fields_part file))

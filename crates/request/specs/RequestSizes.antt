@@ -1,14 +1,13 @@
 -- The lengths of the values of a request that walks, as its rows give them.
-use Rattle.std.specs.Prelude.{ℕ, ◌≡◌, List, length}
+use Rattle.std.specs.Prelude.{ℕ, ◌≡◌, List, length, None, Some, Option}
 use Rattle.tagged.specs.Find.{first_place, field_value}
 use Rattle.tagged.specs.declared.find.Place.{Place}
-use Rattle.tagged.specs.declared.find.Place.TheVariants.{At, Nowhere}
 use Rattle.field_values.specs.Factors.{FactorBytes}
 
 -- a zone number of one byte in 04, or of two in 0D
-abbrev pub ZoneBytes : Place → List ℕ → Type 0
-ZoneBytes Nowhere s = length (field_value 4 s) ≡ 1
-ZoneBytes (At start len) s = length (field_value 13 s) ≡ 2
+abbrev pub ZoneBytes : Option Place → List ℕ → Type 0
+ZoneBytes None s = length (field_value 4 s) ≡ 1
+ZoneBytes (Some place) s = length (field_value 13 s) ≡ 2
 
 pub record RequestSizes (s : List ℕ) : Type 0 where
   pub person : length (field_value 2 s) ≡ 4

@@ -1,17 +1,18 @@
 // The fields of a request one by one: the limits on a field's values, and its reader. The three lists
 // of factors have theirs in `field_values`.
-ghost use Rattle.std.specs.Prelude.{◌≡◌, ◌+◌, ◌*◌, ◌<◌, ◌≤◌, length};
-ghost use Rattle.field_walk.specs.Walk.{FieldsWalk};
+ghost use Rattle.std.specs.Prelude.{Ok, ◌≡◌};
+ghost use Rattle.field_walk.specs.Walk.{walk, walked};
 ghost use Rattle.request.specs.RequestRows.{request_rows};
-ghost use Rattle.request.specs.Fields.{person_in, class_in, zone_in, amounts_in, modes_in, five_from, tiers_in, added_in, revenues_in, connection_in};
+ghost use Rattle.request.specs.Fields.{person_in, class_in, zone_in, amounts_in, tiers_in, added_in, revenues_in, connection_in};
 
 use field_values::judged::Limit;
 use field_values::limits::{
     HIGHEST_AMOUNT, HIGHEST_CAPACITY, HIGHEST_CLASS, HIGHEST_DEMAND, HIGHEST_MARK, HIGHEST_MODE,
     HIGHEST_OF_TWO_BYTES, HIGHEST_RATE, HIGHEST_REVENUE, LOWEST_CAPACITY, TIERS,
 };
-use numbers::big_endian::{read_u8, read_u16, read_u32};
-use tagged::find::{Place, find, place_of};
+use field_values::tiers::by_tier;
+use numbers::big_endian::BigEndian;
+use tagged::find::{find, place_of};
 
 // Field 05: minimum scheme extension, customer enhancement extension, distributor enhancement,
 // transmission works, historical cost recovery, operating loading.
@@ -26,6 +27,7 @@ pub struct Amounts {
 }
 
 // Field 06, by tier.
+// Of its own beside capacity's: a request has demands and no posted rates, which are the book's.
 #[derive(Clone, Copy)]
 pub struct Tiers {
     pub modes: [u8; TIERS],
@@ -56,6 +58,7 @@ const AMOUNT_LIMIT: Limit = [4, 0, HIGHEST_AMOUNT];
 const NO_AMOUNT: Limit = [4, 0, 0];
 
 // The operating loading is the last amount: special pricing alone may have one.
+// Two lists and no last limit put in: each is a constant, lent as it stands.
 pub const AMOUNT_LIMITS: [Limit; 6] = [AMOUNT_LIMIT; 6];
 
 pub const AMOUNT_LIMITS_WITHOUT_LOADING: [Limit; 6] = [
@@ -74,23 +77,7 @@ const DEMAND_LIMIT: Limit = [4, 0, HIGHEST_DEMAND];
 const RATE_LIMIT: Limit = [4, 0, HIGHEST_RATE];
 
 // mode, demand and bespoke rate of each tier
-pub const TIER_LIMITS: [Limit; 15] = [
-    MODE_LIMIT,
-    DEMAND_LIMIT,
-    RATE_LIMIT,
-    MODE_LIMIT,
-    DEMAND_LIMIT,
-    RATE_LIMIT,
-    MODE_LIMIT,
-    DEMAND_LIMIT,
-    RATE_LIMIT,
-    MODE_LIMIT,
-    DEMAND_LIMIT,
-    RATE_LIMIT,
-    MODE_LIMIT,
-    DEMAND_LIMIT,
-    RATE_LIMIT,
-];
+pub const TIER_LIMITS: [[Limit; 3]; TIERS] = [[MODE_LIMIT, DEMAND_LIMIT, RATE_LIMIT]; TIERS];
 
 pub const ADDED_LIMITS: [Limit; TIERS] = [DEMAND_LIMIT; TIERS];
 
@@ -104,115 +91,87 @@ pub const CONNECTION_LIMITS: [Limit; 4] = [
     [1, 0, HIGHEST_MARK],
 ];
 
-pub fn read_person(fields: &[u8]) -> u32
-    requires { FieldsWalk request_rows fields.now }
-    ensures { result ≡ person_in fields.now }
-{
-    read_u32(find(fields, 2), 0)
+// The fields of a request, which walk.
+#[derive(Clone, Copy)]
+pub struct RequestFields<'a> {
+    pub fields: &'a [u8],
+    ghost walks: { walked (walk request_rows fields.now) ≡ Ok tt },
 }
 
-pub fn read_class(fields: &[u8]) -> u8
-    requires { FieldsWalk request_rows fields.now }
-    ensures { result ≡ class_in fields.now }
-{
-    read_u8(find(fields, 3), 0)
-}
-
-// Field 04, or 0D in its place.
-pub fn read_zone(fields: &[u8]) -> u16
-    requires { FieldsWalk request_rows fields.now }
-    ensures { result ≡ zone_in fields.now }
-{
-    let wide = place_of(fields, 13);
-    match wide {
-        Place::At { start: _, len: _ } => read_u16(find(fields, 13), 0),
-        Place::Nowhere => read_u8(find(fields, 4), 0) as u16,
+impl<'a> RequestFields<'a> {
+    pub fn person(self) -> u32
+        ensures { result ≡ person_in self.entry.fields.now }
+    {
+        u32::read(find(self.fields, 2), 0)
     }
-}
 
-pub fn read_amounts(fields: &[u8]) -> Amounts
-    requires { FieldsWalk request_rows fields.now }
-    ensures { result ≡ amounts_in fields.now }
-{
-    let value = find(fields, 5);
-    Amounts {
-        me: read_u32(value, 0),
-        ce: read_u32(value, 4),
-        de: read_u32(value, 8),
-        tw: read_u32(value, 12),
-        hr: read_u32(value, 16),
-        ol: read_u32(value, 20),
+    pub fn class(self) -> u8
+        ensures { result ≡ class_in self.entry.fields.now }
+    {
+        u8::read(find(self.fields, 3), 0)
     }
-}
 
-// Five 4-byte numbers, each `apart` bytes after the last.
-fn five_from(value: &[u8], from: usize, apart: usize) -> [u32; TIERS]
-    requires { (from + 4 * apart + 4 ≤ length value.now) × (apart < 16) }
-    ensures { result ≡ five_from value.now from apart }
-{
-    [
-        read_u32(value, from),
-        read_u32(value, from + apart),
-        read_u32(value, from + 2 * apart),
-        read_u32(value, from + 3 * apart),
-        read_u32(value, from + 4 * apart),
-    ]
-}
-
-// The modes of the five tiers.
-fn modes(value: &[u8]) -> [u8; TIERS]
-    requires { 45 ≤ length value.now }
-    ensures { result ≡ modes_in value.now }
-{
-    [
-        read_u8(value, 0),
-        read_u8(value, 9),
-        read_u8(value, 18),
-        read_u8(value, 27),
-        read_u8(value, 36),
-    ]
-}
-
-pub fn read_tiers(fields: &[u8]) -> Tiers
-    requires { FieldsWalk request_rows fields.now }
-    ensures { result ≡ tiers_in fields.now }
-{
-    let value = find(fields, 6);
-    Tiers {
-        modes: modes(value),
-        demands: five_from(value, 1, 9),
-        bespoke_rates: five_from(value, 5, 9),
+    // Field 04, or 0D in its place.
+    pub fn zone(self) -> u16
+        ensures { result ≡ zone_in self.entry.fields.now }
+    {
+        match place_of(self.fields, 13) {
+            Some(_) => u16::read(find(self.fields, 13), 0),
+            None => u16::from(u8::read(find(self.fields, 4), 0)),
+        }
     }
-}
 
-// Field 07: the added demands of the customer's enhancement.
-pub fn read_added(fields: &[u8]) -> [u32; TIERS]
-    requires { FieldsWalk request_rows fields.now }
-    ensures { result ≡ added_in fields.now }
-{
-    five_from(find(fields, 7), 0, 4)
-}
-
-pub fn read_revenues(fields: &[u8]) -> Revenues
-    requires { FieldsWalk request_rows fields.now }
-    ensures { result ≡ revenues_in fields.now }
-{
-    let value = find(fields, 8);
-    Revenues {
-        distribution: read_u32(value, 0),
-        transmission: read_u32(value, 4),
+    pub fn amounts(self) -> Amounts
+        ensures { result ≡ amounts_in self.entry.fields.now }
+    {
+        let value = find(self.fields, 5);
+        Amounts {
+            me: u32::read(value, 0),
+            ce: u32::read(value, 4),
+            de: u32::read(value, 8),
+            tw: u32::read(value, 12),
+            hr: u32::read(value, 16),
+            ol: u32::read(value, 20),
+        }
     }
-}
 
-pub fn read_connection(fields: &[u8]) -> Connection
-    requires { FieldsWalk request_rows fields.now }
-    ensures { result ≡ connection_in fields.now }
-{
-    let value = find(fields, 12);
-    Connection {
-        month: read_u16(value, 0),
-        capacity: read_u32(value, 2),
-        scheme: read_u16(value, 6),
-        mark: read_u8(value, 8),
+    pub fn tiers(self) -> Tiers
+        ensures { result ≡ tiers_in self.entry.fields.now }
+    {
+        let value = find(self.fields, 6);
+        Tiers {
+            modes: by_tier(value, 0, 9),
+            demands: by_tier(value, 1, 9),
+            bespoke_rates: by_tier(value, 5, 9),
+        }
+    }
+
+    // Field 07: the added demands of the customer's enhancement.
+    pub fn added_demands(self) -> [u32; TIERS]
+        ensures { result ≡ added_in self.entry.fields.now }
+    {
+        by_tier(find(self.fields, 7), 0, 4)
+    }
+
+    pub fn revenues(self) -> Revenues
+        ensures { result ≡ revenues_in self.entry.fields.now }
+    {
+        let value = find(self.fields, 8);
+        Revenues {
+            distribution: u32::read(value, 0),
+            transmission: u32::read(value, 4),
+        }
+    }
+
+    pub fn connection(self) -> Connection
+        ensures { result ≡ connection_in self.entry.fields.now }
+    {
+        let value = find(self.fields, 12);
+        Connection {
+            month: u16::read(value, 0),
+            capacity: u32::read(value, 2),
+            scheme: u16::read(value, 6),
+            mark: u8::read(value, 8),
+        }
     }
 }

@@ -27,6 +27,7 @@ pub const REQUEST_ROWS: [Row; 13] = [
 
 // Whether a file stands as a request: its last five bytes, its check and its fields. `number` is the
 // file's in a refusal.
+// A function for each kind of file, so that no caller needs to know its rows.
 pub fn request_stands(number: u8, file: &[u8]) -> FileAnswer
     ensures { result ≡ file_answer request_rows number file.now }
 {

@@ -4,19 +4,23 @@ ghost use Rattle.field_walk.specs.Walk.{FieldsWalk};
 ghost use Rattle.request.specs.RequestRows.{request_rows};
 ghost use Rattle.field_values.specs.Judged.{judge_field};
 ghost use Rattle.request.specs.Fields.{amount_limits};
-ghost use Rattle.request.specs.Request.{judge_charges, judge_request, request_values, no_request, refused_request, request_of};
+ghost use Rattle.request.specs.Request.{judge_charges, judge_request, request_values, request_of};
 
 use crate::fields::{
     ADDED_LIMITS, AMOUNT_LIMITS, AMOUNT_LIMITS_WITHOUT_LOADING, CLASS_LIMITS, CONNECTION_LIMITS,
-    REVENUE_LIMITS, TIER_LIMITS, read_added, read_amounts, read_class, read_connection,
-    read_person, read_revenues, read_tiers, read_zone,
+    REVENUE_LIMITS, RequestFields, TIER_LIMITS,
 };
-use field_values::factors::{Factors, judge_factors, no_factors, read_factors};
-use field_values::judged::{Judged, in_order, judge_field};
+use crate::rows::request_stands;
+use field_values::factors::{Factors, judge_factors, read_factors};
+use field_values::judged::{Judged, judge_field, judge_letters};
 use field_values::limits::{SPECIAL_PRICING, TIERS};
-use tagged::file::{FileAnswer, Refusal};
+use tagged::file::{Refusal, fields_part};
 use tagged::refusals::VALUE_NOT_LISTED;
 
+// Class, modes and mark are the file's bytes: an enum would take fewer than request_values does.
+// A scheme is the file's number, 0 for none: an Option could also hold a scheme 0, which no file means.
+// By rows and not by tier: demands and added demands are priced alike, a row each.
+// The limits are asked of a request and no part of its type: request_values reads fields past them as well.
 #[derive(Clone, Copy)]
 pub struct Request {
     pub person: u32,
@@ -50,13 +54,9 @@ pub struct Request {
     pub mark: u8,
 }
 
-#[derive(Clone, Copy)]
-pub struct RequestRead {
-    pub answer: FileAnswer,
-    pub request: Request,
-}
-
 // The six amounts of a request of this class.
+// By an if and no step handed in: the class is in the file, and the list of limits follows from it.
+#[tactic(auto, unfolding(field_values::specs::Judged::narrow))]
 fn judge_amounts(fields: &[u8], class: u8) -> Judged
     ensures { result ≡ judge_field (amount_limits class) 5 fields.now }
 {
@@ -68,49 +68,49 @@ fn judge_amounts(fields: &[u8], class: u8) -> Judged
 }
 
 // The class, and the six amounts by it.
-fn judge_charges(fields: &[u8]) -> Judged
-    requires { FieldsWalk request_rows fields.now }
-    ensures { result ≡ judge_charges fields.now }
+#[tactic(auto, unfolding(field_values::specs::Judged::narrow))]
+fn judge_charges(request: RequestFields) -> Judged
+    ensures { result ≡ judge_charges request.entry.fields.now }
 {
-    let class = judge_field(fields, 3, &CLASS_LIMITS);
-    let amounts = judge_amounts(fields, read_class(fields));
-    in_order(class, amounts)
+    judge_field(request.fields, 3, &CLASS_LIMITS)?;
+    judge_amounts(request.fields, request.class())
 }
 
 // The first value, in byte order, that isn't as document 01, 'Request', lists it.
-fn judge_request(fields: &[u8]) -> Judged
-    requires { FieldsWalk request_rows fields.now }
-    ensures { result ≡ judge_request fields.now }
+#[tactic(auto, unfolding(field_values::specs::Judged::narrow))]
+fn judge_request(request: RequestFields) -> Judged
+    ensures { result ≡ judge_request request.entry.fields.now }
 {
-    let letters = field_values::judged::judge_letters(fields, b"CONN");
-    let charges = judge_charges(fields);
-    let tiers = judge_field(fields, 6, &TIER_LIMITS);
-    let added = judge_field(fields, 7, &ADDED_LIMITS);
-    let revenues = judge_field(fields, 8, &REVENUE_LIMITS);
-    let part_year = judge_factors(fields, 9);
-    let distribution = judge_factors(fields, 10);
-    let transmission = judge_factors(fields, 11);
-    let connection = judge_field(fields, 12, &CONNECTION_LIMITS);
-    let last = in_order(distribution, in_order(transmission, connection));
-    let later = in_order(added, in_order(revenues, in_order(part_year, last)));
-    in_order(letters, in_order(charges, in_order(tiers, later)))
+    let fields = request.fields;
+    judge_letters(fields, b"CONN")?;
+    judge_charges(request)?;
+    judge_field(fields, 6, TIER_LIMITS.as_flattened())?;
+    judge_field(fields, 7, &ADDED_LIMITS)?;
+    judge_field(fields, 8, &REVENUE_LIMITS)?;
+    judge_factors(fields, 9)?;
+    judge_factors(fields, 10)?;
+    judge_factors(fields, 11)?;
+    judge_field(fields, 12, &CONNECTION_LIMITS)
 }
 
+// Figure by figure: a request is flat, so that who prices it needs none of the file's fields.
+#[tactic(auto, using(crate::proofs::Theorems::RequestSizes::walked_when))]
 pub fn request_values(fields: &[u8]) -> Request
     requires { FieldsWalk request_rows fields.now }
     ensures { result ≡ request_values fields.now }
 {
-    let amounts = read_amounts(fields);
-    let tiers = read_tiers(fields);
-    let revenues = read_revenues(fields);
-    let connection = read_connection(fields);
+    let request = RequestFields { fields };
+    let amounts = request.amounts();
+    let tiers = request.tiers();
+    let revenues = request.revenues();
+    let connection = request.connection();
     let modes = tiers.modes;
     let demands = tiers.demands;
     let bespoke_rates = tiers.bespoke_rates;
     Request {
-        person: read_person(fields),
-        class: read_class(fields),
-        zone: read_zone(fields),
+        person: request.person(),
+        class: request.class(),
+        zone: request.zone(),
         me: amounts.me,
         ce: amounts.ce,
         de: amounts.de,
@@ -120,7 +120,7 @@ pub fn request_values(fields: &[u8]) -> Request
         modes,
         demands,
         bespoke_rates,
-        added_demands: read_added(fields),
+        added_demands: request.added_demands(),
         distribution_revenue: revenues.distribution,
         transmission_revenue: revenues.transmission,
         part_year: read_factors(fields, 9),
@@ -133,66 +133,16 @@ pub fn request_values(fields: &[u8]) -> Request
     }
 }
 
-fn no_request() -> Request
-    ensures { result ≡ no_request }
-{
-    let none = no_factors();
-    Request {
-        person: 0,
-        class: 0,
-        zone: 0,
-        me: 0,
-        ce: 0,
-        de: 0,
-        tw: 0,
-        hr: 0,
-        ol: 0,
-        modes: [0; TIERS],
-        demands: [0; TIERS],
-        bespoke_rates: [0; TIERS],
-        added_demands: [0; TIERS],
-        distribution_revenue: 0,
-        transmission_revenue: 0,
-        part_year: none,
-        distribution_tariff: none,
-        transmission_tariff: none,
-        month: 0,
-        capacity: 0,
-        scheme: 0,
-        mark: 0,
-    }
-}
-
-fn refused_request(refusal: Refusal) -> RequestRead
-    ensures { result ≡ refused_request refusal }
-{
-    RequestRead {
-        answer: FileAnswer::Refused(refusal),
-        request: no_request(),
-    }
-}
-
 // The values of a request, or its refusal; `number` is the file's in a refusal.
-pub fn read_request(number: u8, file: &[u8]) -> RequestRead
+// Read as a book is, by a function of its own: a book's zone rates are read first and stand beside it.
+#[tactic(auto, using(crate::proofs::Theorems::Request::request_walks, crate::proofs::Theorems::RequestSizes::walked_when), unfolding(crate::specs::Request::request_of))]
+pub fn read_request(number: u8, file: &[u8]) -> Result<Request, Refusal>
     ensures { result ≡ request_of number file.now }
 {
-    let standing = crate::rows::request_stands(number, file);
-    match standing {
-        FileAnswer::Stands => {
-            let fields = tagged::file::fields_part(file);
-            let judged = judge_request(fields);
-            match judged {
-                Judged::Passes => RequestRead {
-                    answer: FileAnswer::Stands,
-                    request: request_values(fields),
-                },
-                Judged::Fails(at) => refused_request(Refusal {
-                    number: VALUE_NOT_LISTED,
-                    file: number,
-                    place: at,
-                }),
-            }
-        }
-        FileAnswer::Refused(refusal) => refused_request(refusal),
+    request_stands(number, file)?;
+    let fields = fields_part(file);
+    match judge_request(RequestFields { fields }) {
+        Ok(()) => Ok(request_values(fields)),
+        Err(at) => Err(Refusal::of_file(VALUE_NOT_LISTED, number, at)),
     }
 }

@@ -1,12 +1,19 @@
 -- Document 01, 'How calls end': "Order for a file: 1 for its last five bytes, 2, 1 for the rest". The rest, 3, is each reader's.
-use Rattle.std.specs.Prelude.{ℕ, ◌-◌, ◌≤◌, List, Bool, false, cond, true, ◌≡◌, length, get_or, take, ltb, eqb}
+use Rattle.std.specs.Prelude.{ℕ, ◌-◌, ◌≤◌, List, Bool, false, cond, true, ◌≡◌, length, get_or, take, ltb, eqb, Err, Ok, Result}
 use Rattle.numbers.specs.BigEndian.{number, number_at}
 use Rattle.numbers.specs.Check.{check}
 use Rattle.field_walk.specs.Walk.{Walk, walk, fields, stops, FieldAt}
 use Rattle.tagged.specs.Refusals.{file_does_not_walk, check_differs}
 use Rattle.tagged.specs.declared.file.Refusal.{Refusal}
-use Rattle.tagged.specs.declared.file.FileAnswer.{FileAnswer}
-use Rattle.tagged.specs.declared.file.FileAnswer.TheVariants.{Stands, Refused}
+
+-- a file stands, or is refused
+abbrev pub FileAnswer : Type 0
+FileAnswer = Result (Unit {0}) Refusal
+
+-- the answer alone of what is read of a file
+abbrev pub answer_of : {Values : Type 0} → Result Values Refusal → FileAnswer
+answer_of (Ok values) = Ok tt
+answer_of (Err r) = Err r
 
 -- "The last field is FF, length 2: the check."
 abbrev pub tail_stands : List ℕ → Bool
@@ -30,14 +37,14 @@ refusal number file place = record { number = number; file = file; place = place
 
 -- 1 for the rest: the offset of the first field that can't stand there
 abbrev pub of_walk : ℕ → Walk → FileAnswer
-of_walk file (fields fs) = Stands
-of_walk file (stops at) = Refused (refusal file_does_not_walk file at)
+of_walk file (fields fs) = Ok tt
+of_walk file (stops at) = Err (refusal file_does_not_walk file at)
 
 abbrev pub file_answer : List (List ℕ) → ℕ → List ℕ → FileAnswer
 file_answer rows file s =
     cond (tail_stands s)
-    (cond (check_stands s) (of_walk file (walk rows (fields_part s))) (Refused (refusal check_differs file (length s - 2))))
-    (Refused (refusal file_does_not_walk file 0))
+    (cond (check_stands s) (of_walk file (walk rows (fields_part s))) (Err (refusal check_differs file (length s - 2))))
+    (Err (refusal file_does_not_walk file 0))
 
 pub record FileStands (rows : List (List ℕ)) (s : List ℕ) : Type 0 where
   pub size : 5 ≤ length s

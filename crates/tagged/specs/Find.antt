@@ -1,10 +1,9 @@
 -- Document 01, 'Tagged fields': "Finding a field hands back that very part of the file and no copy: its value."
 -- The search needs no rows: it goes from field to field by their lengths, as far as whole fields stand.
-use Rattle.std.specs.Prelude.{ℕ, zero, suc, ◌+◌, ◌-◌, ◌≤◌, ◌≡◌, List, [], ◌∷◌, Bool, false, cond, length, get_or, take, drop, ltb, leb, eqb}
+use Rattle.std.specs.Prelude.{ℕ, zero, suc, ◌+◌, ◌-◌, ◌≤◌, ◌≡◌, List, [], ◌∷◌, Bool, false, cond, length, get_or, take, drop, ltb, leb, eqb, None, Some, Option}
 use Rattle.std.specs.Borrow.{Bor}
 use Rattle.field_walk.specs.Walk.{FieldAt, length_at}
 use Rattle.tagged.specs.declared.find.Place.{Place}
-use Rattle.tagged.specs.declared.find.Place.TheVariants.{At, Nowhere}
 
 -- a whole field stands at the front
 abbrev pub whole_field : List ℕ → Bool
@@ -20,37 +19,40 @@ fields_from (suc most) at s =
 abbrev pub fields_of : List ℕ → List FieldAt
 fields_of s = fields_from (length s + 1) 0 s
 
--- the place of the first field's value among those with this tag
-unfoldable pub first_with : ℕ → List FieldAt → Place
-first_with tag [] = Nowhere
-first_with tag (f ∷ fs) = cond (eqb f.tag tag) (At f.start f.len) (first_with tag fs)
+abbrev pub place_at : ℕ → ℕ → Option Place
+place_at start len = Some (record { start = start; len = len })
 
-abbrev pub first_place : ℕ → List ℕ → Place
+-- the place of the first field's value among those with this tag
+unfoldable pub first_with : ℕ → List FieldAt → Option Place
+first_with tag [] = None
+first_with tag (f ∷ fs) = cond (eqb f.tag tag) (place_at f.start f.len) (first_with tag fs)
+
+abbrev pub first_place : ℕ → List ℕ → Option Place
 first_place tag s = first_with tag (fields_of s)
 
 -- the value of the field at the front, and the rest of the file after it
-abbrev pub value_place : List ℕ → Place
-value_place s = cond (whole_field s) (At 3 (length_at s)) Nowhere
+abbrev pub value_place : List ℕ → Option Place
+value_place s = cond (whole_field s) (place_at 3 (length_at s)) None
 
-abbrev pub rest_place : List ℕ → Place
-rest_place s = cond (whole_field s) (At (length_at s + 3) (length s - (length_at s + 3))) Nowhere
+abbrev pub rest_place : List ℕ → Option Place
+rest_place s = cond (whole_field s) (place_at (length_at s + 3) (length s - (length_at s + 3))) None
 
 -- the part of the file at a place, and the offset at which it starts; no bytes where there is none
-abbrev pub part_of : Place → List ℕ → List ℕ
-part_of Nowhere s = []
-part_of (At start len) s = take len (drop start s)
+abbrev pub part_of : Option Place → List ℕ → List ℕ
+part_of None s = []
+part_of (Some place) s = take place.len (drop place.start s)
 
-abbrev pub start_of : Place → ℕ
-start_of Nowhere = 0
-start_of (At start len) = start
+abbrev pub start_of : Option Place → ℕ
+start_of None = 0
+start_of (Some place) = place.start
 
 -- a place lies within a file of this size
-abbrev pub PlaceWithin : ℕ → Place → Type 0
-PlaceWithin size Nowhere = Unit {0}
-PlaceWithin size (At start len) = start + len ≤ size
+abbrev pub PlaceWithin : ℕ → Option Place → Type 0
+PlaceWithin size None = Unit {0}
+PlaceWithin size (Some place) = place.start + place.len ≤ size
 
 -- r refers to that very part of the file: it has the part's bytes, and points to where the part starts in the file
-pub record IsPart (place : Place) (file r : Bor (List ℕ)) : Type 0 where
+pub record IsPart (place : Option Place) (file r : Bor (List ℕ)) : Type 0 where
   pub bytes : r.now ≡ part_of place file.now
   pub pointer : r.ref_ptr ≡ (file.ref_ptr.0, start_of place + file.ref_ptr.1)
 

@@ -1,9 +1,8 @@
 -- Fields of a file that lie in it, one after the other, and the parts that a search finds.
 use Rattle.std.specs.Prelude.{ℕ, ◌+◌, ◌-◌, ◌%◌, ◌≤◌, ◌≡◌, List, true, length, get_or, drop}
 use Rattle.field_walk.specs.Walk.{tag_of, lowest_of, highest_of, step_of, permitted_by, length_at, FieldAt, value_of}
-use Rattle.tagged.specs.Find.{whole_field, first_place, value_place, rest_place, part_of, field_value, field_start}
+use Rattle.tagged.specs.Find.{place_at, whole_field, first_place, value_place, rest_place, part_of, field_value, field_start}
 use Rattle.tagged.specs.WalkRelations.{StandsAt, Fields}
-use Rattle.tagged.specs.declared.find.Place.TheVariants.{At}
 
 -- What a reader sees whose rest of the file starts at a field: its value, and the rest of the file after it.
 pub record Seen (s : List ℕ) (at : ℕ) (f : FieldAt) : Type 0 where
@@ -11,8 +10,8 @@ pub record Seen (s : List ℕ) (at : ℕ) (f : FieldAt) : Type 0 where
   pub len : length_at (drop at s) ≡ f.len
   pub ends : f.len + 3 ≤ length (drop at s)
   pub whole : whole_field (drop at s) ≡ true
-  pub value_place_is : value_place (drop at s) ≡ At 3 f.len
-  pub rest_place_is : rest_place (drop at s) ≡ At (f.len + 3) (length (drop at s) - (f.len + 3))
+  pub value_place_is : value_place (drop at s) ≡ place_at 3 f.len
+  pub rest_place_is : rest_place (drop at s) ≡ place_at (f.len + 3) (length (drop at s) - (f.len + 3))
   pub value : part_of (value_place (drop at s)) (drop at s) ≡ value_of s f
   pub rest : part_of (rest_place (drop at s)) (drop at s) ≡ drop (at + (f.len + 3)) s
 
@@ -26,7 +25,7 @@ pub record Next (s : List ℕ) (at : ℕ) (f : FieldAt) (others : List FieldAt) 
 pub record Found (row : List ℕ) (s : List ℕ) : Type 0 where
   pub start : ℕ
   pub len : ℕ
-  pub found : first_place (tag_of row) s ≡ At start len
+  pub found : first_place (tag_of row) s ≡ place_at start len
   pub permitted : permitted_by row len ≡ true
   pub within : start + len ≤ length s
 

@@ -3,9 +3,11 @@ ghost use Rattle.std.specs.Prelude.{◌≡◌, ◌≤◌, length};
 ghost use Rattle.tagged.specs.File.{tail_stands, check_stands, file_answer, fields_part, refusal};
 
 use crate::refusals::{CHECK_DIFFERS, FILE_DOES_NOT_WALK};
-use field_walk::walk::{Row, Walked};
+use field_walk::walk::Row;
+use numbers::big_endian::BigEndian;
 
 // How a call is refused: document 01's number, the file and the place.
+// Number and file are bytes and no kinds: they cross to C, and the slip prints any.
 #[derive(Clone, Copy)]
 pub struct Refusal {
     pub number: u8,
@@ -13,21 +15,28 @@ pub struct Refusal {
     pub place: usize,
 }
 
-#[derive(Clone, Copy)]
-pub enum FileAnswer {
-    Stands,
-    Refused(Refusal),
+impl Refusal {
+    // At a place of a file.
+    pub fn of_file(number: u8, file: u8, place: usize) -> Refusal
+        ensures { result ≡ refusal number file place }
+    {
+        Refusal {
+            number,
+            file,
+            place,
+        }
+    }
+
+    // Of a call that no file refuses: file and place are 0.
+    pub fn of_call(number: u8) -> Refusal
+        ensures { result ≡ refusal number 0 0 }
+    {
+        Refusal::of_file(number, 0, 0)
+    }
 }
 
-fn refused(number: u8, file: u8, place: usize) -> FileAnswer
-    ensures { result ≡ FileAnswer.Refused (refusal number file place) }
-{
-    FileAnswer::Refused(Refusal {
-        number,
-        file,
-        place,
-    })
-}
+// A file stands, or is refused.
+pub type FileAnswer = Result<(), Refusal>;
 
 // The last five bytes are FF, the length 2 and two bytes of check.
 fn tail_stands(file: &[u8]) -> bool
@@ -37,13 +46,7 @@ fn tail_stands(file: &[u8]) -> bool
     if size < 5 {
         return false;
     }
-    if file[size - 5] != 255 {
-        return false;
-    }
-    if file[size - 4] != 0 {
-        return false;
-    }
-    file[size - 3] == 2
+    file[size - 5..size - 2] == [255, 0, 2]
 }
 
 // The last two bytes are the check of all bytes before them.
@@ -52,11 +55,11 @@ fn check_stands(file: &[u8]) -> bool
     ensures { result ≡ check_stands file.now }
 {
     let checked = file.len() - 2;
-    let stored = numbers::big_endian::read_u16(file, checked);
-    stored as u32 == numbers::check::check(&file[..checked])
+    u32::from(u16::read(file, checked)) == numbers::check::check(&file[..checked])
 }
 
 // The fields of a file: all but its last five bytes.
+// No bytes and no Option: a file that is shorter than its last five bytes has no fields.
 pub fn fields_part<'a>(file: &'a [u8]) -> &'a [u8]
     ensures { (result.now ≡ fields_part file.now) × (result.ref_ptr ≡ file.entry.ref_ptr) }
 {
@@ -68,19 +71,20 @@ pub fn fields_part<'a>(file: &'a [u8]) -> &'a [u8]
 }
 
 // Whether a file of the kind with these rows stands; `number` is the file's in a refusal.
+// The number comes beside the bytes: a pair would be made for this one call and taken apart in it.
 pub fn file_stands(rows: &[Row], number: u8, file: &[u8]) -> FileAnswer
     ensures { result ≡ file_answer rows.now number file.now }
 {
     if !tail_stands(file) {
-        return refused(FILE_DOES_NOT_WALK, number, 0);
+        return Err(Refusal::of_file(FILE_DOES_NOT_WALK, number, 0));
     }
     let checked = file.len() - 2;
     if !check_stands(file) {
-        return refused(CHECK_DIFFERS, number, checked);
+        return Err(Refusal::of_file(CHECK_DIFFERS, number, checked));
     }
-    let ended = field_walk::walk::walk(rows, fields_part(file));
-    match ended {
-        Walked::Walks => FileAnswer::Stands,
-        Walked::Stops(at) => refused(FILE_DOES_NOT_WALK, number, at),
-    }
+    field_walk::walk::walk(rows, fields_part(file)).map_err(|at| Refusal::of_file(
+        FILE_DOES_NOT_WALK,
+        number,
+        at,
+    ))
 }

@@ -2,11 +2,14 @@
 ghost use Rattle.std.specs.Prelude.{◌≡◌, length};
 ghost use Rattle.tagged.specs.Find.{whole_field, first_place, value_place, rest_place, start_of, PlaceWithin, IsPart};
 
+use numbers::big_endian::BigEndian;
+
 // Where a part of a file stands.
+// A place and no slice, since a refusal names an offset; of which file it is a part it doesn't know itself.
 #[derive(Clone, Copy)]
-pub enum Place {
-    At { start: usize, len: usize },
-    Nowhere,
+pub struct Place {
+    pub start: usize,
+    pub len: usize,
 }
 
 // Whether a whole field stands at the front of the rest of a file.
@@ -16,50 +19,50 @@ fn whole_field(rest: &[u8]) -> bool
     if rest.len() < 3 {
         return false;
     }
-    let len = numbers::big_endian::read_u16(rest, 1) as usize;
+    let len = usize::from(u16::read(rest, 1));
     len + 3 <= rest.len()
 }
 
 // The place of the value of the first field with this tag.
-pub fn place_of(fields: &[u8], tag: u8) -> Place
+// The rest is kept by hand: an iterator of fields would keep it in the same way, one call away.
+pub fn place_of(fields: &[u8], tag: u8) -> Option<Place>
     ensures value { result ≡ first_place tag fields.now }
     ensures place_within { PlaceWithin (length fields.now) result }
 {
     let mut rest = fields;
     let mut at: usize = 0;
     while whole_field(rest) {
-        let len = numbers::big_endian::read_u16(rest, 1) as usize;
+        let len = usize::from(u16::read(rest, 1));
         if rest[0] == tag {
-            return Place::At { start: at + 3, len };
+            return Some(Place { start: at + 3, len });
         }
         let end = len + 3;
-        at = at + end;
+        at += end;
         rest = &rest[end..];
     }
-    Place::Nowhere
+    None
 }
 
-// The part at a place: the very bytes of the file, as the pointer says; no bytes for Nowhere.
-pub fn part<'a>(file: &'a [u8], place: Place) -> &'a [u8]
+// The part at a place: the very bytes of the file, as the pointer says; no bytes where there is none.
+// No Option, here and in what finds by it: a value that isn't there is read as one of no bytes.
+pub fn part<'a>(file: &'a [u8], place: Option<Place>) -> &'a [u8]
     requires { PlaceWithin (length file.now) place }
     ensures { IsPart place file.entry result }
 {
     match place {
-        Place::At { start, len } => {
-            let end = start + len;
-            &file[start..end]
-        }
-        Place::Nowhere => &file[0..0],
+        Some(Place { start, len }) => &file[start..start + len],
+        None => &file[0..0],
     }
 }
 
 // The offset at which the part at a place starts.
-pub fn start_of(place: Place) -> usize
+// 0 and no Option where there is none: a missing value is judged as no bytes at offset 0.
+pub fn start_of(place: Option<Place>) -> usize
     ensures { result ≡ start_of place }
 {
     match place {
-        Place::At { start, len: _ } => start,
-        Place::Nowhere => 0,
+        Some(place) => place.start,
+        None => 0,
     }
 }
 
@@ -71,29 +74,30 @@ pub fn find<'a>(fields: &'a [u8], tag: u8) -> &'a [u8]
     part(fields, place)
 }
 
-fn value_place(rest: &[u8]) -> Place
+// Value and rest by a place each: what is handed back is promised as the file's own part at that place.
+fn value_place(rest: &[u8]) -> Option<Place>
     ensures value { result ≡ value_place rest.now }
     ensures place_within { PlaceWithin (length rest.now) result }
 {
     if whole_field(rest) {
-        let len = numbers::big_endian::read_u16(rest, 1) as usize;
-        return Place::At { start: 3, len };
+        let len = usize::from(u16::read(rest, 1));
+        return Some(Place { start: 3, len });
     }
-    Place::Nowhere
+    None
 }
 
-fn rest_place(rest: &[u8]) -> Place
+fn rest_place(rest: &[u8]) -> Option<Place>
     ensures value { result ≡ rest_place rest.now }
     ensures place_within { PlaceWithin (length rest.now) result }
 {
     if whole_field(rest) {
-        let end = numbers::big_endian::read_u16(rest, 1) as usize + 3;
-        return Place::At {
+        let end = usize::from(u16::read(rest, 1)) + 3;
+        return Some(Place {
             start: end,
             len: rest.len() - end,
-        };
+        });
     }
-    Place::Nowhere
+    None
 }
 
 // The next field's value: that of the field that the rest of a file starts with; no bytes where no

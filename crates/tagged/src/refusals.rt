@@ -1,4 +1,5 @@
 // The numbers of the refusals: document 01, 'How calls end'.
+// Numbers and no enum: a refusal's number is a byte that C reads and the slip prints, whichever it is.
 
 pub const FILE_DOES_NOT_WALK: u8 = 1;
 

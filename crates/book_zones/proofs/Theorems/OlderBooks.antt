@@ -1,10 +1,9 @@
 -- Document 02, E6: "Older books and requests price as before": a book without a field 09 is answered as by the rows that document 01 gives, place included.
-use Rattle.std.specs.Prelude.{ℕ, ◌*◌, ◌≡◌, refl, List, [], ◌∷◌, Bool, true, false, cond, get_or, take, drop, eqb}
+use Rattle.std.specs.Prelude.{ℕ, ◌*◌, ◌≡◌, refl, List, [], ◌∷◌, Bool, true, false, cond, get_or, take, drop, eqb, None}
 use Rattle.std.proofs.Common.{sym, ap, ◌∙◌, arith, le-ltb, ne_eqb}
 use Rattle.std.proofs.lemmas.Bool.{false≢true}
-use Rattle.field_walk.specs.Walk.{due_from, all_had, Walk, fields, stops, first_form, second_form, neither_form, rows_in, walk_by, by_forms, walk}
+use Rattle.field_walk.specs.Walk.{Due, due_from, all_had, Walk, fields, stops, first_form, second_form, neither_form, rows_in, walk_by, by_forms, walk}
 use Rattle.field_walk.proofs.Theorems.Forms.{one_form}
-use Rattle.field_walk.specs.declared.walk.Due.TheVariants.{NotDue}
 use Rattle.tagged.specs.File.{fields_part, file_answer}
 use Rattle.tagged.proofs.Theorems.WalkFurther.{no_more, Further, TagsOf, found_nowhere, goes_further, goes_on_after, walk_without_last}
 use Rattle.field_values.specs.Limits.{most_zones, most_factors}
@@ -42,10 +41,10 @@ wide_no_further : (s : List ℕ) → TagsOf Not09 s → Further (walk_by wide_ro
 unfolding due_from all_had
 wide_no_further s tags = goes_further Not09 wide_rows narrow_rows (goes_on_after (take 7 wide_rows) (take 7 narrow_rows) refl (no_more stops_there missing)) s tags
   where
-    stops_there : (k n tag : ℕ) → Not09 tag → due_from (drop 7 wide_rows) k n tag ≡ NotDue
+    stops_there : (k n tag : ℕ) → Not09 tag → due_from (drop 7 wide_rows) k n tag ≡ None
     stops_there k n tag other = rw (ne_eqb 9 tag (λ e. other (sym e)), le-ltb n 0 (omega arith)) (either_same (eqb 8 tag))
       where
-        either_same : (b : Bool) → cond b NotDue NotDue ≡ NotDue
+        either_same : (b : Bool) → cond {A = Due} b None None ≡ None
         either_same true = refl
         either_same false = refl
 

@@ -1,14 +1,13 @@
 -- Where the zones of a book that walks stand: its last fields are 1 to 8 fields 08 of 24 bytes each, or 09 of 25, up to the end of the fields.
-use Rattle.std.specs.Prelude.{ℕ, zero, suc, ◌+◌, ◌*◌, ◌<◌, ◌≤◌, ◌≡◌, Bool, true, false, cond, length, get_or, take, drop, eqb}
+use Rattle.std.specs.Prelude.{ℕ, zero, suc, ◌+◌, ◌*◌, ◌<◌, ◌≤◌, ◌≡◌, Bool, true, false, cond, length, get_or, take, drop, eqb, None, Some, Option, Ok, refl}
 use Rattle.std.proofs.Math.Path.{refl, ap, ap₂}
 use Rattle.std.proofs.Common.{sym, subst, ◌∙◌, ⊎_elim, arith, eqb-true, eq-eqb}
 use mathlib.Core.List.{List, [], ◌∷◌, ◌++◌, map, Memᴰ}
 use Rattle.std.proofs.lemmas.Bool.{false≢true, eqb-false}
 use Rattle.std.proofs.lemmas.List.{length-map}
-use Rattle.field_walk.specs.Walk.{tag_of, least_of, most_of, permitted_by, first_form, second_form, rows_in, walk_by, FieldAt, fields, FieldsWalk}
-use Rattle.tagged.specs.Find.{fields_of, fields_with, first_with, first_place, start_of}
+use Rattle.field_walk.specs.Walk.{tag_of, least_of, most_of, permitted_by, first_form, second_form, rows_in, walk_by, FieldAt, fields, FieldsWalk, Walk, stops, walk, walked}
+use Rattle.tagged.specs.Find.{place_at, fields_of, fields_with, first_with, first_place, start_of}
 use Rattle.tagged.specs.declared.find.Place.{Place}
-use Rattle.tagged.specs.declared.find.Place.TheVariants.{At, Nowhere}
 use Rattle.tagged.proofs.Theorems.FieldsWith.{with_past, with_all}
 use Rattle.tagged.specs.WalkRelations.{Stand, next_row, field, Fields, none, first}
 use Rattle.tagged.proofs.Theorems.Walk.{by_test, Stand-had, Stand-once, Stand-last, walk_by_form, walk_by_stands, walk_fields, permitted_length}
@@ -29,9 +28,9 @@ every_get_or apart at (suc n) zero d h = omega arith
 every_get_or apart at (suc n) (suc i) d h = omega (arith, every_get_or apart (at + apart) n i d (omega arith))
 
 -- a zone's number has one byte or two
-pub tag_narrow_or_wide : (place : Place) → (8 ≤ tag_by place) × (tag_by place ≤ 9)
-tag_narrow_or_wide Nowhere = (omega arith, omega arith)
-tag_narrow_or_wide (At start len) = (omega arith, omega arith)
+pub tag_narrow_or_wide : (place : Option Place) → (8 ≤ tag_by place) × (tag_by place ≤ 9)
+tag_narrow_or_wide None = (omega arith, omega arith)
+tag_narrow_or_wide (Some place) = (omega arith, omega arith)
 
 pub record ZonesStand (s : List ℕ) : Type 0 where
   pub least : 1 ≤ length (zone_starts s)
@@ -107,12 +106,12 @@ module _ (tag size : ℕ) (s : List ℕ) where
   ends_last (first {at} {f} {fs} x y) of h =
       omega (arith, (of f (Memᴰ.head refl)).1, ends_last y (λ g i. of g (Memᴰ.tail i)) (omega (arith, x.start, x.within)))
 
-  first_place_lem : {at : ℕ} {fs : List FieldAt} → Fields s at fs → Each fs → 1 ≤ length fs → first_with tag fs ≡ At (at + 3) size
+  first_place_lem : {at : ℕ} {fs : List FieldAt} → Fields s at fs → Each fs → 1 ≤ length fs → first_with tag fs ≡ place_at (at + 3) size
   unfolding first_with
   first_place_lem (none l) of h = absurd (omega arith)
   first_place_lem (first {at} {f} x y) of h =
       let here = of f (Memᴰ.head refl) in
-      rw (eq-eqb _ _ here.0) (ap₂ At x.start here.1)
+      rw (eq-eqb _ _ here.0) (ap₂ place_at x.start here.1)
 
 -- the last rows of a book, 08 and 09, in files of one form: one of them permits no field
 last_absent : {row absent : List ℕ} {n : ℕ} {fs : List FieldAt} → most_of absent ≡ 0 → Stand (row ∷ absent ∷ []) n fs → Stand (row ∷ []) n fs
@@ -153,7 +152,7 @@ module _ (s : List ℕ) (fs : List FieldAt) (are : Fields s 0 fs) (found : field
           ap₂ (λ tag x. map (λ f. f.start) (fields_with tag x)) tag_is found
           ∙ ap (map (λ f. f.start)) (b.all_with ∙ with_all (tag_of row) b.others (λ f i. (each f i).0)) in
           let count : length (zone_starts s) ≡ length b.others = ap length starts ∙ length-map b.others _ in
-          let place : first_place (tag_of row) s ≡ At (b.at + 3) (tag_of row + 13) =
+          let place : first_place (tag_of row) s ≡ place_at (b.at + 3) (tag_of row + 13) =
           ap (first_with (tag_of row)) found ∙ b.first_with_same ∙ first_place_lem (tag_of row) (tag_of row + 13) s b.are each some in
           let start : first_zone s ≡ b.at + 3 = ap (λ tag. start_of (first_place tag s)) tag_is ∙ ap start_of place in
           let range = tag_narrow_or_wide (first_place 9 s) in
@@ -190,3 +189,14 @@ zones_stand s (fs, walks) = ⊎_elim narrow wide (walk_by_form book_rows s fs wa
         let rows = rows_in second_form book_rows in
         zones_of s fs are found row (drop 7 rows) (walk_by_stands rows s fs e) (λ others x. Stand-had x (omega arith)) refl
         (λ len p. omega (arith, permitted_length row len p)) refl refl (ap tag_by (walk_by_finds rows s fs refl e 8 (omega arith) (omega arith)).found)
+
+-- a walk that is answered with every field standing
+walks_when : (rows : List (List ℕ)) (s : List ℕ) (w : Walk) → walk rows s ≡ w → walked w ≡ Ok tt → FieldsWalk rows s
+walks_when rows s (fields fs) e h = (fs, e)
+walks_when rows s (stops at) e h = absurd (cc)
+
+pub fields_walk : (s : List ℕ) → walked (walk book_rows s) ≡ Ok tt → FieldsWalk book_rows s
+fields_walk s h = walks_when book_rows s (walk book_rows s) refl h
+
+pub walked_when : (s : List ℕ) → FieldsWalk book_rows s → walked (walk book_rows s) ≡ Ok tt
+walked_when s (fs, e) = rw e

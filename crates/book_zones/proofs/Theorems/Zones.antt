@@ -1,6 +1,6 @@
 -- Laws of the zones: arrays with a place for each, and the zones' judgements by two scans.
 use Prim.Native.Nat.{ℕ, zero, suc, ◌+◌, ◌-◌, ◌<◌, ◌≤◌}
-use Rattle.std.specs.Prelude.{◌≡◌, Bool, true, false, length, get_or, take, replicate, leb}
+use Rattle.std.specs.Prelude.{◌≡◌, Bool, true, false, length, get_or, take, replicate, leb, Err, Ok}
 use Rattle.std.proofs.Math.Path.{refl}
 use Rattle.std.proofs.Common.{sym, ap, ap₂, subst, ◌∙◌, arith, length-append, length-take, take-take, get_or-take, get_or-append-add, lt-ltb, le-ltb}
 use mathlib.Core.List.{List, [], ◌∷◌, ◌++◌, map}
@@ -9,10 +9,8 @@ use Rattle.std.proofs.Math.ListN.{get_or-append}
 use Rattle.std.proofs.Math.Seq.{take-append_seam}
 use Rattle.tagged.specs.Find.{first_place}
 use Rattle.field_values.specs.Limits.{most_zones, tier_count, highest_rate}
-use Rattle.field_values.specs.Judged.{judge, in_order}
+use Rattle.field_values.specs.Judged.{judge, in_order, Judged}
 use Rattle.field_values.proofs.Theorems.Judged.{in_order_end}
-use Rattle.field_values.specs.declared.judged.Judged.{Judged}
-use Rattle.field_values.specs.declared.judged.Judged.TheVariants.{Passes, Fails}
 use Rattle.book_zones.specs.Zones.{number_width, zone_starts, first_zone, zones_apart, zone_array, zone_number, zone_numbers, rate_row, zone_rates, judge_row, judge_zones_from, judge_zones, judge_rise, judge_rows, lower}
 use Rattle.book_zones.proofs.Theorems.ZoneFields.{every, tag_narrow_or_wide, ZonesStand}
 
@@ -38,8 +36,8 @@ module _ {A : Type 0} (nothing : A) (elements : List A) where
 
 -- ---- a judgement that fails, if at all, at a place of which P holds
 data FailsAt (P : ℕ → Type 0) : Judged → Type 0 where
-  passes : FailsAt P Passes
-  fails : {at : ℕ} → P at → FailsAt P (Fails at)
+  passes : FailsAt P (Ok tt)
+  fails : {at : ℕ} → P at → FailsAt P (Err at)
 
 weaken : {P Q : ℕ → Type 0} {a : Judged} → ((at : ℕ) → P at → Q at) → FailsAt P a → FailsAt Q a
 weaken f passes = passes
@@ -79,7 +77,7 @@ module _ (apart : ℕ) where
       in_order_fails_at (weaken (λ p k. omega arith) (row_fails_at rates row)) (rows_fail_at from (rates + apart) rows (omega arith))
 
 -- ---- the lower of two failures
-lower_first : {at : ℕ} {other : Judged} → FailsAt (λ p. at < p) other → lower (Fails at) other ≡ Fails at
+lower_first : {at : ℕ} {other : Judged} → FailsAt (λ p. at < p) other → lower (Err at) other ≡ Err at
 lower_first passes = refl
 lower_first {at} (fails {at = p} h) = rw (le-ltb p at (omega arith))
 
@@ -122,7 +120,7 @@ module _ (s : List ℕ) (apart : ℕ) (narrow : 1 ≤ number_width s) (before_ne
       moved = ap (λ place. judge_rows apart place rates) (omega arith)
 
       by_number : (b : Bool) → lower rise (judge_rows apart (at + apart + number_width s) rates) ≡ later →
-          lower (in_order (judge b at) rise) (in_order row rows) ≡ in_order (judge b at) (in_order row (in_order later Passes))
+          lower (in_order (judge b at) rise) (in_order row rows) ≡ in_order (judge b at) (in_order row (in_order later (Ok tt)))
       by_number true e =
           lower_later rows (rise_fails_at apart (at + apart) (number + 1) (at + apart) numbers (omega arith))
           (weaken (λ p k. omega arith) (row_fails_at (at + number_width s) (rate_row s at)))

@@ -1,15 +1,13 @@
 -- Rate books with one field altered, left out, doubled or of another length, and how each file stands by the rows.
-use Rattle.std.specs.Prelude.{ℕ, ◌≡◌, refl, true, replicate, take}
+use Rattle.std.specs.Prelude.{ℕ, ◌≡◌, refl, true, replicate, take, Err, Ok}
 use mathlib.Core.List.{List, [], ◌∷◌, ◌++◌, map, flat_map}
 use Rattle.numbers.specs.BigEndian.{number, bytes_of}
 use Rattle.numbers.specs.Check.{check_from}
 use Rattle.field_walk.specs.Walk.{due_from, all_had, front_of, walk_from}
-use Rattle.tagged.specs.File.{file_answer, refusal}
+use Rattle.tagged.specs.File.{file_answer, refusal, FileAnswer}
 use Rattle.tagged.specs.Cases.AlteredFields.{zeros, without, twice, longer, shorter, sized, stopping}
 use Rattle.tagged.specs.Encoded.{closed}
 use Rattle.tagged.specs.RisingTags.{rising_tags}
-use Rattle.tagged.specs.declared.file.FileAnswer.{FileAnswer}
-use Rattle.tagged.specs.declared.file.FileAnswer.TheVariants.{Stands, Refused}
 use Rattle.book_zones.specs.BookRows.{book_rows}
 
 -- "in rising tag order"
@@ -21,7 +19,7 @@ abbrev some_fields : List (ℕ × List ℕ)
 some_fields = zeros ((1, 4) ∷ (2, 2) ∷ (3, 40) ∷ (4, 4) ∷ (5, 6) ∷ (6, 14) ∷ (7, 3) ∷ (8, 21) ∷ (8, 21) ∷ (8, 21) ∷ [])
 
 abbrev stops : ℕ → FileAnswer
-stops place = Refused (refusal 1 1 place)
+stops place = Err (refusal 1 1 place)
 
 -- with so many zones
 abbrev zones : ℕ → List (ℕ × List ℕ)
@@ -29,7 +27,7 @@ zones count = take 7 some_fields ++ replicate count (8, replicate 21 0)
 
 abbrev book_files : List (List (ℕ × List ℕ) × FileAnswer)
 book_files =
-    (some_fields, Stands) ∷
+    (some_fields, Ok tt) ∷
     -- each field left out, and twice
     stopping 1 without some_fields 0 (0 ∷ 7 ∷ 12 ∷ 55 ∷ 62 ∷ 71 ∷ 88 ∷ []) ++
     stopping 1 twice some_fields 0 (7 ∷ 12 ∷ 55 ∷ 62 ∷ 71 ∷ 88 ∷ 94 ∷ []) ++
@@ -40,12 +38,12 @@ book_files =
     stopping 1 (sized 0) some_fields 3 (55 ∷ 62 ∷ []) ++
     stopping 1 (sized 3) some_fields 3 (55 ∷ 62 ∷ []) ++
     stopping 1 (sized 18) some_fields 3 (55 ∷ 62 ∷ []) ++
-    (sized 2 3 (sized 2 4 some_fields), Stands) ∷
-    (sized 16 3 (sized 16 4 some_fields), Stands) ∷
+    (sized 2 3 (sized 2 4 some_fields), Ok tt) ∷
+    (sized 16 3 (sized 16 4 some_fields), Ok tt) ∷
     -- no zone, one, eight and nine
     (zones 0, stops 94) ∷
-    (zones 1, Stands) ∷
-    (zones 8, Stands) ∷
+    (zones 1, Ok tt) ∷
+    (zones 8, Ok tt) ∷
     (zones 9, stops 286) ∷
     []
 
@@ -63,10 +61,10 @@ wide = (9, replicate 22 0)
 -- the fields after 07
 abbrev form_files : List (List (ℕ × List ℕ) × FileAnswer)
 form_files =
-    (narrow ∷ [], Stands) ∷
-    (wide ∷ [], Stands) ∷
-    (replicate 8 narrow, Stands) ∷
-    (replicate 8 wide, Stands) ∷
+    (narrow ∷ [], Ok tt) ∷
+    (wide ∷ [], Ok tt) ∷
+    (replicate 8 narrow, Ok tt) ∷
+    (replicate 8 wide, Ok tt) ∷
     ([], stops 88) ∷
     (narrow ∷ wide ∷ [], stops 112) ∷
     (narrow ∷ wide ∷ narrow ∷ [], stops 112) ∷

@@ -1,5 +1,5 @@
 -- What holds of factor lists that pass.
-use Rattle.std.specs.Prelude.{ℕ, zero, suc, ◌+◌, ◌*◌, ◌≤◌, ◌≡◌, List, [], ◌∷◌, map, length, get_or, leb}
+use Rattle.std.specs.Prelude.{ℕ, zero, suc, ◌+◌, ◌*◌, ◌≤◌, ◌≡◌, List, [], ◌∷◌, map, length, get_or, leb, Ok}
 use Rattle.std.proofs.Common.{zero-le, arith, leb-true}
 use Rattle.numbers.specs.BigEndian.{number_at}
 use Rattle.tagged.specs.Find.{field_start, field_value}
@@ -9,9 +9,8 @@ use Rattle.field_values.specs.Judged.{judge_numbers}
 use Rattle.field_values.proofs.Theorems.Judged.{judged_within_replicate}
 use Rattle.field_values.specs.Factors.{FactorBytes, factor_limits, judge_factors, factor_at, factors_of}
 use Rattle.field_values.specs.FactorLimits.{FactorsWithin}
-use Rattle.field_values.specs.declared.judged.Judged.TheVariants.{Passes}
 
-module _ (at : ℕ) (value : List ℕ) (passes : judge_numbers factor_limits at value ≡ Passes) (upto : length value ≤ 2 * most_factors) where
+module _ (at : ℕ) (value : List ℕ) (passes : judge_numbers factor_limits at value ≡ Ok tt) (upto : length value ≤ 2 * most_factors) where
   factor_within : (k : ℕ) → factor_at value (2 * k) ≤ highest_factor
   factor_within k =
       by_test (λ n. n ≤ highest_factor) (leb (2 * k + 2) (length value)) (number_at value (2 * k) 2) 0
@@ -25,7 +24,7 @@ map_within f most h [] k = zero-le
 map_within f most h (x ∷ l) zero = h x
 map_within f most h (x ∷ l) (suc k) = map_within f most h l k
 
-pub factors_within : (tag : ℕ) (s : List ℕ) → judge_factors tag s ≡ Passes → FactorBytes (field_value tag s) → FactorsWithin (factors_of tag s)
+pub factors_within : (tag : ℕ) (s : List ℕ) → judge_factors tag s ≡ Ok tt → FactorBytes (field_value tag s) → FactorsWithin (factors_of tag s)
 factors_within tag s e long =
     record {
       least = omega (arith, long.0);

@@ -1,10 +1,8 @@
 -- Small values at their limits and one past them, and letters, with the place of the first that fails.
-use Rattle.std.specs.Prelude.{ℕ, ◌≡◌, refl, List, [], ◌∷◌, map, length}
+use Rattle.std.specs.Prelude.{ℕ, ◌≡◌, refl, List, [], ◌∷◌, map, length, Err, Ok}
 use Rattle.numbers.specs.BigEndian.{number}
 use Rattle.tagged.specs.Find.{fields_from, first_with}
-use Rattle.field_values.specs.Judged.{judge_numbers, judge_field, same_bytes, judge_letters}
-use Rattle.field_values.specs.declared.judged.Judged.{Judged}
-use Rattle.field_values.specs.declared.judged.Judged.TheVariants.{Passes, Fails}
+use Rattle.field_values.specs.Judged.{judge_numbers, judge_field, same_bytes, judge_letters, Judged}
 
 -- For a table of small values: 0 to 300 in 2 bytes, 1 to 3 in one, 0 to 65,536 in 4.
 abbrev small_limits : List (List ℕ)
@@ -17,30 +15,30 @@ fields_of_value value = 1 ∷ 0 ∷ 4 ∷ 82 ∷ 65 ∷ 84 ∷ 69 ∷ 2 ∷ 0 �
 abbrev small_values : List (List ℕ × Judged)
 small_values =
     -- each number at its highest and at its lowest
-    (1 ∷ 44 ∷ 3 ∷ 0 ∷ 1 ∷ 0 ∷ 0 ∷ [], Passes) ∷
-    (0 ∷ 0 ∷ 1 ∷ 0 ∷ 0 ∷ 0 ∷ 0 ∷ [], Passes) ∷
+    (1 ∷ 44 ∷ 3 ∷ 0 ∷ 1 ∷ 0 ∷ 0 ∷ [], Ok tt) ∷
+    (0 ∷ 0 ∷ 1 ∷ 0 ∷ 0 ∷ 0 ∷ 0 ∷ [], Ok tt) ∷
     -- each past one of the two
-    (1 ∷ 45 ∷ 3 ∷ 0 ∷ 1 ∷ 0 ∷ 0 ∷ [], Fails 10) ∷
-    (1 ∷ 44 ∷ 4 ∷ 0 ∷ 1 ∷ 0 ∷ 0 ∷ [], Fails 12) ∷
-    (1 ∷ 44 ∷ 0 ∷ 0 ∷ 1 ∷ 0 ∷ 0 ∷ [], Fails 12) ∷
-    (1 ∷ 44 ∷ 3 ∷ 0 ∷ 1 ∷ 0 ∷ 1 ∷ [], Fails 13) ∷
+    (1 ∷ 45 ∷ 3 ∷ 0 ∷ 1 ∷ 0 ∷ 0 ∷ [], Err 10) ∷
+    (1 ∷ 44 ∷ 4 ∷ 0 ∷ 1 ∷ 0 ∷ 0 ∷ [], Err 12) ∷
+    (1 ∷ 44 ∷ 0 ∷ 0 ∷ 1 ∷ 0 ∷ 0 ∷ [], Err 12) ∷
+    (1 ∷ 44 ∷ 3 ∷ 0 ∷ 1 ∷ 0 ∷ 1 ∷ [], Err 13) ∷
     -- "in byte order"
-    (1 ∷ 45 ∷ 4 ∷ 0 ∷ 1 ∷ 0 ∷ 1 ∷ [], Fails 10) ∷
-    (1 ∷ 44 ∷ 0 ∷ 0 ∷ 1 ∷ 0 ∷ 1 ∷ [], Fails 12) ∷
+    (1 ∷ 45 ∷ 4 ∷ 0 ∷ 1 ∷ 0 ∷ 1 ∷ [], Err 10) ∷
+    (1 ∷ 44 ∷ 0 ∷ 0 ∷ 1 ∷ 0 ∷ 1 ∷ [], Err 12) ∷
     -- a value that ends before the limits do
-    ([], Passes) ∷
-    (1 ∷ 45 ∷ [], Fails 10) ∷
-    (1 ∷ 44 ∷ 3 ∷ [], Passes) ∷
+    ([], Ok tt) ∷
+    (1 ∷ 45 ∷ [], Err 10) ∷
+    (1 ∷ 44 ∷ 3 ∷ [], Ok tt) ∷
     []
 
 -- letters to compare with those of field 01
 abbrev small_letters : List (List ℕ × Judged)
 small_letters =
-    (82 ∷ 65 ∷ 84 ∷ 69 ∷ [], Passes) ∷
-    (82 ∷ 65 ∷ 84 ∷ 70 ∷ [], Fails 3) ∷
-    (83 ∷ 65 ∷ 84 ∷ 69 ∷ [], Fails 3) ∷
-    (82 ∷ 65 ∷ 84 ∷ [], Fails 3) ∷
-    (82 ∷ 65 ∷ 84 ∷ 69 ∷ 0 ∷ [], Fails 3) ∷
+    (82 ∷ 65 ∷ 84 ∷ 69 ∷ [], Ok tt) ∷
+    (82 ∷ 65 ∷ 84 ∷ 70 ∷ [], Err 3) ∷
+    (83 ∷ 65 ∷ 84 ∷ 69 ∷ [], Err 3) ∷
+    (82 ∷ 65 ∷ 84 ∷ [], Err 3) ∷
+    (82 ∷ 65 ∷ 84 ∷ 69 ∷ 0 ∷ [], Err 3) ∷
     []
 
 pub record SmallValuesHold : Type 0 where

@@ -1,16 +1,14 @@
 -- Document 01, 'Rate book': each limit at its value and one past it, over the definition of a book's answer; and every value of a book, read.
 -- The lengths of the fields and the limits of the zones have their tables beside their definitions.
-use Rattle.std.specs.Prelude.{ℕ, ◌≡◌, refl, take, replicate}
+use Rattle.std.specs.Prelude.{ℕ, ◌≡◌, refl, take, replicate, Err, Ok}
 use mathlib.Core.List.{List, [], ◌∷◌, ◌++◌, map, flat_map}
 use Rattle.numbers.specs.BigEndian.{number, bytes_of}
 use Rattle.numbers.specs.Check.{check_from}
 use Rattle.field_walk.specs.Walk.{due_from, all_had, front_of, walk_from}
 use Rattle.tagged.specs.Find.{fields_from, first_with, fields_with}
-use Rattle.tagged.specs.File.{refusal, fields_part}
+use Rattle.tagged.specs.File.{refusal, fields_part, answer_of, FileAnswer}
 use Rattle.tagged.specs.Cases.AlteredFields.{put}
 use Rattle.tagged.specs.Encoded.{closed}
-use Rattle.tagged.specs.declared.file.FileAnswer.{FileAnswer}
-use Rattle.tagged.specs.declared.file.FileAnswer.TheVariants.{Stands, Refused}
 use Rattle.field_values.specs.Judged.{judge_numbers, same_bytes}
 use Rattle.book_zones.specs.Zones.{zone_rates, judge_zones_from}
 use Rattle.book_zones.specs.Cases.Zones.{zone, wide_zone, over}
@@ -42,50 +40,50 @@ sample =
 
 -- 3 at a place, and 1 at one
 abbrev fails : ℕ → FileAnswer
-fails place = Refused (refusal 3 1 place)
+fails place = Err (refusal 3 1 place)
 
 abbrev stops : ℕ → FileAnswer
-stops place = Refused (refusal 1 1 place)
+stops place = Err (refusal 1 1 place)
 
 abbrev boundaries : List (List (ℕ × List ℕ) × FileAnswer)
 boundaries =
-    (sample, Stands) ∷
+    (sample, Ok tt) ∷
     -- the letters RATF, and those of a request
     (put 0 (82 ∷ 65 ∷ 84 ∷ 70 ∷ []) sample, fails 3) ∷
     (put 0 (67 ∷ 79 ∷ 78 ∷ 78 ∷ []) sample, fails 3) ∷
     -- discount rate
-    (put 1 (bytes_of 2 0) sample, Stands) ∷
-    (put 1 (bytes_of 2 10000) sample, Stands) ∷
+    (put 1 (bytes_of 2 0) sample, Ok tt) ∷
+    (put 1 (bytes_of 2 10000) sample, Ok tt) ∷
     (put 1 (bytes_of 2 10001) sample, fails 10) ∷
     -- the opex sum equals the revenue sum, and is one above it
-    (put 2 (pairs ((1, 5) ∷ (2, 4) ∷ (3, 3) ∷ (4, 2) ∷ (5, 1) ∷ [])) sample, Stands) ∷
+    (put 2 (pairs ((1, 5) ∷ (2, 4) ∷ (3, 3) ∷ (4, 2) ∷ (5, 1) ∷ [])) sample, Ok tt) ∷
     (put 2 (pairs ((1, 5) ∷ (2, 4) ∷ (3, 3) ∷ (4, 2) ∷ (6, 1) ∷ [])) sample, fails 15) ∷
-    (put 2 (pairs (replicate 5 (4294967295, 4294967295))) sample, Stands) ∷
+    (put 2 (pairs (replicate 5 (4294967295, 4294967295))) sample, Ok tt) ∷
     -- revenue 1 and 0
-    (put 2 (pairs (replicate 4 (0, 0) ++ ((0, 1) ∷ []))) sample, Stands) ∷
+    (put 2 (pairs (replicate 4 (0, 0) ++ ((0, 1) ∷ []))) sample, Ok tt) ∷
     (put 2 (pairs (replicate 5 (0, 0))) sample, fails 15) ∷
     -- the first factor, and the eighth of eight, in both lists
-    (put 3 (factors (40000 ∷ [])) sample, Stands) ∷
+    (put 3 (factors (40000 ∷ [])) sample, Ok tt) ∷
     (put 3 (factors (40001 ∷ [])) sample, fails 58) ∷
-    (put 3 (factors (replicate 7 0 ++ (40000 ∷ []))) sample, Stands) ∷
+    (put 3 (factors (replicate 7 0 ++ (40000 ∷ []))) sample, Ok tt) ∷
     (put 3 (factors (replicate 7 0 ++ (40001 ∷ []))) sample, fails 72) ∷
-    (put 4 (factors (40000 ∷ [])) sample, Stands) ∷
+    (put 4 (factors (40000 ∷ [])) sample, Ok tt) ∷
     (put 4 (factors (40001 ∷ [])) sample, fails 65) ∷
-    (put 4 (factors (replicate 7 0 ++ (40000 ∷ []))) sample, Stands) ∷
+    (put 4 (factors (replicate 7 0 ++ (40000 ∷ []))) sample, Ok tt) ∷
     (put 4 (factors (replicate 7 0 ++ (40001 ∷ []))) sample, fails 79) ∷
     -- threshold, fee and minimum, minimum, term
-    (put 5 (terms 5000000 0 0 120) sample, Stands) ∷
+    (put 5 (terms 5000000 0 0 120) sample, Ok tt) ∷
     (put 5 (terms 5000001 0 0 120) sample, fails 74) ∷
-    (put 5 (terms 0 7 7 120) sample, Stands) ∷
+    (put 5 (terms 0 7 7 120) sample, Ok tt) ∷
     (put 5 (terms 0 8 7 120) sample, fails 78) ∷
-    (put 5 (terms 0 0 1000000000 120) sample, Stands) ∷
+    (put 5 (terms 0 0 1000000000 120) sample, Ok tt) ∷
     (put 5 (terms 0 0 1000000001 120) sample, fails 82) ∷
-    (put 5 (terms 0 0 0 84) sample, Stands) ∷
+    (put 5 (terms 0 0 0 84) sample, Ok tt) ∷
     (put 5 (terms 0 0 0 83) sample, fails 86) ∷
     -- capacity charged, credit share
-    (put 6 (0 ∷ bytes_of 2 6500) sample, Stands) ∷
+    (put 6 (0 ∷ bytes_of 2 6500) sample, Ok tt) ∷
     (put 6 (2 ∷ bytes_of 2 6500) sample, fails 91) ∷
-    (put 6 (1 ∷ bytes_of 2 10000) sample, Stands) ∷
+    (put 6 (1 ∷ bytes_of 2 10000) sample, Ok tt) ∷
     (put 6 (1 ∷ bytes_of 2 10001) sample, fails 92) ∷
     -- a zone's number, and a rate
     (put 8 (zone 3 (replicate 5 0)) sample, fails 121) ∷
@@ -114,47 +112,44 @@ free = replicate 5 0
 
 abbrev wide_boundaries : List (List (ℕ × List ℕ) × FileAnswer)
 wide_boundaries =
-    (wide_sample (wide_zone 0 free) (wide_zone 65535 free), Stands) ∷
+    (wide_sample (wide_zone 0 free) (wide_zone 65535 free), Ok tt) ∷
     (wide_sample (wide_zone 1 free) (wide_zone 1 free), fails 116) ∷
-    (wide_sample (wide_zone 255 free) (wide_zone 256 free), Stands) ∷
+    (wide_sample (wide_zone 255 free) (wide_zone 256 free), Ok tt) ∷
     (wide_sample (wide_zone 256 free) (wide_zone 255 free), fails 116) ∷
     (wide_sample (wide_zone 1 (over 0)) (wide_zone 0 free), fails 93) ∷
     (wide_sample (wide_zone 1 free) (wide_zone 2 (over 4)), fails 134) ∷
-    (wide_sample (wide_zone 1 free) (wide_zone 2 (replicate 5 10000000)), Stands) ∷
+    (wide_sample (wide_zone 1 free) (wide_zone 2 (replicate 5 10000000)), Ok tt) ∷
     -- both forms in one file, before any value
     (put 0 (82 ∷ 65 ∷ 84 ∷ 70 ∷ []) (take 8 (wide_sample (wide_zone 1 free) free) ++ ((8, zone 5 free) ∷ [])), stops 113) ∷
     []
 
-pub wide_boundaries_hold : map (λ t. (book_of 1 (closed t.0)).answer) wide_boundaries ≡ map (λ t. t.1) wide_boundaries
+pub wide_boundaries_hold : map (λ t. answer_of (book_of 1 (closed t.0))) wide_boundaries ≡ map (λ t. t.1) wide_boundaries
 unfolding flat_map number bytes_of check_from due_from all_had front_of walk_from fields_from first_with fields_with judge_numbers same_bytes judge_zones_from book_of
 wide_boundaries_hold = refl
 
-pub boundaries_hold : map (λ t. (book_of 1 (closed t.0)).answer) boundaries ≡ map (λ t. t.1) boundaries
+pub boundaries_hold : map (λ t. answer_of (book_of 1 (closed t.0))) boundaries ≡ map (λ t. t.1) boundaries
 unfolding flat_map number bytes_of check_from due_from all_had front_of walk_from fields_from first_with fields_with judge_numbers same_bytes judge_zones_from book_of
 boundaries_hold = refl
 
 -- every value of the sample, read where document 01 has it; its zones' rates stand beside the book
 pub sample_read :
     book_of 1 (closed sample)
-    ≡ record {
-      answer = Stands;
-      book =
-          record {
-            rate = 463;
-            opex = 543210;
-            revenue = 654320;
-            distribution = record { count = 2; values = 11001 ∷ 11002 ∷ replicate 6 0 };
-            transmission = record { count = 3; values = 12001 ∷ 12002 ∷ 12003 ∷ replicate 5 0 };
-            threshold = 3000001;
-            fee = 20001;
-            minimum = 20002;
-            term = 121;
-            charged = 1;
-            share = 6501;
-            zones = 3;
-            zone_numbers = 3 ∷ 5 ∷ 9 ∷ replicate 5 0;
-          };
-    }
+    ≡ Ok
+    (record {
+      rate = 463;
+      opex = 543210;
+      revenue = 654320;
+      distribution = record { count = 2; values = 11001 ∷ 11002 ∷ replicate 6 0 };
+      transmission = record { count = 3; values = 12001 ∷ 12002 ∷ 12003 ∷ replicate 5 0 };
+      threshold = 3000001;
+      fee = 20001;
+      minimum = 20002;
+      term = 121;
+      charged = 1;
+      share = 6501;
+      zones = 3;
+      zone_numbers = 3 ∷ 5 ∷ 9 ∷ replicate 5 0;
+    })
 unfolding flat_map number bytes_of check_from due_from all_had front_of walk_from fields_from first_with fields_with judge_numbers same_bytes judge_zones_from book_of
 sample_read = refl
 

@@ -1,19 +1,16 @@
 -- Document 02, E6: "Older books and requests price as before": a request without a field 0D stands by the rows that document 01 gives or is refused by
 -- the same number. A place of 1 may be a later one, since a field after 04 can stand where 0D is still to come.
-use Rattle.std.specs.Prelude.{ℕ, ◌*◌, ◌-◌, ◌≡◌, refl, List, [], ◌∷◌, Bool, true, false, cond, length, get_or, take, ltb}
+use Rattle.std.specs.Prelude.{ℕ, ◌*◌, ◌-◌, ◌≡◌, refl, List, [], ◌∷◌, Bool, true, false, cond, length, get_or, take, ltb, Err, Ok, None}
 use Rattle.std.proofs.Common.{sym, ap, ◌∙◌, lit<, lit≤}
 use Rattle.numbers.specs.BigEndian.{number_at}
 use Rattle.field_walk.specs.Walk.{FieldAt, Walk, fields, stops, first_form, second_form, neither_form, rows_in, walk_by, by_forms, walk}
 use Rattle.field_walk.proofs.Theorems.Forms.{one_form}
 use Rattle.tagged.specs.Refusals.{file_does_not_walk, check_differs}
-use Rattle.tagged.specs.Find.{first_place, field_value}
-use Rattle.tagged.specs.File.{tail_stands, check_stands, fields_part, refusal, of_walk, file_answer}
+use Rattle.tagged.specs.Find.{place_at, first_place, field_value}
+use Rattle.tagged.specs.File.{tail_stands, check_stands, fields_part, refusal, of_walk, file_answer, FileAnswer}
 use Rattle.tagged.proofs.Theorems.Impossible.{impossible}
 use Rattle.tagged.proofs.Theorems.FoundFields.{walk_by_finds}
 use Rattle.tagged.proofs.Theorems.WalkFurther.{TagsOf, found_nowhere, walk_without_last}
-use Rattle.tagged.specs.declared.find.Place.TheVariants.{At, Nowhere}
-use Rattle.tagged.specs.declared.file.FileAnswer.{FileAnswer}
-use Rattle.tagged.specs.declared.file.FileAnswer.TheVariants.{Stands, Refused}
 use Rattle.field_values.specs.Limits.{most_factors}
 use Rattle.request.specs.RequestRows.{request_rows}
 use Rattle.request.specs.Fields.{zone_by, zone_in}
@@ -44,16 +41,16 @@ narrow_rows = rows_in first_form request_rows
 narrow_as_earlier : (s : List ℕ) → walk_by narrow_rows s ≡ walk_by earlier_rows s
 narrow_as_earlier = walk_without_last earlier_rows (take 12 narrow_rows) refl (get_or narrow_rows 12 []) refl refl
 
-nowhere_at : {start len : ℕ} → Nowhere ≡ At start len → ⊥
+nowhere_at : {start len : ℕ} → None ≡ place_at start len → ⊥
 nowhere_at e = impossible cc
 
 -- what an earlier answer is now: the same, or one with the same number and file
 abbrev pub SameButPlace : FileAnswer → FileAnswer → Type 0
-SameButPlace Stands now = now ≡ Stands
-SameButPlace (Refused r) now = (place : ℕ) × (now ≡ Refused (refusal r.number r.file place))
+SameButPlace (Ok _) now = now ≡ Ok tt
+SameButPlace (Err r) now = (place : ℕ) × (now ≡ Err (refusal r.number r.file place))
 
 module _ (s : List ℕ) (tags : TagsOf Not0D s) where
-  none_found : first_place 13 s ≡ Nowhere
+  none_found : first_place 13 s ≡ None
   none_found = found_nowhere 13 s tags
 
   not_wide : (fs : List FieldAt) → walk_by (rows_in second_form request_rows) s ≡ fields fs → ⊥
@@ -84,8 +81,8 @@ older_request_same number file tags =
     (older_walk (fields_part file) tags number))
   where
     by : (tail checked : Bool) (earlier now : FileAnswer) → SameButPlace earlier now →
-        SameButPlace (cond tail (cond checked earlier (Refused (refusal check_differs number (length file - 2)))) (Refused (refusal file_does_not_walk number 0)))
-        (cond tail (cond checked now (Refused (refusal check_differs number (length file - 2)))) (Refused (refusal file_does_not_walk number 0)))
+        SameButPlace (cond tail (cond checked earlier (Err (refusal check_differs number (length file - 2)))) (Err (refusal file_does_not_walk number 0)))
+        (cond tail (cond checked now (Err (refusal check_differs number (length file - 2)))) (Err (refusal file_does_not_walk number 0)))
     by true true earlier now same = same
     by true false earlier now same = (length file - 2, refl)
     by false checked earlier now same = (0, refl)

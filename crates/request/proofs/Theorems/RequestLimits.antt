@@ -1,27 +1,23 @@
 -- Whatever the reader accepts lies within document 01's limits, and has its lengths.
-use Rattle.std.specs.Prelude.{ℕ, zero, suc, ◌+◌, ◌-◌, ◌<◌, ◌≤◌, ◌≡◌, refl, Bool, true, false, cond, List, [], ◌∷◌, length, get_or, T, leb, eqb}
-use Rattle.std.proofs.Common.{zero-le, subst, sym, ap, le_refl, le_trans, arith, lit≤, eqb-true}
+use Rattle.std.specs.Prelude.{ℕ, zero, suc, ◌+◌, ◌-◌, ◌<◌, ◌≤◌, ◌≡◌, refl, Bool, true, false, cond, List, [], ◌∷◌, length, get_or, T, leb, eqb, Ok, None, Some, Option}
+use Rattle.std.proofs.Common.{zero-le, subst, sym, le_refl, le_trans, arith, lit≤, eqb-true}
 use Rattle.numbers.specs.BigEndian.{Bytes}
 use Rattle.numbers.proofs.Theorems.BigEndian.{Bytes-take, number_at_below}
 use Rattle.tagged.specs.Find.{field_start, field_value, first_place}
 use Rattle.tagged.specs.declared.find.Place.{Place}
-use Rattle.tagged.specs.declared.find.Place.TheVariants.{At, Nowhere}
 use Rattle.tagged.proofs.Theorems.FoundFields.{Bytes-part}
-use Rattle.tagged.specs.File.{fields_part}
-use Rattle.tagged.proofs.Theorems.File.{stands_means}
-use Rattle.tagged.specs.declared.file.FileAnswer.TheVariants.{Stands}
+use Rattle.tagged.specs.File.{answer_of, fields_part}
 use Rattle.field_values.specs.Limits.{special_pricing, highest_amount, highest_mode, highest_demand, highest_rate}
 use Rattle.field_values.specs.Judged.{judge_field}
 use Rattle.field_values.proofs.Theorems.Judged.{first_failure_passes, offset_of, NumberWithin, judged_within}
 use Rattle.field_values.proofs.Theorems.Factors.{factors_within}
-use Rattle.field_values.specs.declared.judged.Judged.TheVariants.{Passes}
-use Rattle.request.specs.RequestRows.{request_rows}
 use Rattle.request.specs.Fields.{zone_by, class_limits, class_in, highest_loading, amount_limits, five_tier_limits, added_limits, added_in, revenue_limits, connection_limits, tiers_in}
 use Rattle.request.specs.Request.{charge_judgements, request_judgements, judge_request, request_values, request_of}
 use Rattle.request.specs.RequestSizes.{ZoneBytes, RequestSizes}
 use Rattle.request.proofs.Theorems.RequestSizes.{request_sizes}
-use Rattle.request.proofs.Theorems.Request.{request_accepted}
+use Rattle.request.proofs.Theorems.Request.{request_accepted, request_walks, read_accepted, request_is_values}
 use Rattle.request.specs.RequestLimits.{RequestWithin}
+use Rattle.request.specs.declared.values.Request.{Request}
 
 -- each number of a list at most `most`
 AllAtMost : ℕ → List ℕ → Type 0
@@ -35,7 +31,7 @@ each_at_most most (n ∷ ns) h zero = h.0
 each_at_most most (n ∷ ns) h (suc k) = each_at_most most ns h.1 k
 
 -- number k of a field whose values pass
-field_within : (s : List ℕ) (limits : List (List ℕ)) (tag : ℕ) {size : ℕ} → judge_field limits tag s ≡ Passes → length (field_value tag s) ≡ size →
+field_within : (s : List ℕ) (limits : List (List ℕ)) (tag : ℕ) {size : ℕ} → judge_field limits tag s ≡ Ok tt → length (field_value tag s) ≡ size →
     (k : ℕ) → T (leb (offset_of limits (k + 1)) size) → NumberWithin limits (field_value tag s) k
 field_within s limits tag e long k h = judged_within limits (field_start tag s) (field_value tag s) e k (rw long (lit≤ h))
 
@@ -46,7 +42,7 @@ loading_at_most class = by (eqb class special_pricing)
     by true = le_refl _
     by false = zero-le
 
-values_within : (s : List ℕ) → Bytes s → RequestSizes s → judge_request s ≡ Passes → RequestWithin (request_values s)
+values_within : (s : List ℕ) → Bytes s → RequestSizes s → judge_request s ≡ Ok tt → RequestWithin (request_values s)
 unfolding AllAtMost
 values_within s bytes sizes passes =
     let judged = first_failure_passes (request_judgements s) passes in
@@ -88,29 +84,28 @@ values_within s bytes sizes passes =
       mark = (connection 3 tt).1;
     }
   where
-    zone_below : (place : Place) → ZoneBytes place s → zone_by place s < 65536
-    zone_below Nowhere long = omega (arith, number_at_below (field_value 4 s) 0 1 (Bytes-part (first_place 4 s) s bytes) (omega (arith, long)))
-    zone_below (At start len) long = number_at_below (field_value 13 s) 0 2 (Bytes-part (first_place 13 s) s bytes) (omega (arith, long))
+    zone_below : (place : Option Place) → ZoneBytes place s → zone_by place s < 65536
+    zone_below None long = omega (arith, number_at_below (field_value 4 s) 0 1 (Bytes-part (first_place 4 s) s bytes) (omega (arith, long)))
+    zone_below (Some place) long = number_at_below (field_value 13 s) 0 2 (Bytes-part (first_place 13 s) s bytes) (omega (arith, long))
 
 -- The values of an accepted request have the lengths that document 01 gives them: a list of factors has an even number of bytes, 2 to 16.
-pub accepted_request_sizes : (number : ℕ) (file : List ℕ) → (request_of number file).answer ≡ Stands → RequestSizes (fields_part file)
-accepted_request_sizes number file e =
-    let walks = stands_means request_rows number file (request_accepted number file e).stands in
-    request_sizes (fields_part file) (walks.field_list, walks.walks)
+pub accepted_request_sizes : (number : ℕ) (file : List ℕ) → answer_of (request_of number file) ≡ Ok tt → RequestSizes (fields_part file)
+accepted_request_sizes number file e = request_sizes (fields_part file) (request_walks number file (request_accepted number file e).stands)
 
-pub request_within_limits : (number : ℕ) (file : List ℕ) → Bytes file → (request_of number file).answer ≡ Stands → RequestWithin (request_of number file).request
-request_within_limits number file bytes e =
-    let accepted = request_accepted number file e in
-    subst RequestWithin (ap (λ read. read.request) (sym accepted.values))
-    (values_within (fields_part file) (Bytes-take (length file - 5) file bytes) (accepted_request_sizes number file e) accepted.passes)
+pub request_within_limits : (number : ℕ) (file : List ℕ) {request : Request} → Bytes file → request_of number file ≡ Ok request → RequestWithin request
+request_within_limits number file bytes read =
+    let accepted = read_accepted number file read in
+    let walks = request_walks number file accepted.stands in
+    subst RequestWithin (sym (request_is_values number file read))
+    (values_within (fields_part file) (Bytes-take (length file - 5) file bytes) (request_sizes (fields_part file) walks) accepted.passes)
 
 -- Document 02, E3: "Classes 0 and 1 must now have OL 0."
-pub loading_is_special : (number : ℕ) (file : List ℕ) → Bytes file → (request_of number file).answer ≡ Stands →
-    0 < (request_of number file).request.ol → (request_of number file).request.class ≡ special_pricing
-loading_is_special number file bytes e some =
-    by (eqb (request_of number file).request.class special_pricing) (eqb-true _ _) (request_within_limits number file bytes e).loading
+pub loading_is_special : (number : ℕ) (file : List ℕ) (request : Request) → Bytes file → request_of number file ≡ Ok request →
+    0 < request.ol → request.class ≡ special_pricing
+loading_is_special number file request bytes read some =
+    by (eqb request.class special_pricing) (eqb-true _ _) (request_within_limits number file bytes read).loading
   where
-    by : (special : Bool) → (special ≡ true → (request_of number file).request.class ≡ special_pricing) →
-        (request_of number file).request.ol ≤ cond special highest_amount 0 → (request_of number file).request.class ≡ special_pricing
+    by : (special : Bool) → (special ≡ true → request.class ≡ special_pricing) →
+        request.ol ≤ cond special highest_amount 0 → request.class ≡ special_pricing
     by true is h = is refl
     by false is h = absurd (omega (arith, some, h))

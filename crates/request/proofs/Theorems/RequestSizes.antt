@@ -1,7 +1,7 @@
 -- A request that walks has values of these lengths.
-use Rattle.std.specs.Prelude.{ℕ, ◌<◌, ◌≤◌, List, [], ◌≡◌, refl, length, get_or}
+use Rattle.std.specs.Prelude.{ℕ, ◌<◌, ◌≤◌, List, [], ◌≡◌, refl, length, get_or, Ok}
 use Rattle.std.proofs.Common.{sym, subst, ⊎_elim, arith, lit<, lit≤}
-use Rattle.field_walk.specs.Walk.{least_of, first_form, second_form, neither_form, row_in, rows_in, walk_by, fields, FieldsWalk}
+use Rattle.field_walk.specs.Walk.{least_of, first_form, second_form, neither_form, row_in, rows_in, walk_by, Walk, fields, stops, walk, walked, FieldsWalk}
 use Rattle.tagged.specs.Find.{first_place}
 use Rattle.tagged.specs.FoundFields.{Sized}
 use Rattle.tagged.proofs.Theorems.Walk.{walk_by_form}
@@ -41,3 +41,14 @@ request_sizes s walks =
       transmission = omega (arith, sized 10 (lit< tt) (lit≤ tt));
       connection = omega (arith, sized 11 (lit< tt) (lit≤ tt));
     }
+
+-- a walk that is answered with every field standing
+pub walks_when : (rows : List (List ℕ)) (s : List ℕ) (w : Walk) → walk rows s ≡ w → walked w ≡ Ok tt → FieldsWalk rows s
+walks_when rows s (fields fs) e h = (fs, e)
+walks_when rows s (stops at) e h = absurd (cc)
+
+pub fields_walk : (s : List ℕ) → walked (walk request_rows s) ≡ Ok tt → FieldsWalk request_rows s
+fields_walk s h = walks_when request_rows s (walk request_rows s) refl h
+
+pub walked_when : (s : List ℕ) → FieldsWalk request_rows s → walked (walk request_rows s) ≡ Ok tt
+walked_when s (fs, e) = rw e

@@ -1,15 +1,14 @@
 -- Document 01, 'Request', at its limits: a table of requests, most with one value at a limit or one past it, and how each is answered.
-use Rattle.std.specs.Prelude.{ℕ, ◌+◌, ◌-◌, ◌≡◌, refl, get_or, set, replicate}
+use Rattle.std.specs.Prelude.{ℕ, ◌+◌, ◌-◌, ◌≡◌, refl, get_or, set, replicate, Err, Ok, Some, option_map}
+use Rattle.std.specs.Result.{result_ok}
 use mathlib.Core.List.{List, [], ◌∷◌, ◌++◌, map, flat_map}
 use Rattle.numbers.specs.BigEndian.{number, bytes_of}
 use Rattle.numbers.specs.Check.{check_from}
 use Rattle.field_walk.specs.Walk.{due_from, all_had, front_of, walk_from}
 use Rattle.tagged.specs.Find.{fields_from, first_with}
-use Rattle.tagged.specs.File.{refusal}
+use Rattle.tagged.specs.File.{refusal, answer_of, FileAnswer}
 use Rattle.tagged.specs.Cases.AlteredFields.{without}
 use Rattle.tagged.specs.Encoded.{closed}
-use Rattle.tagged.specs.declared.file.FileAnswer.{FileAnswer}
-use Rattle.tagged.specs.declared.file.FileAnswer.TheVariants.{Stands, Refused}
 use Rattle.field_values.specs.Judged.{judge_numbers, same_bytes}
 use Rattle.request.specs.Request.{request_of}
 use Rattle.request.specs.declared.values.Request.{Request}
@@ -70,20 +69,20 @@ abbrev pub eight_factors : List (List ℕ)
 eight_factors = set (set (set sample 8 (replicate 8 6001)) 9 (replicate 8 7001)) 10 (replicate 8 8001)
 
 abbrev refused : ℕ → FileAnswer
-refused place = Refused (refusal 3 2 place)
+refused place = Err (refusal 3 2 place)
 
 -- a number that passes at its highest value, and is refused one past it
 abbrev at_most : List (List ℕ) → ℕ → ℕ → ℕ → ℕ → List (List (List ℕ) × FileAnswer)
-at_most values tag k highest place = (put tag k highest values, Stands) ∷ (put tag k (highest + 1) values, refused place) ∷ []
+at_most values tag k highest place = (put tag k highest values, Ok tt) ∷ (put tag k (highest + 1) values, refused place) ∷ []
 
 -- a number that passes at 0 and at the highest of its width
 abbrev any_value : ℕ → ℕ → ℕ → List (List (List ℕ) × FileAnswer)
-any_value tag k highest = (put tag k 0 sample, Stands) ∷ (put tag k highest sample, Stands) ∷ []
+any_value tag k highest = (put tag k 0 sample, Ok tt) ∷ (put tag k highest sample, Ok tt) ∷ []
 
 abbrev pub boundary_cases : List (List (List ℕ) × FileAnswer)
 boundary_cases =
-    (sample, Stands) ∷
-    (eight_factors, Stands) ∷
+    (sample, Ok tt) ∷
+    (eight_factors, Ok tt) ∷
     -- each letter altered
     (put 1 0 66 sample, refused 3) ∷
     (put 1 1 111 sample, refused 3) ∷
@@ -106,7 +105,7 @@ boundary_cases =
     at_most (put 3 0 1 sample) 5 5 0 45 ++
     (put 3 0 0 (put 5 5 1000000001 sample), refused 45) ∷
     (put 3 0 1 (put 5 5 1000000001 sample), refused 45) ∷
-    (put 5 5 0 sample, Stands) ∷
+    (put 5 5 0 sample, Ok tt) ∷
     -- the first tier: mode, demand, and bespoke rate in every mode
     at_most sample 6 0 2 52 ++
     at_most sample 6 1 1000000 53 ++
@@ -138,7 +137,7 @@ boundary_cases =
     -- month, capacity, scheme joined and mark
     any_value 12 0 65535 ++
     (put 12 1 0 sample, refused 157) ∷
-    (put 12 1 1 sample, Stands) ∷
+    (put 12 1 1 sample, Ok tt) ∷
     at_most sample 12 1 1000000 157 ++
     any_value 12 2 65535 ++
     at_most sample 12 3 2 163 ++
@@ -160,41 +159,38 @@ boundary_cases =
     (put 12 3 3 (put 12 1 0 sample), refused 157) ∷
     []
 
-pub boundary_answers : map (λ row. (request_of 2 (request_file row.0)).answer) boundary_cases ≡ map (λ row. row.1) boundary_cases
+pub boundary_answers : map (λ row. answer_of (request_of 2 (request_file row.0))) boundary_cases ≡ map (λ row. row.1) boundary_cases
 unfolding number bytes_of flat_map check_from due_from all_had front_of walk_from fields_from first_with judge_numbers same_bytes request_of
 boundary_answers = refl
 
 -- every value of the sample, read where document 01 has it
 pub sample_read :
     request_of 2 (request_file sample)
-    ≡ record {
-      answer = Stands;
-      request =
-          record {
-            person = 70001;
-            class = 2;
-            zone = 3;
-            me = 1001;
-            ce = 1002;
-            de = 1003;
-            tw = 1004;
-            hr = 1005;
-            ol = 1006;
-            modes = 0 ∷ 1 ∷ 2 ∷ 1 ∷ 2 ∷ [];
-            demands = 2001 ∷ 2002 ∷ 2003 ∷ 2004 ∷ 2005 ∷ [];
-            bespoke_rates = 3001 ∷ 3002 ∷ 3003 ∷ 3004 ∷ 3005 ∷ [];
-            added_demands = 4001 ∷ 4002 ∷ 4003 ∷ 4004 ∷ 4005 ∷ [];
-            distribution_revenue = 5001;
-            transmission_revenue = 5002;
-            part_year = record { count = 1; values = 6001 ∷ replicate 7 0 };
-            distribution_tariff = record { count = 2; values = 7001 ∷ 7002 ∷ replicate 6 0 };
-            transmission_tariff = record { count = 3; values = 8001 ∷ 8002 ∷ 8003 ∷ replicate 5 0 };
-            month = 24315;
-            capacity = 9001;
-            scheme = 11;
-            mark = 0;
-          };
-    }
+    ≡ Ok
+    (record {
+      person = 70001;
+      class = 2;
+      zone = 3;
+      me = 1001;
+      ce = 1002;
+      de = 1003;
+      tw = 1004;
+      hr = 1005;
+      ol = 1006;
+      modes = 0 ∷ 1 ∷ 2 ∷ 1 ∷ 2 ∷ [];
+      demands = 2001 ∷ 2002 ∷ 2003 ∷ 2004 ∷ 2005 ∷ [];
+      bespoke_rates = 3001 ∷ 3002 ∷ 3003 ∷ 3004 ∷ 3005 ∷ [];
+      added_demands = 4001 ∷ 4002 ∷ 4003 ∷ 4004 ∷ 4005 ∷ [];
+      distribution_revenue = 5001;
+      transmission_revenue = 5002;
+      part_year = record { count = 1; values = 6001 ∷ replicate 7 0 };
+      distribution_tariff = record { count = 2; values = 7001 ∷ 7002 ∷ replicate 6 0 };
+      transmission_tariff = record { count = 3; values = 8001 ∷ 8002 ∷ 8003 ∷ replicate 5 0 };
+      month = 24315;
+      capacity = 9001;
+      scheme = 11;
+      mark = 0;
+    })
 unfolding number bytes_of flat_map check_from due_from all_had front_of walk_from fields_from first_with judge_numbers same_bytes request_of
 sample_read = refl
 
@@ -204,18 +200,18 @@ wide_file zone values = closed (without 3 (parts_from 1 request_widths values) +
 
 abbrev wide_cases : List (List ℕ × FileAnswer)
 wide_cases =
-    (wide_file 0 sample, Stands) ∷
-    (wide_file 65535 sample, Stands) ∷
+    (wide_file 0 sample, Ok tt) ∷
+    (wide_file 65535 sample, Ok tt) ∷
     (wide_file 1 (put 3 0 3 sample), refused 17) ∷
-    (wide_file 1 (put 5 5 1000000000 sample), Stands) ∷
+    (wide_file 1 (put 5 5 1000000000 sample), Ok tt) ∷
     (wide_file 1 (put 5 5 1000000001 sample), refused 41) ∷
     (wide_file 1 (put 3 0 1 (put 5 5 1 sample)), refused 41) ∷
-    (wide_file 1 (put 8 0 1000000000 sample), Stands) ∷
+    (wide_file 1 (put 8 0 1000000000 sample), Ok tt) ∷
     (wide_file 1 (put 8 0 1000000001 sample), refused 119) ∷
     (wide_file 1 (put 12 3 3 sample), refused 159) ∷
     []
 
-pub wide_answers : map (λ row. (request_of 2 row.0).answer) wide_cases ≡ map (λ row. row.1) wide_cases
+pub wide_answers : map (λ row. answer_of (request_of 2 row.0)) wide_cases ≡ map (λ row. row.1) wide_cases
 unfolding number bytes_of flat_map check_from due_from all_had front_of walk_from fields_from first_with judge_numbers same_bytes request_of
 wide_answers = refl
 
@@ -223,7 +219,7 @@ wide_answers = refl
 abbrev zones_read : List (List ℕ)
 zones_read = request_file (put 4 0 7 sample) ∷ request_file (put 4 0 255 sample) ∷ map (λ zone. wide_file zone sample) (7 ∷ 255 ∷ 256 ∷ 263 ∷ 1400 ∷ 65535 ∷ [])
 
-pub zones_read_lem : map (λ file. (request_of 2 file).request.zone) zones_read ≡ 7 ∷ 255 ∷ 7 ∷ 255 ∷ 256 ∷ 263 ∷ 1400 ∷ 65535 ∷ []
+pub zones_read_lem : map (λ file. option_map (λ request. request.zone) (result_ok (request_of 2 file))) zones_read ≡ map Some (7 ∷ 255 ∷ 7 ∷ 255 ∷ 256 ∷ 263 ∷ 1400 ∷ 65535 ∷ [])
 unfolding number bytes_of flat_map check_from due_from all_had front_of walk_from fields_from first_with judge_numbers same_bytes request_of
 zones_read_lem = refl
 
@@ -234,6 +230,6 @@ other_cases = put 12 3 1 (put 6 0 2 (put 6 3 2 (put 6 6 1 (put 6 9 0 (put 6 12 0
 abbrev cases_of : Request → List ℕ
 cases_of request = request.class ∷ request.mark ∷ request.modes
 
-pub other_cases_read : cases_of (request_of 2 (request_file other_cases)).request ≡ 2 ∷ 1 ∷ 2 ∷ 2 ∷ 1 ∷ 0 ∷ 0 ∷ []
+pub other_cases_read : option_map cases_of (result_ok (request_of 2 (request_file other_cases))) ≡ Some (2 ∷ 1 ∷ 2 ∷ 2 ∷ 1 ∷ 0 ∷ 0 ∷ [])
 unfolding number bytes_of flat_map check_from due_from all_had front_of walk_from fields_from first_with judge_numbers same_bytes request_of
 other_cases_read = refl

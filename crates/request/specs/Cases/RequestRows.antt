@@ -1,15 +1,13 @@
 -- Requests with one field altered, left out, doubled or of another length, and how each file stands by the rows.
-use Rattle.std.specs.Prelude.{ℕ, ◌≡◌, refl, true}
+use Rattle.std.specs.Prelude.{ℕ, ◌≡◌, refl, true, Err, Ok}
 use mathlib.Core.List.{List, [], ◌∷◌, ◌++◌, map, flat_map}
 use Rattle.numbers.specs.BigEndian.{number, bytes_of}
 use Rattle.numbers.specs.Check.{check_from}
 use Rattle.field_walk.specs.Walk.{due_from, all_had, front_of, walk_from}
-use Rattle.tagged.specs.File.{file_answer, refusal}
+use Rattle.tagged.specs.File.{file_answer, refusal, FileAnswer}
 use Rattle.tagged.specs.Cases.AlteredFields.{zeros, without, twice, longer, shorter, sized, stopping}
 use Rattle.tagged.specs.Encoded.{closed}
 use Rattle.tagged.specs.RisingTags.{rising_tags}
-use Rattle.tagged.specs.declared.file.FileAnswer.{FileAnswer}
-use Rattle.tagged.specs.declared.file.FileAnswer.TheVariants.{Stands, Refused}
 use Rattle.request.specs.RequestRows.{request_rows}
 
 -- "in rising tag order"
@@ -24,7 +22,7 @@ some_fields =
 
 abbrev request_files : List (List (ℕ × List ℕ) × FileAnswer)
 request_files =
-    (some_fields, Stands) ∷
+    (some_fields, Ok tt) ∷
     -- each field left out, and twice
     stopping 2 without some_fields 0 (0 ∷ 7 ∷ 14 ∷ 18 ∷ 22 ∷ 49 ∷ 97 ∷ 120 ∷ 131 ∷ 136 ∷ 143 ∷ 152 ∷ []) ++
     stopping 2 twice some_fields 0 (7 ∷ 14 ∷ 18 ∷ 22 ∷ 49 ∷ 97 ∷ 120 ∷ 131 ∷ 136 ∷ 143 ∷ 152 ∷ 164 ∷ []) ++
@@ -35,8 +33,8 @@ request_files =
     stopping 2 (sized 0) some_fields 8 (131 ∷ 136 ∷ 143 ∷ []) ++
     stopping 2 (sized 3) some_fields 8 (131 ∷ 136 ∷ 143 ∷ []) ++
     stopping 2 (sized 18) some_fields 8 (131 ∷ 136 ∷ 143 ∷ []) ++
-    (sized 2 8 (sized 2 9 (sized 2 10 some_fields)), Stands) ∷
-    (sized 16 8 (sized 16 9 (sized 16 10 some_fields)), Stands) ∷
+    (sized 2 8 (sized 2 9 (sized 2 10 some_fields)), Ok tt) ∷
+    (sized 16 8 (sized 16 9 (sized 16 10 some_fields)), Ok tt) ∷
     []
 
 -- Document 02, E6: the two forms, of a request of the slip's lengths, in which 04 stands at 18. Both in one file stop at the second form that comes; neither,
@@ -63,13 +61,13 @@ abbrev rest : List (ℕ × List ℕ)
 rest = amounts ++ (usage ++ connection)
 
 abbrev stops : ℕ → FileAnswer
-stops place = Refused (refusal 1 2 place)
+stops place = Err (refusal 1 2 place)
 
 -- the fields after 03
 abbrev form_files : List (List (ℕ × List ℕ) × FileAnswer)
 form_files =
-    (zone ++ rest, Stands) ∷
-    (rest ++ wide_zone, Stands) ∷
+    (zone ++ rest, Ok tt) ∷
+    (rest ++ wide_zone, Ok tt) ∷
     -- neither; neither and 05 missing too
     (rest, stops 18) ∷
     (usage ++ connection, stops 18) ∷

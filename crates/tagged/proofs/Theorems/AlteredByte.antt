@@ -1,5 +1,5 @@
 -- A file that stands and then has exactly one byte altered is refused, whatever its rows: with 1 for its last five bytes, or with 2.
-use Rattle.std.specs.Prelude.{ℕ, ◌+◌, ◌-◌, ◌<◌, ◌≤◌, ◌≡◌, ◌⊎◌, List, true, false, length, get_or, set, take, drop, ltb}
+use Rattle.std.specs.Prelude.{ℕ, ◌+◌, ◌-◌, ◌<◌, ◌≤◌, ◌≡◌, ◌⊎◌, List, true, false, length, get_or, set, take, drop, ltb, Err, Ok}
 use Rattle.std.proofs.Common.{sym, ap, ◌∙◌, inl, inr, ⊎_elim, arith, length-take, length-set, get_or-take, get_or-drop, get_or-set_same, drop-set-lt, ltb-true, ltb-false, eqb-true, ne_eqb}
 use mathlib.Mathlib.Data.Bool.Basic.{dichotomy}
 use Rattle.std.proofs.lemmas.List.{take-set-le}
@@ -11,7 +11,6 @@ use Rattle.numbers.proofs.Theorems.Check.{check_set_byte}
 use Rattle.tagged.specs.File.{tail_stands, check_stands, refusal, file_answer}
 use Rattle.tagged.specs.Refusals.{file_does_not_walk, check_differs}
 use Rattle.tagged.proofs.Theorems.File.{bad_tail, bad_check, stands_means}
-use Rattle.tagged.specs.declared.file.FileAnswer.TheVariants.{Stands, Refused}
 
 -- The altered byte is one of those that the check is over, or one of the check itself.
 module _ (s : List ℕ) (i b : ℕ) (bytes : Bytes s) (within : i < length s) (below : b < 256) (other : get_or s i 0 ≡ b → ⊥) where
@@ -46,11 +45,11 @@ module _ (s : List ℕ) (i b : ℕ) (bytes : Bytes s) (within : i < length s) (b
           altered_covered n l (sym q ∙ ap (λ x. number (take 2 x)) (drop-set-lt n s i b l) ∙ eqb-true _ _ e)
 
 pub altered_file_refused : (rows : List (List ℕ)) (file : ℕ) (s : List ℕ) (i b : ℕ) → Bytes s → i < length s → b < 256 → (get_or s i 0 ≡ b → ⊥)
-    → file_answer rows file s ≡ Stands
-    → (file_answer rows file (set s i b) ≡ Refused (refusal file_does_not_walk file 0)) ⊎ (file_answer rows file (set s i b) ≡ Refused (refusal check_differs file (length s - 2)))
+    → file_answer rows file s ≡ Ok tt
+    → (file_answer rows file (set s i b) ≡ Err (refusal file_does_not_walk file 0)) ⊎ (file_answer rows file (set s i b) ≡ Err (refusal check_differs file (length s - 2)))
 altered_file_refused rows file s i b bytes within below other e =
     let checked = altered_check s i b bytes within below other (stands_means rows file s e).right_check in
     ⊎_elim
     (λ tail. inl (bad_tail rows file (set s i b) tail))
-    (λ tail. inr (bad_check rows file (set s i b) tail checked ∙ ap (λ n. Refused (refusal check_differs file (n - 2))) (length-set s i b)))
+    (λ tail. inr (bad_check rows file (set s i b) tail checked ∙ ap (λ n. Err (refusal check_differs file (n - 2))) (length-set s i b)))
     (dichotomy (tail_stands (set s i b)))

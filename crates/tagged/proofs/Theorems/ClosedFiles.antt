@@ -1,5 +1,5 @@
 -- The file of some fields, closed by the check: it stands where its fields walk, and every file that stands is the file of its own fields.
-use Rattle.std.specs.Prelude.{ℕ, suc, ◌+◌, ◌-◌, ◌≤◌, ◌≡◌, List, [], ◌∷◌, ◌++◌, Bool, true, false, length, get_or, take, drop, eqb}
+use Rattle.std.specs.Prelude.{ℕ, suc, ◌+◌, ◌-◌, ◌≤◌, ◌≡◌, List, [], ◌∷◌, ◌++◌, Bool, true, false, length, get_or, take, drop, eqb, Ok}
 use Rattle.std.proofs.Common.{sym, ap, ap₂, ◌∙◌, append_assoc, arith, length-append, length-drop, take-append-drop, take_all, take_at, drop_at, take-add, drop-cons, get_or-append-add, eqb-true, eq-eqb, le-ltb}
 use Rattle.std.proofs.lemmas.Bool.{false≢true}
 use Rattle.numbers.specs.BigEndian.{Bytes, number, bytes_of}
@@ -12,7 +12,6 @@ use Rattle.tagged.proofs.Theorems.FoundFields.{walk_tiles}
 use Rattle.tagged.proofs.Theorems.Walk.{by_test}
 use Rattle.tagged.specs.File.{tail_stands, check_stands, fields_part, of_walk, file_answer, FileStands}
 use Rattle.tagged.proofs.Theorems.File.{walk_decides}
-use Rattle.tagged.specs.declared.file.FileAnswer.TheVariants.{Stands}
 
 -- what the check of a closed file is over
 abbrev checked : List (ℕ × List ℕ) → List ℕ
@@ -58,7 +57,7 @@ module _ (parts : List (ℕ × List ℕ)) where
 
   -- The file of fields that walk stands.
   pub closed_stands : (rows : List (List ℕ)) (file : ℕ) (fs : List FieldAt) → walk rows (encoded_parts parts) ≡ fields fs →
-      file_answer rows file (closed parts) ≡ Stands
+      file_answer rows file (closed parts) ≡ Ok tt
   closed_stands rows file fs walks =
       walk_decides rows file (closed parts) closed_tail closed_check
       ∙ ap (λ s. of_walk file (walk rows s)) fields_of_closed

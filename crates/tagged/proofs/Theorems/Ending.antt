@@ -1,12 +1,10 @@
 -- An ending tells its answer: done or refused by the number, and two different answers never end alike.
-use Rattle.std.specs.Prelude.{ℕ, ◌≤◌, ◌≡◌, refl, List, [], false, ℤ}
+use Rattle.std.specs.Prelude.{ℕ, ◌≤◌, ◌≡◌, refl, List, [], false, ℤ, Err, Ok}
 use Rattle.std.proofs.Common.{sym, ap, arith, ne_eqb}
-use Rattle.tagged.specs.File.{refusal}
+use Rattle.tagged.specs.File.{refusal, FileAnswer}
 use Rattle.tagged.proofs.Theorems.File.{RefusesTo}
 use Rattle.tagged.specs.Ending.{Ending, ends_refused, ends_done, file_ending, number_is_0, stands, Numbered}
 use Rattle.tagged.specs.declared.file.Refusal.{Refusal}
-use Rattle.tagged.specs.declared.file.FileAnswer.{FileAnswer}
-use Rattle.tagged.specs.declared.file.FileAnswer.TheVariants.{Stands, Refused}
 
 -- the refusal that it tells, where its number isn't 0
 abbrev pub refusal_in : Ending → Refusal
@@ -22,15 +20,15 @@ pub refusal_by_ending : (r s : Refusal) → ends_refused r ≡ ends_refused s �
 refusal_by_ending r s e = ap refusal_in e
 
 pub numbered_to : (most file : ℕ) (answer : FileAnswer) → RefusesTo most file answer → Numbered answer
-numbered_to most file Stands h = tt
-numbered_to most file (Refused r) h = h.0
+numbered_to most file (Ok _) h = tt
+numbered_to most file (Err r) h = h.0
 
 pub file_answer_by_number : (answer : FileAnswer) → Numbered answer → number_is_0 (file_ending answer) ≡ stands answer
-file_answer_by_number Stands numbered = refl
-file_answer_by_number (Refused r) numbered = refused_by_number r numbered
+file_answer_by_number (Ok _) numbered = refl
+file_answer_by_number (Err r) numbered = refused_by_number r numbered
 
 pub file_answer_by_ending : (answer other : FileAnswer) → Numbered answer → Numbered other → file_ending answer ≡ file_ending other → answer ≡ other
-file_answer_by_ending Stands Stands numbered others e = refl
-file_answer_by_ending Stands (Refused s) numbered others e = absurd (refused_not_done s [] others (sym e))
-file_answer_by_ending (Refused r) Stands numbered others e = absurd (refused_not_done r [] numbered e)
-file_answer_by_ending (Refused r) (Refused s) numbered others e = ap Refused (refusal_by_ending r s e)
+file_answer_by_ending (Ok _) (Ok _) numbered others e = refl
+file_answer_by_ending (Ok _) (Err s) numbered others e = absurd (refused_not_done s [] others (sym e))
+file_answer_by_ending (Err r) (Ok _) numbered others e = absurd (refused_not_done r [] numbered e)
+file_answer_by_ending (Err r) (Err s) numbered others e = ap Err (refusal_by_ending r s e)

@@ -1,5 +1,5 @@
 -- What follows for a file that walks: where its fields lie, that the file is its fields' bytes, and that the search finds those very parts.
-use Rattle.std.specs.Prelude.{ℕ, zero, suc, ◌+◌, ◌-◌, ◌%◌, ◌<◌, ◌≤◌, ◌≡◌, refl, Bool, true, false, cond, length, get_or, take, drop, eqb}
+use Rattle.std.specs.Prelude.{ℕ, zero, suc, ◌+◌, ◌-◌, ◌%◌, ◌<◌, ◌≤◌, ◌≡◌, refl, Bool, true, false, cond, length, get_or, take, drop, eqb, None, Some, Option}
 use Rattle.std.proofs.Common.{sym, ap, ap₂, subst, ◌∙◌, ⊎_elim, add-one, arith, length-drop, length-take, take-append-drop, drop_of_length-le, drop-drop, drop-cons, take_all, le-ltb, le-leb, lt-ltb, eq-eqb, ne_eqb}
 use mathlib.Core.List.Memᴰ
 use mathlib.Core.List.{List, [], ◌∷◌, ◌++◌, append_assoc, flat_map, Memᴰ}
@@ -9,14 +9,13 @@ use Rattle.numbers.specs.BigEndian.{Bytes, number, bytes_of}
 use Rattle.numbers.proofs.Theorems.BigEndian.{Bytes-take, Bytes-drop, bytes_of_number}
 use Rattle.field_walk.specs.Walk.{tag_of, lowest_of, step_of, least_of, most_of, permitted_by, length_at, FieldAt, value_of, fields, first_form, second_form, neither_form, row_in, rows_in, walk_by, walk, FieldsWalk}
 use Rattle.field_walk.proofs.Theorems.Forms.{same_in, row_in_lem, of_both}
-use Rattle.tagged.specs.Find.{whole_field, fields_from, fields_of, first_with, first_place, value_place, rest_place, part_of, start_of, field_value, field_start}
+use Rattle.tagged.specs.Find.{place_at, whole_field, fields_from, fields_of, first_with, first_place, value_place, rest_place, part_of, start_of, field_value, field_start}
 use Rattle.tagged.specs.Encoded.{encoded, encoded_parts, parts_of}
 use Rattle.tagged.specs.RisingTags.{tags_above, rising_tags}
 use Rattle.tagged.specs.WalkRelations.{Stand, end, next_row, field, StandsAt, Fields, none, first}
 use Rattle.tagged.proofs.Theorems.Walk.{walk_by_stands, walk_by_fields, walk_by_form, walk_fields, both_hold, rest_tag, rest_length, permitted_length}
 use Rattle.tagged.specs.FoundFields.{Seen, Next, Found, Sized}
 use Rattle.tagged.specs.declared.find.Place.{Place}
-use Rattle.tagged.specs.declared.find.Place.TheVariants.{At, Nowhere}
 
 Fields-at : {s : List ℕ} {at : ℕ} {fs : List FieldAt} → Fields s at fs → (f : FieldAt) → Memᴰ f fs → (at' : ℕ) × StandsAt s at' f
 Fields-at (none l) f i = absurd (Memᴰ.not-nil i)
@@ -42,8 +41,8 @@ module _ (s : List ℕ) (at : ℕ) (f : FieldAt) (x : StandsAt s at f) where
       let len : length_at (drop at s) ≡ f.len = rest_length s at ∙ sym x.len in
       let ends : f.len + 3 ≤ length (drop at s) = simp length-drop (omega (arith, x.start, x.within)) in
       let w : whole_field (drop at s) ≡ true = rw (le-ltb (length (drop at s)) 3 (omega arith), len, le-leb _ _ ends) in
-      let v : value_place (drop at s) ≡ At 3 f.len = rw (w, len) in
-      let r : rest_place (drop at s) ≡ At (f.len + 3) (length (drop at s) - (f.len + 3)) = rw (w, len) in
+      let v : value_place (drop at s) ≡ place_at 3 f.len = rw (w, len) in
+      let r : rest_place (drop at s) ≡ place_at (f.len + 3) (length (drop at s) - (f.len + 3)) = rw (w, len) in
       let l : length (drop (at + (f.len + 3)) s) ≤ length (drop at s) - (f.len + 3) = simp length-drop (omega arith) in
       record {
         tag = rest_tag s at ∙ sym x.tag;
@@ -131,7 +130,7 @@ row_above tag (row ∷ rows) e (suc k) h =
 record FoundIn (row : List ℕ) (fs : List FieldAt) : Type 0 where
   f : FieldAt
   among : Memᴰ f fs
-  found : first_with (tag_of row) fs ≡ At f.start f.len
+  found : first_with (tag_of row) fs ≡ place_at f.start f.len
   permitted : permitted_by row f.len ≡ true
 
 -- a field of row k must come, and another one where row k is the first, of which n fields have come
@@ -168,7 +167,7 @@ abbrev pub none_with : ℕ → List (List ℕ) → Bool
 none_with tag [] = true
 none_with tag (row ∷ rows) = cond (eqb (tag_of row) tag) (cond (eqb (most_of row) 0) (none_with tag rows) false) (none_with tag rows)
 
-Stand-none_with : {rows : List (List ℕ)} {n : ℕ} {fs : List FieldAt} → Stand rows n fs → (tag : ℕ) → none_with tag rows ≡ true → first_with tag fs ≡ Nowhere
+Stand-none_with : {rows : List (List ℕ)} {n : ℕ} {fs : List FieldAt} → Stand rows n fs → (tag : ℕ) → none_with tag rows ≡ true → first_with tag fs ≡ None
 unfolding first_with
 Stand-none_with end tag e = refl
 Stand-none_with (next_row {row} {rows} l x) tag e = Stand-none_with x tag (later (eqb (tag_of row) tag) (eqb (most_of row) 0) e)
@@ -185,7 +184,7 @@ Stand-none_with (field {row} {rows} {n} {f} t p l x) tag e =
 
 -- A file that walks by some rows has no field that none of them permits, and the search finds none.
 pub walk_by_finds_none : (rows : List (List ℕ)) (s : List ℕ) (fs : List FieldAt) → walk_by rows s ≡ fields fs → (tag : ℕ) → none_with tag rows ≡ true →
-    first_place tag s ≡ Nowhere
+    first_place tag s ≡ None
 walk_by_finds_none rows s fs e tag none_has = ap (first_with tag) (walk_by_fields_of rows s fs e) ∙ Stand-none_with (walk_by_stands rows s fs e) tag none_has
 
 above_in : (form tag : ℕ) (rows : List (List ℕ)) → tags_above tag rows ≡ true → tags_above tag (rows_in form rows) ≡ true
@@ -226,6 +225,6 @@ pub walk_sized : (rows : List (List ℕ)) (s : List ℕ) → rising_tags rows �
 walk_sized rows s rising (fs, walks) k h due = found_sized (walk_finds_due rows s fs rising k h due walks)
 
 -- a part of bytes is bytes
-pub Bytes-part : (place : Place) (s : List ℕ) → Bytes s → Bytes (part_of place s)
-Bytes-part Nowhere s h k = omega arith
-Bytes-part (At start len) s h k = Bytes-take len (drop start s) (Bytes-drop start s h) k
+pub Bytes-part : (place : Option Place) (s : List ℕ) → Bytes s → Bytes (part_of place s)
+Bytes-part None s h k = omega arith
+Bytes-part (Some place) s h k = Bytes-take place.len (drop place.start s) (Bytes-drop place.start s h) k

@@ -1,16 +1,14 @@
 -- Document 01, 'What the reviewer ticks': "The tagged walk's facts are shown once for all three kinds of file." A walk by any rows at all
 -- says two things of its fields: they stand by the rows (`Stand`), and they are the file, one after the other (`Fields`). Every other fact follows from these.
 -- A file of a kind that has two forms walks by the rows of one of them, with the same fields.
-use Rattle.std.specs.Prelude.{ℕ, zero, suc, ◌+◌, ◌-◌, ◌%◌, ◌<◌, ◌≤◌, ◌≡◌, refl, ◌⊎◌, Bool, true, false, cond, length, get_or, take, drop, ltb, leb, eqb}
+use Rattle.std.specs.Prelude.{ℕ, zero, suc, ◌+◌, ◌-◌, ◌%◌, ◌<◌, ◌≤◌, ◌≡◌, refl, ◌⊎◌, Bool, true, false, cond, length, get_or, take, drop, ltb, leb, eqb, Some, None}
 use Rattle.std.proofs.Common.{sym, ap, ◌∙◌, inl, inr, ⊎_elim, add-zero, arith, length-drop, get_or-drop, drop-drop, ltb-true, ltb-false, leb-true, eqb-true}
 use Rattle.std.proofs.Math.Path.{subst}
 use mathlib.Core.List.Memᴰ
 use mathlib.Core.List.{List, [], ◌∷◌, ◌++◌, Memᴰ, append-nil}
 use Rattle.std.proofs.lemmas.Bool.{false≢true}
 use Rattle.numbers.specs.BigEndian.{number, number_at}
-use Rattle.field_walk.specs.Walk.{tag_of, lowest_of, highest_of, step_of, least_of, most_of, due_from, all_had, permitted_by, length_at, field_of, front_of, FieldAt, Walk, fields, stops, and_then, on_front, walk_from, first_form, second_form, rows_in, walk_by, by_forms, walk}
-use Rattle.field_walk.specs.declared.walk.Due.{Due}
-use Rattle.field_walk.specs.declared.walk.Due.TheVariants.{Row, NotDue}
+use Rattle.field_walk.specs.Walk.{Due, tag_of, lowest_of, highest_of, step_of, least_of, most_of, due_from, all_had, permitted_by, length_at, field_of, front_of, FieldAt, Walk, fields, stops, and_then, on_front, walk_from, first_form, second_form, rows_in, walk_by, by_forms, walk}
 use Rattle.field_walk.specs.declared.walk.Front.{Front}
 use Rattle.field_walk.specs.declared.walk.Front.TheVariants.{End, Field, CannotStand}
 use Rattle.tagged.proofs.Theorems.Impossible.{impossible}
@@ -27,8 +25,8 @@ both_hold a b c = by_test (λ t. t ≡ true → (a < b) × (c ≡ true)) (ltb a 
 
 -- A row that is due lies i rows on, and a field of it with a permitted length stands before those that stand there.
 DueHolds : List (List ℕ) → ℕ → ℕ → ℕ → Due → Type 0
-DueHolds rows k n tag NotDue = Unit
-DueHolds rows k n tag (Row k' n') =
+DueHolds rows k n tag None = Unit
+DueHolds rows k n tag (Some (k', n')) =
     (i : ℕ) × (k' ≡ k + i) ×
     ((f : FieldAt) (fs : List FieldAt) → f.tag ≡ tag → permitted_by (get_or rows i []) f.len ≡ true → Stand (drop i rows) n' fs → Stand rows n (f ∷ fs))
 
@@ -44,14 +42,14 @@ due_holds (row ∷ rows) k n tag =
     P d = DueHolds (row ∷ rows) k n tag d
 
     after : least_of row ≤ n → (d : Due) → DueHolds rows (k + 1) 0 tag d → P d
-    after l NotDue h = tt
-    after l (Row k' n') h = (suc h.0, omega (arith, h.1), λ f fs g p x. next_row l (h.2 f fs g p x))
+    after l None h = tt
+    after l (Some (k', n')) h = (suc h.0, omega (arith, h.1), λ f fs g p x. next_row l (h.2 f fs g p x))
 
 -- What stands at the front: nothing, where no field is due any more; or a field of the row that is due.
 FrontHolds : List (List ℕ) → ℕ → ℕ → List ℕ → Front → Type 0
 FrontHolds rows k n s End = (length s ≡ 0) × (all_had (drop k rows) n ≡ true)
 FrontHolds rows k n s (Field k' n' len) =
-    (due_from (drop k rows) k n (get_or s 0 0) ≡ Row k' n') × (permitted_by (get_or rows k' []) len ≡ true) × (len ≡ length_at s) × (len + 3 ≤ length s)
+    (due_from (drop k rows) k n (get_or s 0 0) ≡ Some (k', n')) × (permitted_by (get_or rows k' []) len ≡ true) × (len ≡ length_at s) × (len + 3 ≤ length s)
 FrontHolds rows k n s CannotStand = Unit
 
 front_holds : (rows : List (List ℕ)) (k n : ℕ) (s : List ℕ) → FrontHolds rows k n s (front_of rows k n s)
@@ -65,8 +63,8 @@ front_holds rows k n s =
     P d = FrontHolds rows k n s d
 
     due : (d : Due) → due_from (drop k rows) k n (get_or s 0 0) ≡ d → P (field_of d rows s)
-    due NotDue e = tt
-    due (Row k' n') e =
+    due None e = tt
+    due (Some (k', n')) e =
         by_test P (permitted_by (get_or rows k' []) (length_at s)) _ _
         (λ p. by_test P (leb (length_at s + 3) (length s)) _ _ (λ l. (e, p, refl, leb-true _ _ l)) (λ _. tt))
         (λ _. tt)
@@ -105,7 +103,7 @@ walk_holds (suc most) rows s k n at =
     on : ℕ → ℕ → ℕ → Walk
     on k' n' len = walk_from most rows k' n' (at + (len + 3)) (drop (len + 3) rest)
 
-    due : (k' n' len : ℕ) → FrontHolds rows k n rest (Field k' n' len) → DueHolds (drop k rows) k n (get_or rest 0 0) (Row k' n') →
+    due : (k' n' len : ℕ) → FrontHolds rows k n rest (Field k' n' len) → DueHolds (drop k rows) k n (get_or rest 0 0) (Some (k', n')) →
         (w : Walk) → WalkHolds rows s k' n' (at + (len + 3)) w → WalkHolds rows s k n at (and_then (here len) w)
     due k' n' len x d (stops at') h = tt
     due k' n' len x d (fields fs) h =

@@ -1,5 +1,5 @@
 -- The converse: where the tags rise, fields that stand by the rows and are the file are its walk, and so the bytes of tags and values walk.
-use Rattle.std.specs.Prelude.{ℕ, zero, suc, ◌+◌, ◌-◌, ◌<◌, ◌≤◌, ◌≡◌, refl, ◌⊎◌, Bool, true, false, cond, drop, ltb, eqb}
+use Rattle.std.specs.Prelude.{ℕ, zero, suc, ◌+◌, ◌-◌, ◌<◌, ◌≤◌, ◌≡◌, refl, ◌⊎◌, Bool, true, false, cond, drop, ltb, eqb, Some}
 use Rattle.std.proofs.Math.Path.{sym, ap}
 use Rattle.std.proofs.Common.{ap₂, ◌∙◌, ⊎_elim, add-zero, length-append, get_or-drop, drop_at, le-ltb, le-leb, lt-ltb, eq-eqb, ne_eqb}
 use mathlib.Core.List.Memᴰ
@@ -10,7 +10,6 @@ use Rattle.std.proofs.Math.Seq.{drop-drop, take_at}
 use Rattle.numbers.specs.BigEndian.{number, bytes_of}
 use Rattle.numbers.proofs.Theorems.BigEndian.{length_bytes_of, number_of_bytes_of}
 use Rattle.field_walk.specs.Walk.{tag_of, least_of, most_of, highest_of, due_from, all_had, permitted_by, front_of, FieldAt, Walk, fields, stops, walk_from, first_form, second_form, neither_form, rows_in, walk_by, by_forms, walk}
-use Rattle.field_walk.specs.declared.walk.Due.TheVariants.{Row}
 use Rattle.tagged.specs.WalkRelations.{Stand, end, next_row, field, StandsAt, Fields, none, first}
 use Rattle.tagged.proofs.Theorems.Walk.{permitted_length, both_hold, rest_tag}
 use Rattle.tagged.specs.Encoded.{encoded_parts, parts_of}
@@ -43,7 +42,7 @@ had_all (next_row l x) = rw (le-ltb _ _ l) (had_all x)
 record DueAt (rows : List (List ℕ)) (k n : ℕ) (f : FieldAt) (fs : List FieldAt) : Type 0 where
   i : ℕ
   n' : ℕ
-  due : due_from rows k n f.tag ≡ Row (k + i) n'
+  due : due_from rows k n f.tag ≡ Some (k + i, n')
   permitted : permitted_by (get_or rows i []) f.len ≡ true
   rest : Stand (drop i rows) n' fs
   rising : rising_tags (drop i rows) ≡ true

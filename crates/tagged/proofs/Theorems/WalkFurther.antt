@@ -1,6 +1,6 @@
 -- Two tables, of which one goes on wherever the other does: its walk gives the same fields, or stops no earlier.
 use Prim.Native.Nat.{ℕ, zero, suc, ◌+◌, ◌<◌, ◌≤◌}
-use Rattle.std.specs.Prelude.{◌≡◌, Bool, true, false, cond, length, take, drop, ltb, leb, eqb}
+use Rattle.std.specs.Prelude.{◌≡◌, Bool, true, false, cond, length, take, drop, ltb, leb, eqb, Some, None}
 use Rattle.std.proofs.Math.Path.{refl, subst}
 use Rattle.std.proofs.Common.{sym, ap, ◌∙◌, ⊎_elim, get_or-drop, get_or-take, drop-drop}
 use mathlib.Core.List.{List, [], ◌∷◌, ◌++◌, map, append-nil, Memᴰ}
@@ -8,14 +8,11 @@ use mathlib.Mathlib.Data.Bool.Basic.{dichotomy}
 use native.Mathlib.Omega.{arith}
 use Rattle.std.proofs.Math.ListN.{get_or}
 use borrow.Author.Tests.{le-ltb, ne_eqb}
-use Rattle.field_walk.specs.Walk.{tag_of, least_of, most_of, permitted_by, due_from, all_had, length_at, field_of, front_of, FieldAt, Walk, fields, stops, and_then, on_front, walk_from, walk_by}
-use Rattle.field_walk.specs.declared.walk.Due.{Due}
-use Rattle.field_walk.specs.declared.walk.Due.TheVariants.{Row, NotDue}
+use Rattle.field_walk.specs.Walk.{Due, tag_of, least_of, most_of, permitted_by, due_from, all_had, length_at, field_of, front_of, FieldAt, Walk, fields, stops, and_then, on_front, walk_from, walk_by}
 use Rattle.field_walk.specs.declared.walk.Front.{Front}
 use Rattle.field_walk.specs.declared.walk.Front.TheVariants.{End, Field, CannotStand}
 use Rattle.tagged.specs.Find.{fields_from, fields_of, first_with, first_place}
 use Rattle.tagged.proofs.Theorems.Impossible.{impossible}
-use Rattle.tagged.specs.declared.find.Place.TheVariants.{Nowhere}
 
 by_cases : {A : Type 0} (b : Bool) → (b ≡ false → A) → (b ≡ true → A) → A
 by_cases b if_false if_true = ⊎_elim if_false if_true (dichotomy b)
@@ -29,7 +26,7 @@ pub record Alike (row other : List ℕ) : Type 0 where
 
 -- by fields with tags of this sort, the other rows go on wherever these do
 pub data GoesOn (Tag : ℕ → Type 0) : List (List ℕ) → List (List ℕ) → Type 0 where
-  no_more : {rows others : List (List ℕ)} → ((k n tag : ℕ) → Tag tag → due_from rows k n tag ≡ NotDue) →
+  no_more : {rows others : List (List ℕ)} → ((k n tag : ℕ) → Tag tag → due_from rows k n tag ≡ None) →
       ((n : ℕ) → all_had rows n ≡ true → all_had others n ≡ true) → GoesOn Tag rows others
   alike : {row other : List ℕ} {rows others : List (List ℕ)} → Alike row other → GoesOn Tag rows others → GoesOn Tag (row ∷ rows) (other ∷ others)
 
@@ -52,11 +49,11 @@ abbrev pub TagsOf : (ℕ → Type 0) → List ℕ → Type 0
 TagsOf Tag s = (f : FieldAt) → Memᴰ f (fields_of s) → Tag f.tag
 
 -- a tag that no field has is found nowhere
-pub found_nowhere : (tag : ℕ) (s : List ℕ) → TagsOf (λ other. other ≡ tag → ⊥) s → first_place tag s ≡ Nowhere
+pub found_nowhere : (tag : ℕ) (s : List ℕ) → TagsOf (λ other. other ≡ tag → ⊥) s → first_place tag s ≡ None
 unfolding first_with
 found_nowhere tag s others = among (fields_of s) others
   where
-    among : (fs : List FieldAt) → ((f : FieldAt) → Memᴰ f fs → f.tag ≡ tag → ⊥) → first_with tag fs ≡ Nowhere
+    among : (fs : List FieldAt) → ((f : FieldAt) → Memᴰ f fs → f.tag ≡ tag → ⊥) → first_with tag fs ≡ None
     among [] other = refl
     among (f ∷ fs) other = rw (ne_eqb f.tag tag (other f (Memᴰ.head refl))) (among fs (λ g i. other g (Memᴰ.tail i)))
 
@@ -93,15 +90,15 @@ then_further f (stops at) (fields fs) h = tt
 then_further f (stops at) (stops at') h = h
 
 part_cannot : (due : Due) (rows : List (List ℕ)) (s : List ℕ) → leb (length_at s + 3) (length s) ≡ false → field_of due rows s ≡ CannotStand
-part_cannot NotDue rows s part = refl
-part_cannot (Row k n) rows s part = by_cases (permitted_by (get_or rows k []) (length_at s)) (λ p. rw (p)) (λ p. rw (p, part))
+part_cannot None rows s part = refl
+part_cannot (Some (k, n)) rows s part = by_cases (permitted_by (get_or rows k []) (length_at s)) (λ p. rw (p)) (λ p. rw (p, part))
 
 module _ (Tag : ℕ → Type 0) where
   -- the row that is due by the rows is due by the others too
   abbrev DueFollows : List (List ℕ) → List (List ℕ) → ℕ → Due → Due → Type 0
-  DueFollows rows others k NotDue other = Unit {0}
-  DueFollows rows others k (Row k' n') other =
-      (i : ℕ) × (k' ≡ k + i) × (other ≡ Row k' n') × ((len : ℕ) → permitted_by (get_or others i []) len ≡ permitted_by (get_or rows i []) len) ×
+  DueFollows rows others k None other = Unit {0}
+  DueFollows rows others k (Some (k', n')) other =
+      (i : ℕ) × (k' ≡ k + i) × (other ≡ Some (k', n')) × ((len : ℕ) → permitted_by (get_or others i []) len ≡ permitted_by (get_or rows i []) len) ×
       GoesOn Tag (drop i rows) (drop i others)
 
   due_follows : {rows others : List (List ℕ)} → GoesOn Tag rows others → (k n tag : ℕ) → Tag tag →
@@ -119,8 +116,8 @@ module _ (Tag : ℕ → Type 0) where
       (λ few. rw (here, few) (0, omega arith, refl, same.permitted, alike same g))))
     where
       later : (d x : Due) → DueFollows rows others (k + 1) d x → DueFollows (row ∷ rows) (other ∷ others) k d x
-      later NotDue x h = tt
-      later (Row k' n') x h = (suc h.0, omega (arith, h.1), h.2, h.3, h.4)
+      later None x h = tt
+      later (Some (k', n')) x h = (suc h.0, omega (arith, h.1), h.2, h.3, h.4)
 
   ends_follow : {rows others : List (List ℕ)} → GoesOn Tag rows others → (n : ℕ) → all_had rows n ≡ true → all_had others n ≡ true
   unfolding all_had
@@ -162,10 +159,10 @@ module _ (Tag : ℕ → Type 0) where
       by_due : (d x : Due) → leb (length_at s + 3) (length s) ≡ true → DueFollows (drop k rows) (drop k others) k d x →
           ((k' n' : ℕ) → GoesOn Tag (drop k' rows) (drop k' others) → Further (on rows k' n' (length_at s)) (on others k' n' (length_at s))) →
           Further (front rows (field_of d rows s)) (front others (field_of x others s))
-      by_due NotDue x fits follows later =
+      by_due None x fits follows later =
           further_from at (front others (field_of x others s))
           (front_from (field_of x others s) at here (on others) (λ k' n' len. walk_from_lem most others k' n' (at + (len + 3)) (drop (len + 3) s)))
-      by_due (Row k' n') x fits (i, is, same, permits, g') later =
+      by_due (Some (k', n')) x fits (i, is, same, permits, g') later =
           let row_of : (table : List (List ℕ)) → get_or table k' [] ≡ get_or (drop k table) i [] =
           λ table. ap (λ j. get_or table j []) is ∙ sym (get_or-drop k table i []) in
           let rows_of : (table : List (List ℕ)) → drop k' table ≡ drop i (drop k table) = λ table. ap (λ j. drop j table) is ∙ sym (drop-drop i k table) in
@@ -200,7 +197,7 @@ goes_on_after (row ∷ rows) (other ∷ others) same g =
 
 -- A last row that permits no field changes no walk, nor does the form that a row is of.
 module _ (rows others : List (List ℕ)) (same : map (take 6) rows ≡ map (take 6) others) (absent : List ℕ) (least : least_of absent ≡ 0) (most : most_of absent ≡ 0) where
-  never_due : (k n tag : ℕ) → due_from (absent ∷ []) k n tag ≡ NotDue
+  never_due : (k n tag : ℕ) → due_from (absent ∷ []) k n tag ≡ None
   unfolding due_from
   never_due k n tag =
       rw (least, most, le-ltb n 0 (omega arith)) (by_cases (eqb (tag_of absent) tag) (λ e. rw e) (λ e. rw e))

@@ -1,6 +1,6 @@
 -- A file that stands and then has another value of the same length in one field, its check made anew, stands too, whatever its rows; every field is
 -- found where it was, and every other one with the value that it had.
-use Rattle.std.specs.Prelude.{ℕ, ◌+◌, ◌-◌, ◌<◌, ◌≤◌, ◌≡◌, ◌⊎◌, true, get_or, take}
+use Rattle.std.specs.Prelude.{ℕ, ◌+◌, ◌-◌, ◌<◌, ◌≤◌, ◌≡◌, ◌⊎◌, true, get_or, take, Ok}
 use Rattle.std.proofs.Math.Path.{refl, sym, ap}
 use Rattle.std.proofs.Common.{◌∙◌, inl, inr, length-append, length-take, length-drop, get_or-take, drop_at, take-add, length-take-le, eqb-true, ne_eqb}
 use mathlib.Core.List.{List, [], ◌∷◌, ◌++◌, append_assoc}
@@ -20,7 +20,8 @@ use Rattle.field_walk.specs.Walk.{FieldAt, fields, first_form, second_form, rows
 use Rattle.tagged.specs.DiffersInField.{DiffersInField}
 use Rattle.tagged.specs.Encoded.{encoded_parts, closed, parts_of}
 use Rattle.tagged.specs.File.{fields_part, file_answer, FileStands}
-use Rattle.tagged.specs.Find.{first_with, first_place, part_of, start_of, field_start, field_value}
+use Rattle.tagged.specs.declared.find.Place.{Place}
+use Rattle.tagged.specs.Find.{place_at, first_with, first_place, part_of, start_of, field_start, field_value}
 use Rattle.tagged.specs.RisingTags.{rising_tags}
 use Rattle.tagged.specs.WalkRelations.{StandsAt, Fields, none, first}
 use Rattle.tagged.proofs.Theorems.ClosedFiles.{fields_of_closed, closed_stands, stands_closed}
@@ -28,8 +29,6 @@ use Rattle.tagged.proofs.Theorems.FoundFields.{walk_tiles, walk_first_place, ris
 use Rattle.tagged.proofs.Theorems.Impossible.{impossible}
 use Rattle.tagged.proofs.Theorems.Walk.{by_test, walk_stands, walk_fields}
 use Rattle.tagged.proofs.Theorems.WalkEncoded.{walk_of_fields, walk_in_form}
-use Rattle.tagged.specs.declared.file.FileAnswer.TheVariants.{Stands}
-use Rattle.tagged.specs.declared.find.Place.TheVariants.{At}
 
 -- "It is h over all bytes of the file but the last two": these two made anew
 abbrev checked_anew : List ℕ → List ℕ
@@ -106,7 +105,7 @@ module _ (s v : List ℕ) (start : ℕ) (within : start + length v ≤ length s)
   unfolding first_with Kept
   parts_after (none l) h tag = refl
   parts_after (first {at} {f} {fs} x r) h tag =
-      by_test (λ place. part_of place (written s start v) ≡ part_of place s) (eqb f.tag tag) (At f.start f.len) (first_with tag fs)
+      by_test (λ place. part_of place (written s start v) ≡ part_of place s) (eqb f.tag tag) (place_at f.start f.len) (first_with tag fs)
       (λ _. kept_after f.start f.len (omega (arith, x.start))) (λ _. parts_after r (omega arith) tag)
 
   -- the fields from an offset on, of which the first with the tag has the value at `start`
@@ -115,7 +114,7 @@ module _ (s v : List ℕ) (start : ℕ) (within : start + length v ≤ length s)
     all : Fields (written s start v) at fs
     others : (other : ℕ) → (tag ≡ other → ⊥) → part_of (first_with other fs) (written s start v) ≡ part_of (first_with other fs) s
 
-  field_kept : (tag : ℕ) {at : ℕ} {fs : List FieldAt} → Fields s at fs → first_with tag fs ≡ At start (length v) → FieldKept tag at fs
+  field_kept : (tag : ℕ) {at : ℕ} {fs : List FieldAt} → Fields s at fs → first_with tag fs ≡ place_at start (length v) → FieldKept tag at fs
   unfolding first_with Kept
   field_kept tag (none l) e = impossible cc
   field_kept tag (first {at} {f} {fs} x r) e = ⊎_elim (λ t. later t (field_kept tag r (rw t at e))) (λ t. here t (rw t at e)) (dichotomy (eqb f.tag tag))
@@ -124,10 +123,11 @@ module _ (s v : List ℕ) (start : ℕ) (within : start + length v ≤ length s)
           part_of (first_with other (f ∷ fs)) (written s start v) ≡ part_of (first_with other (f ∷ fs)) s
       past other t p = rw t p
 
-      here : eqb f.tag tag ≡ true → At f.start f.len ≡ At start (length v) → FieldKept tag at (f ∷ fs)
+      here : eqb f.tag tag ≡ true → place_at f.start f.len ≡ place_at start (length v) → FieldKept tag at (f ∷ fs)
       here t p =
-          let same_start : f.start ≡ start = cc in
-          let same_len : f.len ≡ length v = cc in
+          let same : ◌≡◌ {A = Place} (record { start = f.start; len = f.len }) (record { start = start; len = length v }) = cc in
+          let same_start : f.start ≡ start = ap (λ (place : Place). place.start) same in
+          let same_len : f.len ≡ length v = ap (λ (place : Place). place.len) same in
           let own : f.tag ≡ tag = eqb-true _ _ t in
           record {
             before = omega (arith, x.start);
@@ -142,13 +142,13 @@ module _ (s v : List ℕ) (start : ℕ) (within : start + length v ≤ length s)
             all = first (stands_kept (kept_before at 1 (omega (arith, kept.before))) (kept_before (at + 1) 2 (omega (arith, kept.before))) x) kept.all;
             others =
                 λ other apart.
-                by_test (λ place. part_of place (written s start v) ≡ part_of place s) (eqb f.tag other) (At f.start f.len) (first_with other fs)
+                by_test (λ place. part_of place (written s start v) ≡ part_of place s) (eqb f.tag other) (place_at f.start f.len) (first_with other fs)
                 (λ _. kept_before f.start f.len (omega (arith, x.start, kept.before))) (λ _. kept.others other apart);
           }
 
 -- what holds of the file with another value in a field
 pub record FieldReplaced (rows : List (List ℕ)) (tag : ℕ) (value file : List ℕ) : Type 0 where
-  pub stands : (number : ℕ) → file_answer rows number (with_field tag value file) ≡ Stands
+  pub stands : (number : ℕ) → file_answer rows number (with_field tag value file) ≡ Ok tt
   pub found : (other : ℕ) → first_place other (fields_part (with_field tag value file)) ≡ first_place other (fields_part file)
   pub places : (other : ℕ) → field_start other (fields_part (with_field tag value file)) ≡ field_start other (fields_part file)
   pub replaced : field_value tag (fields_part (with_field tag value file)) ≡ value
@@ -183,7 +183,7 @@ module _ (file value : List ℕ) (start : ℕ) (fits : start + length value ≤ 
   checked_size two = simp (length-append, length-take, length_bytes_of, length_written file start value fits) (omega arith)
 
 differs_there : (tag : ℕ) (file value : List ℕ) (start : ℕ) → 5 ≤ length file → start + length value ≤ length (fields_part file) →
-    first_place tag (fields_part file) ≡ At start (length value) → DiffersInField tag file (with_field tag value file)
+    first_place tag (fields_part file) ≡ place_at start (length value) → DiffersInField tag file (with_field tag value file)
 differs_there tag file value start long within found =
     let fits : start + length value ≤ length file = omega (arith, simp length-take at within) in
     let sized : length (take (length value) (drop start (fields_part file))) ≡ length value = simp (length-take, length-drop) (omega (arith, simp length-take at within)) in
@@ -193,14 +193,14 @@ abbrev check_head : List ℕ
 check_head = 255 ∷ 0 ∷ 2 ∷ []
 
 pub field_replaced : (rows : List (List ℕ)) (tag : ℕ) (value file : List ℕ) {start : ℕ} → rising_tags rows ≡ true → Bytes file → Bytes value →
-    FileStands rows file → first_place tag (fields_part file) ≡ At start (length value) → start + length value ≤ length (fields_part file) →
+    FileStands rows file → first_place tag (fields_part file) ≡ place_at start (length value) → start + length value ≤ length (fields_part file) →
     FieldReplaced rows tag value file
 field_replaced rows tag value file {start} rising bytes spelt stands found within =
     let s = fields_part file in
     let fs = stands.field_list in
     let s' = written s start value in
     let fields_bytes : Bytes s = Bytes-take (length file - 5) file bytes in
-    let with_tag : first_with tag fs ≡ At start (length value) = sym (walk_first_place rows s fs stands.walks tag) ∙ found in
+    let with_tag : first_with tag fs ≡ place_at start (length value) = sym (walk_first_place rows s fs stands.walks tag) ∙ found in
     let kept = field_kept s value start within tag (walk_fields rows s fs stands.walks) with_tag in
     let walks : walk rows s' ≡ fields fs =
     walk_in_form rows s' fs

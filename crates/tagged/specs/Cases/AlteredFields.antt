@@ -1,8 +1,6 @@
 -- Files with one field altered, as tags and values: the rows of each kind of file's own table.
-use Rattle.std.specs.Prelude.{ℕ, suc, ◌+◌, List, [], ◌∷◌, ◌++◌, map, get_or, set, take, drop, replicate}
-use Rattle.tagged.specs.File.{refusal}
-use Rattle.tagged.specs.declared.file.FileAnswer.{FileAnswer}
-use Rattle.tagged.specs.declared.file.FileAnswer.TheVariants.{Refused}
+use Rattle.std.specs.Prelude.{ℕ, suc, ◌+◌, List, [], ◌∷◌, ◌++◌, map, get_or, set, take, drop, replicate, Err}
+use Rattle.tagged.specs.File.{refusal, FileAnswer}
 
 -- fields with these tags and lengths, of zeros
 abbrev pub zeros : List (ℕ × ℕ) → List (ℕ × List ℕ)
@@ -32,4 +30,4 @@ sized size k parts = put k (replicate size 0) parts
 -- the file's fields altered at the index k, then at the next ones, each with the place of its refusal with 1
 abbrev pub stopping : ℕ → (ℕ → List (ℕ × List ℕ) → List (ℕ × List ℕ)) → List (ℕ × List ℕ) → ℕ → List ℕ → List (List (ℕ × List ℕ) × FileAnswer)
 stopping file altered parts k [] = []
-stopping file altered parts k (place ∷ places) = (altered k parts, Refused (refusal 1 file place)) ∷ stopping file altered parts (suc k) places
+stopping file altered parts k (place ∷ places) = (altered k parts, Err (refusal 1 file place)) ∷ stopping file altered parts (suc k) places

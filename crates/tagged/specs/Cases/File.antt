@@ -1,15 +1,13 @@
 -- Small files: each way in which the last five bytes, the check or a field can't stand, with number and place.
-use Rattle.std.specs.Prelude.{ℕ, ◌≡◌, refl, List, [], ◌∷◌, map}
+use Rattle.std.specs.Prelude.{ℕ, ◌≡◌, refl, List, [], ◌∷◌, map, Err, Ok}
 use Rattle.numbers.specs.BigEndian.{number}
 use Rattle.numbers.specs.Check.{check_from}
 use Rattle.field_walk.specs.Walk.{due_from, all_had, front_of, walk_from}
 use Rattle.field_walk.specs.Cases.Walk.{small_rows}
-use Rattle.tagged.specs.File.{refusal, file_answer}
-use Rattle.tagged.specs.declared.file.FileAnswer.{FileAnswer}
-use Rattle.tagged.specs.declared.file.FileAnswer.TheVariants.{Stands, Refused}
+use Rattle.tagged.specs.File.{refusal, file_answer, FileAnswer}
 
 abbrev refused : ℕ → ℕ → FileAnswer
-refused number place = Refused (refusal number 1 place)
+refused number place = Err (refusal number 1 place)
 
 -- small files, and how each stands; how fields walk has its own table beside the walk
 abbrev small_files : List (List ℕ × FileAnswer)
@@ -23,9 +21,9 @@ small_files =
     -- five bytes FF
     (255 ∷ 255 ∷ 255 ∷ 255 ∷ 255 ∷ [], refused 1 0) ∷
     -- right files: a field 2 of either length, and the field twice
-    (1 ∷ 0 ∷ 1 ∷ 7 ∷ 2 ∷ 0 ∷ 3 ∷ 1 ∷ 2 ∷ 3 ∷ 255 ∷ 0 ∷ 2 ∷ 96 ∷ 27 ∷ [], Stands) ∷
-    (1 ∷ 0 ∷ 1 ∷ 7 ∷ 2 ∷ 0 ∷ 7 ∷ 1 ∷ 2 ∷ 3 ∷ 4 ∷ 5 ∷ 6 ∷ 7 ∷ 255 ∷ 0 ∷ 2 ∷ 214 ∷ 210 ∷ [], Stands) ∷
-    (1 ∷ 0 ∷ 1 ∷ 7 ∷ 2 ∷ 0 ∷ 3 ∷ 1 ∷ 2 ∷ 3 ∷ 2 ∷ 0 ∷ 7 ∷ 1 ∷ 2 ∷ 3 ∷ 4 ∷ 5 ∷ 6 ∷ 7 ∷ 255 ∷ 0 ∷ 2 ∷ 94 ∷ 152 ∷ [], Stands) ∷
+    (1 ∷ 0 ∷ 1 ∷ 7 ∷ 2 ∷ 0 ∷ 3 ∷ 1 ∷ 2 ∷ 3 ∷ 255 ∷ 0 ∷ 2 ∷ 96 ∷ 27 ∷ [], Ok tt) ∷
+    (1 ∷ 0 ∷ 1 ∷ 7 ∷ 2 ∷ 0 ∷ 7 ∷ 1 ∷ 2 ∷ 3 ∷ 4 ∷ 5 ∷ 6 ∷ 7 ∷ 255 ∷ 0 ∷ 2 ∷ 214 ∷ 210 ∷ [], Ok tt) ∷
+    (1 ∷ 0 ∷ 1 ∷ 7 ∷ 2 ∷ 0 ∷ 3 ∷ 1 ∷ 2 ∷ 3 ∷ 2 ∷ 0 ∷ 7 ∷ 1 ∷ 2 ∷ 3 ∷ 4 ∷ 5 ∷ 6 ∷ 7 ∷ 255 ∷ 0 ∷ 2 ∷ 94 ∷ 152 ∷ [], Ok tt) ∷
     -- the last field has another tag, or another length, whatever the check
     (1 ∷ 0 ∷ 1 ∷ 7 ∷ 2 ∷ 0 ∷ 3 ∷ 1 ∷ 2 ∷ 3 ∷ 254 ∷ 0 ∷ 2 ∷ 96 ∷ 27 ∷ [], refused 1 0) ∷
     (1 ∷ 0 ∷ 1 ∷ 7 ∷ 2 ∷ 0 ∷ 3 ∷ 1 ∷ 2 ∷ 3 ∷ 255 ∷ 1 ∷ 2 ∷ 96 ∷ 27 ∷ [], refused 1 0) ∷

@@ -1,18 +1,14 @@
-use Rattle.std.proofs.Common.{arith, le-leb, sym, ◌∙◌}
-use borrow.Author.Tests.{lt-leb}
-use Rattle.book_zones.proofs.Scanning.{rows_on, rows_end, tier_on}
+use Rattle.std.proofs.Common.{rules, sym, ◌∙◌}
+use Rattle.book_zones.proofs.Scanning.{rows_on, rows_end}
 use Rattle.book_zones.proofs.zones.first_rate_over.Goals as goal
 
-pub loop-tier-init : goal.loop-tier-init
-loop-tier-init c = (omega arith, c.zones.invariant.2, rows_on _ _ _ _ _ c.zones.invariant.1 c.zones-test.true)
+pub returns-in_err-judge_row : goal.returns-in_err-judge_row
+returns-in_err-judge_row c =
+    rw (c.loop-zone.invariant, rows_on _ _ _ _ c.loop-zone-test.true, ← c.judge_row.ensures, c.in_err-judge_row.was) (search rules)
 
-pub loop-tier-preserved : goal.loop-tier-preserved
-loop-tier-preserved c =
-    (omega arith, c.loop-tier.invariant.1, rw (c.loop-tier.invariant.2, tier_on _ _ _ c.loop-tier-test.true, le-leb _ _ c.if-rates-zone-gt-HIGHEST_RATE.false))
+pub loop-zone-preserved : goal.loop-zone-preserved
+loop-zone-preserved c =
+    (rw (c.loop-zone.invariant, rows_on _ _ _ _ c.loop-zone-test.true, ← c.judge_row.ensures, c.in_ok-judge_row.was))
 
-pub returns-after-zones : goal.returns-after-zones
-returns-after-zones c = c.zones.invariant.2 ∙ sym (c.zones.invariant.3 ∙ rows_end _ _ _ _ _ c.zones.invariant.1 c.zones-test.false)
-
-pub returns-then-rates-zone-gt-HIGHEST_RATE : goal.returns-then-rates-zone-gt-HIGHEST_RATE
-returns-then-rates-zone-gt-HIGHEST_RATE c =
-    rw (c.zones.invariant.3, c.loop-tier.invariant.2, tier_on _ _ _ c.loop-tier-test.true, lt-leb _ _ c.if-rates-zone-gt-HIGHEST_RATE.true)
+pub returns : goal.returns
+returns c = sym (c.loop-zone.invariant ∙ rows_end _ _ _ _ c.loop-zone-test.false)

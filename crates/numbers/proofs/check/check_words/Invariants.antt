@@ -1,10 +1,7 @@
--- The loop keeps that its sum is the check of the words before its place; a turn adds the next word (check_more).
-use Rattle.std.proofs.Common.{take, ◌*◌, ◌-◌, ◌<◌, ◌≡◌, ◌≤◌}
-use Rattle.numbers.specs.Check.{check}
+-- The sum, going on over the words from this one on, comes to the check of all.
+use Rattle.std.proofs.Common.{drop, flat_map, ◌<◌, ◌≡◌}
+use Rattle.numbers.specs.Check.{check, check_from}
 use Rattle.numbers.proofs.check.check_words.Given as goal
 
-abbrev pub invariant-loop-i : goal.invariant-loop-i
-invariant-loop-i l = (l.sum < 65521) × (l.i ≤ l.words) × (l.sum ≡ check (take (8 * l.i) l.bytes))
-
-abbrev pub decreases-loop-i : goal.decreases-loop-i
-decreases-loop-i l = l.words - l.i
+abbrev pub invariant-loop-word : goal.invariant-loop-word
+invariant-loop-word l = (l.sum < 65521) × (check (flat_map (λ word. word) l.words) ≡ check_from l.sum (flat_map (λ word. word) (drop l.word-index l.words)))

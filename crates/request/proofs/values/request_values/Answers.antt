@@ -4,14 +4,14 @@ use Rattle.request.proofs.values.request_values.Goals as goal
 pub returns : goal.returns
 returns c =
     rw (
-      c.read_amounts-amounts.ensures,
-      c.read_tiers-tiers.ensures,
-      c.read_revenues-revenues.ensures,
-      c.read_connection-connection.ensures,
-      c.read_person.ensures,
-      c.read_class.ensures,
-      c.read_zone.ensures,
-      c.read_added.ensures,
+      c.amounts-amounts.ensures,
+      c.tiers-tiers.ensures,
+      c.revenues-revenues.ensures,
+      c.connection-connection.ensures,
+      c.person.ensures,
+      c.class.ensures,
+      c.zone.ensures,
+      c.added_demands.ensures,
       c.read_factors.ensures,
       c.read_factors-2.ensures,
       c.read_factors-3.ensures,

@@ -1,0 +1,35 @@
+-- The rows give the value 24 bytes, six amounts of four, each read at the definition's offset.
+use Rattle.std.proofs.Common.{T, leb, length, ℕ, ◌≤◌}
+use Rattle.field_values.proofs.Theorems.Reading.{reaches}
+use Rattle.request.proofs.Theorems.RequestSizes.{fields_walk, request_sizes}
+use Rattle.request.proofs.fields.RequestFields.amounts.Goals as goal
+
+pub read-requires : goal.read-requires
+read-requires c =
+    let fits : (k : ℕ) → T (leb k 24) → k ≤ length c.find-value.result.now = λ k. reaches c.find-value.ensures.bytes (request_sizes c.args.self.fields.now (fields_walk c.args.self.fields.now c.args.self.walks)).amounts in
+    fits _ tt
+
+pub read-requires-2 : goal.read-requires-2
+read-requires-2 c =
+    let fits : (k : ℕ) → T (leb k 24) → k ≤ length c.find-value.result.now = λ k. reaches c.find-value.ensures.bytes (request_sizes c.args.self.fields.now (fields_walk c.args.self.fields.now c.args.self.walks)).amounts in
+    fits _ tt
+
+pub read-requires-3 : goal.read-requires-3
+read-requires-3 c =
+    let fits : (k : ℕ) → T (leb k 24) → k ≤ length c.find-value.result.now = λ k. reaches c.find-value.ensures.bytes (request_sizes c.args.self.fields.now (fields_walk c.args.self.fields.now c.args.self.walks)).amounts in
+    fits _ tt
+
+pub read-requires-4 : goal.read-requires-4
+read-requires-4 c =
+    let fits : (k : ℕ) → T (leb k 24) → k ≤ length c.find-value.result.now = λ k. reaches c.find-value.ensures.bytes (request_sizes c.args.self.fields.now (fields_walk c.args.self.fields.now c.args.self.walks)).amounts in
+    fits _ tt
+
+pub read-requires-5 : goal.read-requires-5
+read-requires-5 c =
+    let fits : (k : ℕ) → T (leb k 24) → k ≤ length c.find-value.result.now = λ k. reaches c.find-value.ensures.bytes (request_sizes c.args.self.fields.now (fields_walk c.args.self.fields.now c.args.self.walks)).amounts in
+    fits _ tt
+
+pub read-requires-6 : goal.read-requires-6
+read-requires-6 c =
+    let fits : (k : ℕ) → T (leb k 24) → k ≤ length c.find-value.result.now = λ k. reaches c.find-value.ensures.bytes (request_sizes c.args.self.fields.now (fields_walk c.args.self.fields.now c.args.self.walks)).amounts in
+    fits _ tt

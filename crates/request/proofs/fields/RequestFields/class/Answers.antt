@@ -1,0 +1,10 @@
+-- The rows give the value one byte, which is the number.
+use Rattle.std.proofs.Common.{T, leb, length, ℕ, ◌≤◌}
+use Rattle.field_values.proofs.Theorems.Reading.{reaches}
+use Rattle.request.proofs.Theorems.RequestSizes.{fields_walk, request_sizes}
+use Rattle.request.proofs.fields.RequestFields.class.Goals as goal
+
+pub read-requires : goal.read-requires
+read-requires c =
+    let fits : (k : ℕ) → T (leb k 1) → k ≤ length c.find.result.now = λ k. reaches c.find.ensures.bytes (request_sizes c.args.self.fields.now (fields_walk c.args.self.fields.now c.args.self.walks)).class in
+    fits _ tt
