@@ -1,9 +1,7 @@
 -- Document 01, 'Charge and reconciliation': "A tier costs ⌊rate × demand / 100⌋; 0 in mode 1. A bespoke rate is allowed only where the posted rate
 -- isn't 0 and the bespoke is above 150% or below 80% of it. MC sums the tiers of field 06; CC2 sums the demands of field 07 at the same rates and modes."
-use Rattle.std.specs.Prelude.{ℕ, ◌+◌, ◌*◌, ◌/◌, List, Bool, true, false, cond, get_or, ltb, eqb}
+use Rattle.std.specs.Prelude.{ℕ, ◌+◌, ◌*◌, ◌/◌, List, Bool, true, false, cond, get_or, ltb, eqb, None, Option, Some}
 use Rattle.capacity.specs.declared.Tiers.{Tiers}
-use Rattle.capacity.specs.declared.BespokeRates.{BespokeRates}
-use Rattle.capacity.specs.declared.BespokeRates.TheVariants.{Allowed, NotAllowed}
 
 abbrev pub bespoke_allowed : ℕ → ℕ → Bool
 bespoke_allowed posted bespoke =
@@ -24,17 +22,17 @@ abbrev pub tier_allowed : Tiers → ℕ → Bool
 tier_allowed tiers tier = cond (eqb (mode_at tiers tier) 2) (bespoke_allowed (posted_at tiers tier) (bespoke_at tiers tier)) true
 
 -- the first tier, 1 to 5, whose bespoke rate isn't allowed
-abbrev pub first_not_allowed : Tiers → BespokeRates
+abbrev pub first_not_allowed : Tiers → Option ℕ
 first_not_allowed tiers =
     cond (tier_allowed tiers 0)
     (cond (tier_allowed tiers 1)
     (cond (tier_allowed tiers 2)
     (cond (tier_allowed tiers 3)
-    (cond (tier_allowed tiers 4) Allowed (NotAllowed 5))
-    (NotAllowed 4))
-    (NotAllowed 3))
-    (NotAllowed 2))
-    (NotAllowed 1)
+    (cond (tier_allowed tiers 4) None (Some 5))
+    (Some 4))
+    (Some 3))
+    (Some 2))
+    (Some 1)
 
 -- the bespoke rate in mode 2, otherwise the posted one
 abbrev pub rate_used : ℕ → ℕ → ℕ → ℕ

@@ -1,9 +1,7 @@
 -- Document 01, 'How calls end': "Pricing (slip): book, request, 4, 5." The pricing of a request by a rate book, from their bytes alone.
-use Rattle.std.specs.Prelude.{ℕ, zero, suc, ◌+◌, ◌<◌, List, [], cond, get_or, eqb}
+use Rattle.std.specs.Prelude.{ℕ, zero, suc, ◌+◌, ◌<◌, List, [], cond, get_or, eqb, Err, None, Ok, Option, Some, Result}
 use Rattle.tagged.specs.File.{fields_part, refusal}
 use Rattle.tagged.specs.Refusals.{zone_not_in_book, bespoke_not_allowed}
-use Rattle.tagged.specs.declared.file.FileAnswer.{FileAnswer}
-use Rattle.tagged.specs.declared.file.FileAnswer.TheVariants.{Stands, Refused}
 use Rattle.rate_book.specs.Book.{book_of}
 use Rattle.book_zones.specs.Zones.{zone_rates}
 use Rattle.rate_book.specs.declared.book.Book.{Book}
@@ -13,24 +11,23 @@ use Rattle.revenue.specs.Revenue.{transmission_opex_factor, distribution_opex_fa
 use Rattle.revenue.specs.declared.Stream.{Stream}
 use Rattle.capacity.specs.Capacity.{first_not_allowed, capacity_cost}
 use Rattle.capacity.specs.declared.Tiers.{Tiers}
-use Rattle.capacity.specs.declared.BespokeRates.{BespokeRates}
-use Rattle.capacity.specs.declared.BespokeRates.TheVariants.{Allowed, NotAllowed}
 use Rattle.reconciliation.specs.Reconciliation.{reconciliation_of}
 use Rattle.reconciliation.specs.declared.Costs.{Costs}
-use Rattle.charge.specs.declared.Zone.{Zone}
-use Rattle.charge.specs.declared.Zone.TheVariants.{At, NotInBook}
 use Rattle.charge.specs.declared.Bill.{Bill}
-use Rattle.charge.specs.declared.Pricing.{Pricing}
-use Rattle.charge.specs.declared.Pricing.TheVariants.{Priced, NotPriced}
+use Rattle.tagged.specs.declared.file.Refusal.{Refusal}
+
+-- the bill, or why there is none
+abbrev pub Pricing : Type 0
+Pricing = Result Bill Refusal
 
 -- the row of the zone with this number, among `zones` zones from row k on
-unfoldable pub zone_found : ℕ → ℕ → List ℕ → ℕ → Zone
-zone_found k zero numbers number = NotInBook
-zone_found k (suc zones) numbers number = cond (eqb (get_or numbers k 0) number) (At k) (zone_found (k + 1) zones numbers number)
+unfoldable pub zone_found : ℕ → ℕ → List ℕ → ℕ → Option ℕ
+zone_found k zero numbers number = None
+zone_found k (suc zones) numbers number = cond (eqb (get_or numbers k 0) number) (Some k) (zone_found (k + 1) zones numbers number)
 
-abbrev pub ZoneBelow : ℕ → Zone → Type 0
-ZoneBelow zones NotInBook = Unit {0}
-ZoneBelow zones (At zone) = zone < zones
+abbrev pub ZoneBelow : ℕ → Option ℕ → Type 0
+ZoneBelow zones None = Unit {0}
+ZoneBelow zones (Some zone) = zone < zones
 
 -- the two streams of revenue; their year-one figures are handed over
 abbrev pub distribution_of : Book → Request → ℕ → Stream
@@ -91,9 +88,9 @@ bill_of book tiers request ir =
     }
 
 -- "bespoke rate not allowed", file 2, place the tier
-abbrev pub if_allowed : BespokeRates → Bill → Pricing
-if_allowed Allowed bill = Priced bill
-if_allowed (NotAllowed tier) bill = NotPriced (refusal bespoke_not_allowed 2 tier)
+abbrev pub if_allowed : Option ℕ → Bill → Pricing
+if_allowed None bill = Ok bill
+if_allowed (Some tier) bill = Err (refusal bespoke_not_allowed 2 tier)
 
 abbrev pub priced_at : Book → List ℕ → Request → ℕ → ℕ → Pricing
 priced_at book posted request distribution transmission =
@@ -101,27 +98,23 @@ priced_at book posted request distribution transmission =
     (bill_of book (tiers_of posted request) request (incremental_revenue_of book request distribution transmission))
 
 -- "zone not in the book", file 2, place 0
-abbrev pub in_zone : Zone → (ℕ → Pricing) → Pricing
-in_zone NotInBook priced = NotPriced (refusal zone_not_in_book 2 0)
-in_zone (At zone) priced = priced zone
+abbrev pub in_zone : Option ℕ → (ℕ → Pricing) → Pricing
+in_zone None priced = Err (refusal zone_not_in_book 2 0)
+in_zone (Some zone) priced = priced zone
 
 unfoldable pub values_priced : Book → List (List ℕ) → Request → ℕ → ℕ → Pricing
 values_priced book rates request distribution transmission =
     in_zone (zone_found 0 book.zones book.zone_numbers request.zone)
     (λ zone. priced_at book (get_or rates zone []) request distribution transmission)
 
-abbrev pub if_stands : FileAnswer → Pricing → Pricing
-if_stands Stands priced = priced
-if_stands (Refused r) priced = NotPriced r
+abbrev pub if_stands : {Values : Type 0} → Result Values Refusal → (Values → Pricing) → Pricing
+if_stands (Ok values) priced = priced values
+if_stands (Err r) priced = Err r
 
 -- the year-one revenues are the request's
 unfoldable pub request_priced : Book → List (List ℕ) → List ℕ → Pricing
 request_priced book rates file =
-    let read = request_of 2 file in
-    if_stands read.answer
-    (values_priced book rates read.request read.request.distribution_revenue read.request.transmission_revenue)
+    if_stands (request_of 2 file) (λ request. values_priced book rates request request.distribution_revenue request.transmission_revenue)
 
 unfoldable pub price_of : List ℕ → List ℕ → Pricing
-price_of book_file request_file =
-    let read = book_of 1 book_file in
-    if_stands read.answer (request_priced read.book (zone_rates (fields_part book_file)) request_file)
+price_of book_file request_file = if_stands (book_of 1 book_file) (λ book. request_priced book (zone_rates (fields_part book_file)) request_file)

@@ -1,26 +1,27 @@
 // The pricing call: a rate book and a request in, the reconciliation or a refusal out.
 #![tactic(auto)]
 
-ghost use Rattle.std.specs.Prelude.{◌≡◌, ◌+◌, ◌<◌, ◌≤◌};
-ghost use Rattle.tagged.specs.File.{refusal};
+ghost use Rattle.std.specs.Prelude.{◌≡◌, ◌<◌, ◌≤◌, ◌==◌, length, position};
 ghost use Rattle.capacity.specs.CapacityLimits.{TiersWithin};
 ghost use Rattle.rate_book.specs.BookLimits.{BookWithin};
 ghost use Rattle.book_zones.specs.ZoneLimits.{RatesWithin};
 ghost use Rattle.request.specs.RequestLimits.{RequestWithin};
 ghost use Rattle.field_values.specs.Limits.{most_zones, highest_revenue};
 ghost use Rattle.revenue.specs.RevenueLimits.{highest_incremental_revenue};
-ghost use Rattle.charge.specs.Price.{zone_found, incremental_revenue_of, bill_of, values_priced, request_priced, price_of, ZoneBelow};
+ghost use Rattle.revenue.specs.Revenue.{StreamWithin};
+ghost use Rattle.charge.specs.Price.{zone_found, distribution_of, transmission_of, incremental_revenue_of, bill_of, values_priced, request_priced, price_of, ZoneBelow};
 
-use capacity::{BespokeRates, Tiers};
-use field_values::limits::{MOST_ZONES, Rates};
+use capacity::Tiers;
+use field_values::limits::Rates;
 use rate_book::book::Book;
 use reconciliation::{Costs, Reconciliation};
 use request::values::Request;
 use revenue::{Stream, TRANSMISSION_OPEX_FACTOR};
-use tagged::file::{FileAnswer, Refusal};
+use tagged::file::Refusal;
 use tagged::refusals::{BESPOKE_NOT_ALLOWED, ZONE_NOT_IN_BOOK};
 
 // What a scheme that opens takes from the book.
+// A type beside that of the book's field 06: the definitions of the calls and of the history name a bill's terms by this one.
 #[derive(Clone, Copy)]
 pub struct Terms {
     pub threshold: u32,
@@ -30,6 +31,7 @@ pub struct Terms {
 }
 
 // Who asks for the connection, when, for how much capacity, and in which scheme.
+// Scheme (0 for none) and mark are the request's numbers: a request is priced with any of them.
 #[derive(Clone, Copy)]
 pub struct Applicant {
     pub person: u32,
@@ -46,46 +48,61 @@ pub struct Bill {
     pub applicant: Applicant,
 }
 
+// The two streams of a connection's revenue.
 #[derive(Clone, Copy)]
-pub enum Pricing {
-    Priced(Bill),
-    NotPriced(Refusal),
+pub struct Streams {
+    pub distribution: Stream,
+    pub transmission: Stream,
 }
 
-#[derive(Clone, Copy)]
-enum Zone {
-    At(usize),
-    NotInBook,
-}
+// The bill, or why there is none.
+pub type Pricing = Result<Bill, Refusal>;
 
-fn not_priced(number: u8, file: u8, place: usize) -> Pricing
-    ensures { result ≡ Pricing.NotPriced (refusal number file place) }
+fn place_of(numbers: &[u16], number: u16) -> Option<usize>
+    ensures value { result ≡ position (λ listed. listed == number) numbers.now }
+    ensures within { ZoneBelow (length numbers.now) result }
 {
-    Pricing::NotPriced(Refusal {
-        number,
-        file,
-        place,
-    })
+    numbers.iter().position(|listed| *listed == number)
 }
 
 // The row of a zone among the book's zones.
-#[tactic(auto, unfolding(crate::specs::Price::zone_found))]
-fn zone_found(numbers: [u16; MOST_ZONES], zones: usize, number: u16) -> Zone
-    requires { zones ≤ most_zones }
-    ensures value { result ≡ zone_found 0 zones numbers number }
-    ensures zone_below { ZoneBelow zones result }
+fn zone_found(book: &Book, number: u16) -> Option<usize>
+    requires { book.now.zones ≤ most_zones }
+    ensures value { result ≡ zone_found 0 book.now.zones book.now.zone_numbers number }
+    ensures zone_below { ZoneBelow book.now.zones result }
 {
-    let mut zone: usize = 0;
-    while zone < zones {
-        if numbers[zone] == number {
-            return Zone::At(zone);
-        }
-        zone += 1;
-    }
-    Zone::NotInBook
+    place_of(&book.zone_numbers[..book.zones], number)
 }
 
-// IR, with the year-one revenues of distribution and transmission as handed over.
+// The streams of distribution and transmission, with their year-one revenues as handed over.
+// The two revenues as plain numbers within field 08's limit: a pair would be taken apart at once.
+pub fn streams_of(book: Book, request: Request, distribution: u32, transmission: u32) -> Streams
+    requires { BookWithin book × RequestWithin request × (distribution ≤ highest_revenue) × (transmission ≤ highest_revenue) }
+    ensures distribution { result.distribution ≡ distribution_of book request distribution }
+    ensures transmission { result.transmission ≡ transmission_of book request transmission }
+    ensures within { StreamWithin result.distribution × StreamWithin result.transmission }
+{
+    let distributed = Stream {
+        revenue: distribution,
+        opex_factor: revenue::distribution_opex_factor(request.class, book.opex, book.revenue),
+        part_year: request.part_year,
+        revenue_factors: book.distribution,
+        tariff_factors: request.distribution_tariff,
+    };
+    let transmitted = Stream {
+        revenue: transmission,
+        opex_factor: TRANSMISSION_OPEX_FACTOR,
+        part_year: request.part_year,
+        revenue_factors: book.transmission,
+        tariff_factors: request.transmission_tariff,
+    };
+    Streams {
+        distribution: distributed,
+        transmission: transmitted,
+    }
+}
+
+// IR over the years 0 to life.
 pub fn incremental_revenue_of(
     book: Book,
     request: Request,
@@ -95,49 +112,26 @@ pub fn incremental_revenue_of(
     requires { BookWithin book × RequestWithin request × (distribution ≤ highest_revenue) × (transmission ≤ highest_revenue) }
     ensures { (result ≡ incremental_revenue_of book request distribution transmission) × (result ≤ highest_incremental_revenue) }
 {
-    let part_year = request.part_year;
-    let distribution_factors = book.distribution;
-    let distribution_tariff = request.distribution_tariff;
-    let transmission_factors = book.transmission;
-    let transmission_tariff = request.transmission_tariff;
-    let distributed = Stream {
-        revenue: distribution,
-        opex_factor: revenue::distribution_opex_factor(request.class, book.opex, book.revenue),
-        part_year,
-        revenue_factors: distribution_factors,
-        tariff_factors: distribution_tariff,
-    };
-    let transmitted = Stream {
-        revenue: transmission,
-        opex_factor: TRANSMISSION_OPEX_FACTOR,
-        part_year,
-        revenue_factors: transmission_factors,
-        tariff_factors: transmission_tariff,
-    };
-    revenue::incremental_revenue(
-        distributed,
-        transmitted,
-        book.rate,
-        revenue::life_of(request.class),
-    )
+    let streams = streams_of(book, request, distribution, transmission);
+    let life = revenue::life_of(request.class);
+    revenue::incremental_revenue(streams.distribution, streams.transmission, book.rate, life)
 }
 
 // The bill of a request whose tiers' rates are known.
+// Figure by figure: book and request are flat, and a bill takes a part of each.
 fn bill_of(book: Book, tiers: Tiers, request: Request, ir: u64) -> Bill
     requires { BookWithin book × TiersWithin tiers × RequestWithin request × (ir ≤ highest_incremental_revenue) }
     ensures { result ≡ bill_of book tiers request ir }
 {
-    let demands = request.demands;
-    let added = request.added_demands;
     let costs = Costs {
-        me: request.me as u64,
-        mc: capacity::capacity_cost(tiers, demands),
-        ce: request.ce as u64,
-        cc2: capacity::capacity_cost(tiers, added),
-        de: request.de as u64,
-        tw: request.tw as u64,
-        hr: request.hr as u64,
-        ol: request.ol as u64,
+        me: u64::from(request.me),
+        mc: tiers.capacity_cost(&request.demands),
+        ce: u64::from(request.ce),
+        cc2: tiers.capacity_cost(&request.added_demands),
+        de: u64::from(request.de),
+        tw: u64::from(request.tw),
+        hr: u64::from(request.hr),
+        ol: u64::from(request.ol),
     };
     Bill {
         reconciliation: reconciliation::reconcile(costs, ir, book.charged, book.share),
@@ -158,6 +152,7 @@ fn bill_of(book: Book, tiers: Tiers, request: Request, ir: u64) -> Bill
 }
 
 // The pricing of values that were read: 4, 5, or the bill.
+// Row by row: modes and bespoke rates are the request's, posted rates the book's.
 #[tactic(auto, unfolding(crate::specs::Price::values_priced))]
 pub fn price_values(
     book: Book,
@@ -169,29 +164,22 @@ pub fn price_values(
     requires { BookWithin book × RatesWithin rates book.zones × RequestWithin request × (distribution ≤ highest_revenue) × (transmission ≤ highest_revenue) }
     ensures { result ≡ values_priced book rates request distribution transmission }
 {
-    let numbers = book.zone_numbers;
-    let found = zone_found(numbers, book.zones, request.zone);
-    match found {
-        Zone::NotInBook => not_priced(ZONE_NOT_IN_BOOK, 2, 0),
-        Zone::At(zone) => {
-            let modes = request.modes;
-            let posted = rates[zone];
-            let bespoke = request.bespoke_rates;
-            let tiers = Tiers {
-                modes,
-                posted,
-                bespoke,
-            };
-            let allowed = capacity::first_not_allowed(tiers);
-            match allowed {
-                BespokeRates::NotAllowed(tier) => not_priced(BESPOKE_NOT_ALLOWED, 2, tier),
-                BespokeRates::Allowed => {
-                    let ir = incremental_revenue_of(book, request, distribution, transmission);
-                    Pricing::Priced(bill_of(book, tiers, request, ir))
-                }
-            }
-        }
+    let Some(zone) = zone_found(&book, request.zone) else {
+        return Err(Refusal::of_file(ZONE_NOT_IN_BOOK, 2, 0));
+    };
+    let modes = request.modes;
+    let posted = rates[zone];
+    let bespoke = request.bespoke_rates;
+    let tiers = Tiers {
+        modes,
+        posted,
+        bespoke,
+    };
+    if let Some(tier) = tiers.first_not_allowed() {
+        return Err(Refusal::of_file(BESPOKE_NOT_ALLOWED, 2, tier));
     }
+    let ir = incremental_revenue_of(book, request, distribution, transmission);
+    Ok(bill_of(book, tiers, request, ir))
 }
 
 // The pricing of a request file by the values of a book.
@@ -200,39 +188,24 @@ fn price_request(book: Book, rates: Rates, request: &[u8]) -> Pricing
     requires { BookWithin book × RatesWithin rates book.zones }
     ensures { result ≡ request_priced book rates request.now }
 {
-    let read = request::values::read_request(2, request);
-    let answer = read.answer;
-    match answer {
-        FileAnswer::Refused(refusal) => Pricing::NotPriced(refusal),
-        FileAnswer::Stands => {
-            let values = read.request;
-            price_values(
-                book,
-                rates,
-                values,
-                values.distribution_revenue,
-                values.transmission_revenue,
-            )
-        }
-    }
+    let values = request::values::read_request(2, request)?;
+    price_values(
+        book,
+        rates,
+        values,
+        values.distribution_revenue,
+        values.transmission_revenue,
+    )
 }
 
 // The reconciliation of a request by a rate book, or the refusal: book, request, 4, 5.
-#[tactic(auto, unfolding(crate::specs::Price::price_of))]
+// Book and request stay two parameters from here down, as C hands over two files, each with its own name.
+#[tactic(auto, unfolding(crate::specs::Price::price_of, rate_book::specs::Book::book_of))]
 pub fn price(book: &[u8], request: &[u8]) -> Pricing
     ensures { result ≡ price_of book.now request.now }
 {
-    let standing = book_zones::rows::book_stands(1, book);
-    match standing {
-        FileAnswer::Refused(refusal) => Pricing::NotPriced(refusal),
-        FileAnswer::Stands => {
-            let rates = book_zones::zones::zone_rates(tagged::file::fields_part(book));
-            let read = rate_book::book::read_walked_book(1, book, rates);
-            let answer = read.answer;
-            match answer {
-                FileAnswer::Refused(refusal) => Pricing::NotPriced(refusal),
-                FileAnswer::Stands => price_request(read.book, rates, request),
-            }
-        }
-    }
+    book_zones::rows::book_stands(1, book)?;
+    let rates = book_zones::zones::zone_rates(tagged::file::fields_part(book));
+    let values = rate_book::book::read_walked_book(1, book, rates)?;
+    price_request(values, rates, request)
 }

@@ -4,7 +4,7 @@
 
 mod table;
 
-ghost use Rattle.std.specs.Prelude.{◌≡◌, true, ◌≤◌};
+ghost use Rattle.std.specs.Prelude.{◌≡◌, true, ◌≤◌, length};
 ghost use Rattle.discount.specs.DiscountLimits.{last_year};
 ghost use Rattle.discount.specs.Discount.{FactorsUntil};
 ghost use Rattle.discount_table.specs.DiscountTable.{lowest_table_rate, table_follows};
@@ -15,35 +15,29 @@ use table::FACTORS;
 // The rates 300 to 600 in steps of 25.
 const TABLE_RATES: usize = 13;
 
-// The table, tested as a whole.
-fn factor_table() -> [DiscountFactors; TABLE_RATES]
-    ensures { table_follows lowest_table_rate result ≡ true }
+const LOWEST_TABLE_RATE: u16 = 300;
+
+const TABLE_RATE_STEP: u16 = 25;
+
+// The table, tested as a whole. A reference: by value each pricing would copy the table to the stack.
+fn factor_table() -> &'static [DiscountFactors; TABLE_RATES]
+    ensures follows { table_follows lowest_table_rate result.now ≡ true }
+    ensures rows { length result.now ≡ 13 }
 {
-    FACTORS
+    &FACTORS
 }
 
-// The discount factors of the years 0 to life. An arm for each rate of the table takes out its row
-// alone; by a computed row the whole table would be copied for each pricing.
-#[tactic(auto, using(crate::proofs::Rows::row_factors))]
+// The discount factors of the years 0 to life: the row of a rate of the table, or computed.
+#[tactic(auto, using(crate::proofs::Theorems::DiscountTable::factors_of_row))]
 pub fn factors_of(b: u16, life: usize) -> DiscountFactors
     requires { life ≤ last_year }
     ensures { FactorsUntil b life result }
 {
-    let rows = factor_table();
-    match b {
-        300 => rows[0],
-        325 => rows[1],
-        350 => rows[2],
-        375 => rows[3],
-        400 => rows[4],
-        425 => rows[5],
-        450 => rows[6],
-        475 => rows[7],
-        500 => rows[8],
-        525 => rows[9],
-        550 => rows[10],
-        575 => rows[11],
-        600 => rows[12],
-        _ => discount::factors_until(b, life),
+    if b >= LOWEST_TABLE_RATE && (b - LOWEST_TABLE_RATE) % TABLE_RATE_STEP == 0 {
+        let row = usize::from((b - LOWEST_TABLE_RATE) / TABLE_RATE_STEP);
+        if row < TABLE_RATES {
+            return factor_table()[row];
+        }
     }
+    discount::factors_until(b, life)
 }

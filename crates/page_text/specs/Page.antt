@@ -1,14 +1,15 @@
 -- Document 02, E1, "The reconciliation as a page": the bytes that are written for a pricing.
-use Rattle.std.specs.Prelude.{ℕ, zero, suc, ◌+◌, ◌-◌, ◌/◌, ◌%◌, ◌≡◌, cond, length, drop, replicate, ltb, ℤ, pos, negsuc}
+use Rattle.std.specs.Prelude.{ℕ, zero, suc, ◌+◌, ◌-◌, ◌/◌, ◌%◌, ◌≡◌, cond, length, drop, replicate, ltb, ℤ, pos, negsuc, Err, Ok, Result}
 use mathlib.Core.List.{List, [], ◌∷◌, ◌++◌, map, flatten}
 use Rattle.tagged.specs.File.{refusal}
 use Rattle.tagged.specs.Refusals.{output_too_short}
 use Rattle.reconciliation.specs.declared.Reconciliation.{Reconciliation}
-use Rattle.charge.specs.declared.Pricing.{Pricing}
-use Rattle.charge.specs.declared.Pricing.TheVariants.{Priced, NotPriced}
-use Rattle.page_text.specs.declared.Columns.{Columns}
-use Rattle.page_text.specs.declared.PageWritten.{PageWritten}
-use Rattle.page_text.specs.declared.PageWritten.TheVariants.{Written, Refused}
+use Rattle.charge.specs.Price.{Pricing}
+use Rattle.tagged.specs.declared.file.Refusal.{Refusal}
+
+-- the page is written, or refused
+abbrev pub PageWritten : Type 0
+PageWritten = Result (Unit {0}) Refusal
 
 -- the last decimal digit of n
 abbrev pub digit : ℕ → ℕ
@@ -79,19 +80,13 @@ page_size = 768
 
 -- "(An output under 768 bytes is 14, after 5.)" A refusal leaves the output as it was, and so does a page what is past it.
 unfoldable pub page_written : Pricing → List ℕ → PageWritten
-page_written (NotPriced r) out = Refused r
-page_written (Priced bill) out = cond (ltb (length out) page_size) (Refused (refusal output_too_short 0 0)) Written
+page_written (Err r) out = Err r
+page_written (Ok bill) out = cond (ltb (length out) page_size) (Err (refusal output_too_short 0 0)) (Ok tt)
 
 unfoldable pub page_output : Pricing → List ℕ → List ℕ
-page_output (NotPriced r) out = out
-page_output (Priced bill) out =
+page_output (Err r) out = out
+page_output (Ok bill) out =
     cond (ltb (length out) page_size) out (page_of bill.reconciliation ++ drop page_size out)
-
--- ---- what the code holds on the way
-
--- the bytes of a line that are there
-abbrev pub text_in : Columns → List ℕ
-text_in columns = drop columns.start columns.bytes
 
 -- so many lines of 64 bytes
 abbrev pub Lines : ℕ → List (List ℕ) → Type 0

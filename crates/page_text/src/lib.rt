@@ -2,13 +2,14 @@
 // column to its first, since an amount is aligned to the right.
 #![tactic(auto)]
 
-ghost use Rattle.std.specs.Prelude.{◌≡◌, ◌+◌, ◌-◌, ◌/◌, ◌<◌, ◌≤◌, length, drop, replicate, pos};
-ghost use mathlib.Core.List.{[], ◌∷◌, ◌++◌, flatten};
+ghost use Rattle.std.specs.Prelude.{◌≡◌, ◌+◌, ◌/◌, ◌<◌, ◌≤◌, ℕ, List, length, drop};
+ghost use mathlib.Core.List.{[], ◌∷◌, ◌++◌};
 ghost use Rattle.charge.specs.Price.{price_of};
-ghost use Rattle.page_text.specs.Page.{digit, three_digits_of, first_group, dollars_text, cents_text, amount_text, line, page_lines, page_size, page_written, page_output, line_size, text_in, Lines};
+ghost use Rattle.page_text.specs.Page.{digit, three_digits_of, first_group, dollars_text, cents_text, amount_text, line, page_lines, page_of, page_size, page_written, page_output};
 
 use charge::Pricing;
 use reconciliation::Reconciliation;
+use std::marker::Model;
 use tagged::file::Refusal;
 use tagged::refusals::OUTPUT_TOO_SHORT;
 
@@ -19,162 +20,152 @@ const LINES: usize = 12;
 
 const LINE: usize = 64;
 
-// A line whose bytes are there from `start` on.
-#[derive(Clone, Copy)]
+// The end of a line: its bytes are there from `start` on.
+// A fixed line with its start: the firmware has no heap.
+#[derive(Drop)]
 struct Columns {
     bytes: [u8; LINE],
     start: usize,
 }
 
-#[derive(Clone, Copy)]
-pub enum PageWritten {
-    Written,
-    Refused(Refusal),
+impl Model for Columns {
+    ghost use Rattle.std.specs.Prelude.{ℕ, List, ◌≤◌, drop};
+
+    ghost Value = { List ℕ };
+
+    ghost view = { λ columns. drop columns.start columns.bytes };
+
+    ghost invariant = { λ columns. columns.start ≤ 64 };
 }
 
-// Byte 0A alone, the last of a line.
-fn last_column() -> Columns
-    ensures { (text_in result ≡ 10 ∷ []) × (result.start ≡ 63) }
-{
-    Columns {
-        bytes: [b'\n'; LINE],
-        start: LINE - 1,
+pub type PageWritten = Result<(), Refusal>;
+
+// Printed by hand and not by Display, which writes from the left and may fail.
+impl Columns {
+    // None of them.
+    fn new() -> Self
+        ensures { result ≡ [] }
+    {
+        Columns {
+            bytes: [b' '; LINE],
+            start: LINE,
+        }
+    }
+
+    fn push_front(&mut self, byte: u8)
+        requires { length self.old < 64 }
+        ensures { self.new ≡ byte ∷ self.old }
+    {
+        self.start -= 1;
+        self.bytes[self.start] = byte;
+    }
+
+    // The last decimal digit of n.
+    // One, two and three digits by a function each: a group has no more, and a loop would be no plainer.
+    fn push_digit(&mut self, n: u64)
+        requires { length self.old < 64 }
+        ensures { self.new ≡ digit n ∷ self.old }
+    {
+        self.push_front(b'0' + (n % 10) as u8);
+    }
+
+    // The last two.
+    fn push_two_digits(&mut self, n: u64)
+        requires { length self.old + 2 ≤ 64 }
+        ensures { self.new ≡ digit (n / 10) ∷ digit n ∷ self.old }
+    {
+        self.push_digit(n);
+        self.push_digit(n / 10);
+    }
+
+    // The last three.
+    fn push_three_digits(&mut self, n: u64)
+        requires { length self.old + 3 ≤ 64 }
+        ensures { self.new ≡ three_digits_of n self.old }
+    {
+        self.push_two_digits(n);
+        self.push_digit(n / 100);
+    }
+
+    // One to three digits, without a leading zero.
+    fn push_first_group(&mut self, n: u64)
+        requires { length self.old + 3 ≤ 64 }
+        ensures value { self.new ≡ first_group n self.old }
+        ensures within { length self.new ≤ length self.old + 3 }
+    {
+        if n < 10 {
+            self.push_digit(n);
+        } else if n < 100 {
+            self.push_two_digits(n);
+        } else {
+            self.push_three_digits(n);
+        }
+    }
+
+    // Dollars with a comma between thousands: at most 18 digits and 5 commas.
+    fn push_dollars(&mut self, dollars: u64)
+        requires { (length self.old + 23 ≤ 64) × (dollars < 1000000000000000000) }
+        ensures value { self.new ≡ dollars_text 5 dollars self.old }
+        ensures within { length self.new ≤ length self.old + 23 }
+    {
+        let mut thousands = dollars;
+        while thousands >= 1000 {
+            self.push_three_digits(thousands);
+            self.push_front(b',');
+            thousands /= 1000;
+        }
+        self.push_first_group(thousands);
     }
 }
 
-fn byte_before(columns: Columns, byte: u8) -> Columns
-    requires { (0 < columns.start) × (columns.start ≤ line_size) }
-    ensures { (text_in result ≡ byte ∷ text_in columns) × (result.start + 1 ≡ columns.start) }
-{
-    let at = columns.start - 1;
-    let mut longer = columns;
-    longer.bytes[at] = byte;
-    longer.start = at;
-    longer
-}
-
-// The last decimal digit of n.
-fn digit_before(columns: Columns, n: u64) -> Columns
-    requires { (0 < columns.start) × (columns.start ≤ line_size) }
-    ensures { (text_in result ≡ digit n ∷ text_in columns) × (result.start + 1 ≡ columns.start) }
-{
-    byte_before(columns, b'0' + (n % 10) as u8)
-}
-
-// The last two.
-fn two_digits_before(columns: Columns, n: u64) -> Columns
-    requires { (2 ≤ columns.start) × (columns.start ≤ line_size) }
-    ensures { (text_in result ≡ digit (n / 10) ∷ digit n ∷ text_in columns) × (result.start + 2 ≡ columns.start) }
-{
-    digit_before(digit_before(columns, n), n / 10)
-}
-
-// The last three.
-fn three_digits_before(columns: Columns, n: u64) -> Columns
-    requires { (3 ≤ columns.start) × (columns.start ≤ line_size) }
-    ensures { (text_in result ≡ three_digits_of n (text_in columns)) × (result.start + 3 ≡ columns.start) }
-{
-    digit_before(two_digits_before(columns, n), n / 100)
-}
-
-// One to three digits, without a leading zero.
-fn first_group_before(columns: Columns, n: u64) -> Columns
-    requires { (3 ≤ columns.start) × (columns.start ≤ line_size) }
-    ensures { (text_in result ≡ first_group n (text_in columns)) × (columns.start ≤ result.start + 3) × (result.start ≤ line_size) }
-{
-    if n < 10 {
-        return digit_before(columns, n);
-    }
-    if n < 100 {
-        return two_digits_before(columns, n);
-    }
-    three_digits_before(columns, n)
-}
-
-// Dollars with a comma between thousands: at most 18 digits and 5 commas.
-fn dollars_before(columns: Columns, dollars: u64) -> Columns
-    requires { (23 ≤ columns.start) × (columns.start ≤ line_size) × (dollars < 1000000000000000000) }
-    ensures { (text_in result ≡ dollars_text 5 dollars (text_in columns)) × (columns.start ≤ result.start + 23) × (result.start ≤ line_size) }
-{
-    let mut longer = columns;
-    let mut thousands = dollars;
-    while thousands >= 1000 {
-        longer = byte_before(three_digits_before(longer, thousands), b',');
-        thousands /= 1000;
-    }
-    first_group_before(longer, thousands)
-}
-
-// An amount that isn't below 0: at most 26 columns.
+// An amount that isn't below 0, with byte 0A behind it.
 fn unsigned_amount(cents: u64) -> Columns
-    ensures { (text_in result ≡ cents_text cents ++ 10 ∷ []) × (37 ≤ result.start) × (result.start ≤ line_size) }
+    ensures value { result ≡ cents_text cents ++ 10 ∷ [] }
+    ensures within { length result ≤ 27 }
 {
-    let decimals = byte_before(two_digits_before(last_column(), cents), b'.');
-    dollars_before(decimals, cents / 100)
+    let mut amount = Columns::new();
+    amount.push_front(b'\n');
+    amount.push_two_digits(cents);
+    amount.push_front(b'.');
+    amount.push_dollars(cents / 100);
+    amount
 }
 
 // "a leading minus where negative"
+// A function of its own: not every amount without a sign fits a number with one.
 fn signed_amount(cents: i64) -> Columns
-    ensures { (text_in result ≡ amount_text cents ++ 10 ∷ []) × (36 ≤ result.start) × (result.start ≤ line_size) }
+    ensures value { result ≡ amount_text cents ++ 10 ∷ [] }
+    ensures within { length result ≤ 28 }
 {
-    let size = unsigned_amount(slip_text::size(cents));
+    let mut amount = unsigned_amount(slip_text::size(cents));
     if cents < 0 {
-        return byte_before(size, b'-');
+        amount.push_front(b'-');
     }
-    size
+    amount
 }
 
-// Blanks in the columns from `until` on.
-fn blanks_before(columns: Columns, until: usize) -> Columns
-    requires { (until ≤ columns.start) × (columns.start ≤ line_size) }
-    ensures { (text_in result ≡ replicate (columns.start - until) 32 ++ text_in columns) × (result.start ≡ until) }
+// A line: a label at its start, an amount with byte 0A at its end, and blanks between.
+fn line(label: &[u8], columns: Columns) -> [u8; LINE]
+    requires { (length label.now ≤ 32) × (length columns ≤ 32) }
+    ensures { (amount : List ℕ) → columns ≡ amount ++ 10 ∷ [] → result ≡ line label.now amount }
 {
-    let mut longer = columns;
-    while longer.start > until {
-        longer = byte_before(longer, b' ');
-    }
-    longer
+    let mut line = columns.bytes;
+    line[..columns.start].fill(b' ');
+    line[..label.len()].copy_from_slice(label);
+    line
 }
 
-fn bytes_before(columns: Columns, bytes: &[u8]) -> Columns
-    requires { (columns.start ≡ length bytes.now) × (columns.start ≤ line_size) }
-    ensures { (text_in result ≡ bytes.now ++ text_in columns) × (result.start ≡ 0) }
-{
-    let mut longer = columns;
-    let mut left = bytes.len();
-    while left > 0 {
-        left -= 1;
-        longer = byte_before(longer, bytes[left]);
-    }
-    longer
-}
-
-// A line of these columns, with a label at its start and blanks between.
-fn labelled(label: &[u8], columns: Columns) -> [u8; LINE]
-    requires { (length label.now ≤ columns.start) × (columns.start ≤ line_size) }
-    ensures { result ≡ label.now ++ (replicate (columns.start - length label.now) 32 ++ text_in columns) }
-{
-    let spaced = blanks_before(columns, label.len());
-    let line = bytes_before(spaced, label);
-    line.bytes
-}
-
+// `inline(never)`: the columns of each amount would stay on the page's stack.
+#[inline(never)]
 fn unsigned_line(label: &[u8], cents: u64) -> [u8; LINE]
     requires { length label.now ≤ 32 }
-    ensures { result ≡ line label.now (amount_text (pos cents)) }
+    ensures { result ≡ line label.now (cents_text cents) }
 {
-    labelled(label, unsigned_amount(cents))
+    line(label, unsigned_amount(cents))
 }
 
-fn signed_line(label: &[u8], cents: i64) -> [u8; LINE]
-    requires { length label.now ≤ 32 }
-    ensures { result ≡ line label.now (amount_text cents) }
-{
-    labelled(label, signed_amount(cents))
-}
-
-fn page_lines(r: Reconciliation) -> [[u8; LINE]; LINES]
-    ensures { result ≡ page_lines r }
+fn page_lines(r: &Reconciliation) -> [[u8; LINE]; LINES]
+    ensures { result ≡ page_lines r.now }
 {
     [
         unsigned_line(b"ME", r.me),
@@ -187,21 +178,28 @@ fn page_lines(r: Reconciliation) -> [[u8; LINE]; LINES]
         unsigned_line(b"IC", r.ic),
         unsigned_line(b"IR", r.ir),
         unsigned_line(b"CC", r.cc),
-        signed_line(b"NIC", r.nic),
-        signed_line(b"NC", r.nc),
+        line(b"NIC", signed_amount(r.nic)),
+        line(b"NC", signed_amount(r.nc)),
     ]
 }
 
-// The lines, one behind the other, at the start of a lent output.
-fn write_lines(lines: [[u8; LINE]; LINES], out: &mut [u8])
-    requires { Lines 12 lines × (page_size ≤ length out.old) }
-    ensures { out.new ≡ flatten lines ++ drop page_size out.old }
+// The lines at the output's start. `inline(never)`: in a caller's frame they would stay on the stack
+// beside the pricing's.
+#[inline(never)]
+fn write_lines(r: &Reconciliation, out: &mut [u8])
+    requires { page_size ≤ length out.old }
+    ensures { out.new ≡ page_of r.now ++ drop page_size out.old }
 {
-    let mut i: usize = 0;
-    while i < PAGE {
-        out[i] = lines[i / LINE][i % LINE];
-        i += 1;
-    }
+    let lines = page_lines(r);
+    out[..PAGE].copy_from_slice(lines.as_flattened());
+}
+
+// `inline(never)`: in a caller's frame the pricing's own figures would stay on the stack below the lines.
+#[inline(never)]
+fn priced(book: &[u8], request: &[u8]) -> Pricing
+    ensures { result ≡ price_of book.now request.now }
+{
+    charge::price(book, request)
 }
 
 // The page of a request by a rate book at the start of a lent output, or the refusal: book, request,
@@ -211,19 +209,10 @@ pub fn page(book: &[u8], request: &[u8], out: &mut [u8]) -> PageWritten
     ensures value { result ≡ page_written (price_of book.now request.now) out.old }
     ensures out_after { out.new ≡ page_output (price_of book.now request.now) out.old }
 {
-    let pricing = charge::price(book, request);
-    match pricing {
-        Pricing::NotPriced(refusal) => PageWritten::Refused(refusal),
-        Pricing::Priced(bill) => {
-            if out.len() < PAGE {
-                return PageWritten::Refused(Refusal {
-                    number: OUTPUT_TOO_SHORT,
-                    file: 0,
-                    place: 0,
-                });
-            }
-            write_lines(page_lines(bill.reconciliation), out);
-            PageWritten::Written
-        }
+    let bill = priced(book, request)?;
+    if out.len() < PAGE {
+        return Err(Refusal::of_call(OUTPUT_TOO_SHORT));
     }
+    write_lines(&bill.reconciliation, out);
+    Ok(())
 }

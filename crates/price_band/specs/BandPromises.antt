@@ -1,13 +1,13 @@
 -- Document 02, E5: "For every pair of revenues inside the bands, the priced figures lie inside the given ones. Both ends are reached by some pair."
-use Rattle.std.specs.Prelude.{ℕ, ◌≤◌, ◌≡◌, List, ◌≤ℤ◌}
+use Rattle.std.specs.Prelude.{ℕ, ◌≤◌, ◌≡◌, List, ◌≤ℤ◌, Ok}
+use Rattle.std.specs.Result.{result_map_both}
 use Rattle.numbers.specs.BigEndian.{Bytes}
 use Rattle.tagged.specs.DiffersInField.{DiffersInField}
-use Rattle.request.specs.Request.{accepted_request, request_of}
+use Rattle.request.specs.Request.{request_of}
 use Rattle.request.specs.WithRevenues.{with_revenues}
 use Rattle.reconciliation.specs.declared.Reconciliation.{Reconciliation}
 use Rattle.charge.specs.Price.{price_of}
 use Rattle.charge.specs.declared.Bill.{Bill}
-use Rattle.charge.specs.declared.Pricing.TheVariants.{Priced}
 use Rattle.price_band.specs.declared.Bands.{Bands}
 use Rattle.price_band.specs.declared.Band.{Band}
 
@@ -21,7 +21,7 @@ pub record Inside (bands : Bands) (distribution transmission : ℕ) : Type 0 whe
 -- a file that reads as the request does, but for the two revenues of field 08
 abbrev pub ReadsWith : ℕ → ℕ → List ℕ → List ℕ → Type 0
 ReadsWith distribution transmission request_file other =
-    request_of 2 other ≡ accepted_request (with_revenues distribution transmission (request_of 2 request_file).request)
+    request_of 2 other ≡ result_map_both (with_revenues distribution transmission) (λ refusal. refusal) (request_of 2 request_file)
 
 -- the priced figures lie inside the given ones
 pub record Between (band : Band) (r : Reconciliation) : Type 0 where
@@ -34,7 +34,7 @@ pub record Between (band : Band) (r : Reconciliation) : Type 0 where
 
 pub record PricedBetween (book_file other : List ℕ) (band : Band) : Type 0 where
   pub bill : Bill
-  pub priced : price_of book_file other ≡ Priced bill
+  pub priced : price_of book_file other ≡ Ok bill
   pub between : Between band bill.reconciliation
 
 -- some request file, which differs from this one in field 08 and the check alone, with revenues inside the bands, is priced, and comes to this
@@ -47,7 +47,7 @@ pub record Reached (book_file request_file : List ℕ) (bands : Bands) (comes_to
   pub inside : Inside bands distribution transmission
   pub reads : ReadsWith distribution transmission request_file other
   pub bill : Bill
-  pub priced : price_of book_file other ≡ Priced bill
+  pub priced : price_of book_file other ≡ Ok bill
   pub reached : comes_to bill.reconciliation
 
 pub record EndsReached (book_file request_file : List ℕ) (bands : Bands) (band : Band) : Type 0 where

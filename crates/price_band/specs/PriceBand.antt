@@ -1,5 +1,5 @@
 -- Document 02, E5, "Usage known only between two figures": lowest and highest IR, CC and NC, from the bytes of the two files and the four figures alone.
-use Rattle.std.specs.Prelude.{ℕ, List, [], ◌∷◌, Bool, false, cond, leb, ℤ, pos}
+use Rattle.std.specs.Prelude.{ℕ, List, [], ◌∷◌, Bool, false, cond, leb, ℤ, pos, Err, Ok, Result}
 use Rattle.tagged.specs.File.{fields_part, refusal}
 use Rattle.tagged.specs.Refusals.{value_not_listed, low_above_high}
 use Rattle.field_values.specs.Limits.{highest_revenue}
@@ -7,12 +7,14 @@ use Rattle.book_zones.specs.Zones.{zone_rates}
 use Rattle.rate_book.specs.Book.{book_of}
 use Rattle.request.specs.Request.{request_of}
 use Rattle.reconciliation.specs.declared.Reconciliation.{Reconciliation}
-use Rattle.charge.specs.Price.{values_priced, price_of}
-use Rattle.charge.specs.declared.Pricing.{Pricing}
+use Rattle.charge.specs.Price.{if_stands, values_priced, price_of, Pricing}
 use Rattle.price_band.specs.declared.Bands.{Bands}
 use Rattle.price_band.specs.declared.Band.{Band}
-use Rattle.price_band.specs.declared.BandPricing.{BandPricing}
-use Rattle.price_band.specs.declared.BandPricing.TheVariants.{Priced, NotPriced}
+use Rattle.tagged.specs.declared.file.Refusal.{Refusal}
+
+-- the band, or why there is none
+abbrev pub BandPricing : Type 0
+BandPricing = Result Band Refusal
 
 -- "four figures that stand in for field 08": none is past that field's limit
 abbrev pub within_limits : Bands → Bool
@@ -32,13 +34,14 @@ low_to_high bands =
 abbrev pub if_bands : Bands → BandPricing → BandPricing
 if_bands bands band =
     cond (within_limits bands)
-    (cond (low_to_high bands) band (NotPriced (refusal low_above_high 0 0)))
-    (NotPriced (refusal value_not_listed 0 0))
+    (cond (low_to_high bands) band (Err (refusal low_above_high 0 0)))
+    (Err (refusal value_not_listed 0 0))
 
 -- what the request comes to with these year-one revenues in place of its own
 abbrev pub priced_with : List ℕ → List ℕ → ℕ → ℕ → Pricing
 priced_with book_file request_file distribution transmission =
-    values_priced (book_of 1 book_file).book (zone_rates (fields_part book_file)) (request_of 2 request_file).request distribution transmission
+    if_stands (book_of 1 book_file)
+    (λ book. if_stands (request_of 2 request_file) (λ request. values_priced book (zone_rates (fields_part book_file)) request distribution transmission))
 
 -- "It gives lowest and highest IR, CC and NC." IR and NC never fall with a revenue, and CC never rises.
 abbrev pub band_between : Reconciliation → Reconciliation → Band
@@ -54,9 +57,9 @@ band_between low high =
 
 -- of the pricings with both lows and with both highs; 4 and 5 don't go by the revenues, so that neither is refused where the request is priced
 abbrev pub between_pricings : Pricing → Pricing → BandPricing
-between_pricings (Pricing.NotPriced r) high = NotPriced r
-between_pricings (Pricing.Priced low) (Pricing.NotPriced r) = NotPriced r
-between_pricings (Pricing.Priced low) (Pricing.Priced high) = Priced (band_between low.reconciliation high.reconciliation)
+between_pricings (Err r) high = Err r
+between_pricings (Ok low) (Err r) = Err r
+between_pricings (Ok low) (Ok high) = Ok (band_between low.reconciliation high.reconciliation)
 
 abbrev pub band_at_ends : List ℕ → List ℕ → Bands → BandPricing
 band_at_ends book_file request_file bands =
@@ -66,8 +69,8 @@ band_at_ends book_file request_file bands =
 
 -- book, request, 4 and 5 as the request itself is refused, its own field 08 included
 abbrev pub if_priced : Pricing → BandPricing → BandPricing
-if_priced (Pricing.NotPriced r) band = NotPriced r
-if_priced (Pricing.Priced bill) band = band
+if_priced (Err r) band = Err r
+if_priced (Ok bill) band = band
 
 unfoldable pub band_of : List ℕ → List ℕ → Bands → BandPricing
 band_of book_file request_file bands = if_priced (price_of book_file request_file) (if_bands bands (band_at_ends book_file request_file bands))

@@ -3,17 +3,15 @@
 #![tactic(auto)]
 
 ghost use Rattle.std.specs.Prelude.{◌≡◌, true, ◌≤◌};
-ghost use Rattle.tagged.specs.File.{refusal};
 ghost use Rattle.field_values.specs.Limits.{highest_revenue};
 ghost use Rattle.rate_book.specs.BookLimits.{BookWithin};
 ghost use Rattle.request.specs.RequestLimits.{RequestWithin};
 ghost use Rattle.reconciliation.specs.FigureLimits.{CostsWithin};
 ghost use Rattle.charge.specs.Price.{price_of};
-ghost use Rattle.charge.specs.declared.Pricing.TheVariants.{Priced};
-ghost use Rattle.price_band.specs.PriceBand.{within_limits, low_to_high, band_between, if_bands, band_at_ends, band_of};
+ghost use Rattle.price_band.specs.PriceBand.{within_limits, low_to_high, band_between, band_at_ends, band_of};
 ghost use Rattle.price_band.specs.EndCosts.{end_costs, end_reconciliation};
 
-use charge::{Bill, Pricing};
+use charge::Bill;
 use field_values::limits::HIGHEST_REVENUE;
 use rate_book::book::Book;
 use reconciliation::{Costs, Reconciliation};
@@ -22,6 +20,7 @@ use tagged::file::{Refusal, fields_part};
 use tagged::refusals::{LOW_ABOVE_HIGH, VALUE_NOT_LISTED};
 
 // Year-one revenue of distribution and of transmission, each known only between two figures.
+// Lowest and highest by two fields, as in the band: C hands over the one and reads the other so.
 #[derive(Clone, Copy)]
 pub struct Bands {
     pub distribution_low: u64,
@@ -40,50 +39,32 @@ pub struct Band {
     pub highest_nc: i64,
 }
 
-#[derive(Clone, Copy)]
-pub enum BandPricing {
-    Priced(Band),
-    NotPriced(Refusal),
-}
+// The band, or why there is none.
+pub type BandPricing = Result<Band, Refusal>;
 
 // Field 08's limit, as wide as the figures.
 const HIGHEST_FIGURE: u64 = HIGHEST_REVENUE as u64;
 
-fn within_limits(bands: Bands) -> bool
-    ensures { result ≡ within_limits bands }
-{
-    if bands.distribution_low > HIGHEST_FIGURE {
-        return false;
+impl Bands {
+    fn within_limits(&self) -> bool
+        ensures { result ≡ within_limits self.now }
+    {
+        self.distribution_low <= HIGHEST_FIGURE
+            && self.distribution_high <= HIGHEST_FIGURE
+            && self.transmission_low <= HIGHEST_FIGURE
+            && self.transmission_high <= HIGHEST_FIGURE
     }
-    if bands.distribution_high > HIGHEST_FIGURE {
-        return false;
-    }
-    if bands.transmission_low > HIGHEST_FIGURE {
-        return false;
-    }
-    bands.transmission_high <= HIGHEST_FIGURE
-}
 
-fn low_to_high(bands: Bands) -> bool
-    ensures { result ≡ low_to_high bands }
-{
-    if bands.distribution_low > bands.distribution_high {
-        return false;
+    fn low_to_high(&self) -> bool
+        ensures { result ≡ low_to_high self.now }
+    {
+        self.distribution_low <= self.distribution_high
+            && self.transmission_low <= self.transmission_high
     }
-    bands.transmission_low <= bands.transmission_high
-}
-
-fn not_priced(number: u8) -> BandPricing
-    ensures { result ≡ BandPricing.NotPriced (refusal number 0 0) }
-{
-    BandPricing::NotPriced(Refusal {
-        number,
-        file: 0,
-        place: 0,
-    })
 }
 
 // The costs of a bill; the distributor's enhancement is in none of the band's figures.
+// By name and no From, since it leaves a cost out.
 fn end_costs(r: Reconciliation) -> Costs
     ensures { result ≡ end_costs r }
 {
@@ -135,8 +116,8 @@ fn band_between(low: Reconciliation, high: Reconciliation) -> Band
 
 // The band of a request that is priced: its files stand, so that their values are read without a further test.
 fn band_of_bill(book: &[u8], request: &[u8], bill: Bill, bands: Bands) -> Band
-    requires { (price_of book.now request.now ≡ Priced bill) × (within_limits bands ≡ true) }
-    ensures { BandPricing.Priced result ≡ band_at_ends book.now request.now bands }
+    requires { (price_of book.now request.now ≡ Ok bill) × (within_limits bands ≡ true) }
+    ensures { Ok result ≡ band_at_ends book.now request.now bands }
 {
     let values = rate_book::book::book_values(fields_part(book));
     let asked = request::values::request_values(fields_part(request));
@@ -158,29 +139,18 @@ fn band_of_bill(book: &[u8], request: &[u8], bill: Bill, bands: Bands) -> Band
     band_between(low, high)
 }
 
-// 3, 15 or the band of a request that is priced.
-fn judged_band(book: &[u8], request: &[u8], bill: Bill, bands: Bands) -> BandPricing
-    requires { price_of book.now request.now ≡ Priced bill }
-    ensures { result ≡ if_bands bands (band_at_ends book.now request.now bands) }
-{
-    if !within_limits(bands) {
-        return not_priced(VALUE_NOT_LISTED);
-    }
-    if !low_to_high(bands) {
-        return not_priced(LOW_ABOVE_HIGH);
-    }
-    BandPricing::Priced(band_of_bill(book, request, bill, bands))
-}
-
 // Lowest and highest IR, CC and NC of a request by a rate book, with these bands in place of field 08,
 // or the refusal: book, request, 4, 5, then 3 and 15 for the bands.
 #[tactic(auto, unfolding(crate::specs::PriceBand::band_of))]
 pub fn price_band(book: &[u8], request: &[u8], bands: Bands) -> BandPricing
     ensures { result ≡ band_of book.now request.now bands }
 {
-    let pricing = charge::price(book, request);
-    match pricing {
-        Pricing::NotPriced(refusal) => BandPricing::NotPriced(refusal),
-        Pricing::Priced(bill) => judged_band(book, request, bill, bands),
+    let bill = charge::price(book, request)?;
+    if !bands.within_limits() {
+        return Err(Refusal::of_call(VALUE_NOT_LISTED));
     }
+    if !bands.low_to_high() {
+        return Err(Refusal::of_call(LOW_ABOVE_HIGH));
+    }
+    Ok(band_of_bill(book, request, bill, bands))
 }

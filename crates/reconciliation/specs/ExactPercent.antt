@@ -1,8 +1,7 @@
 -- Document 02, E10: "100 × numerator = quotient × divisor + remainder, remainder from 0 to divisor − 1, also where NC is negative." What that says of a
 -- percentage, in integers, and how the rounded percentage follows from quotient and remainder.
-use Rattle.std.specs.Prelude.{ℕ, ◌+◌, ◌*◌, ◌<◌, ◌≡◌, Bool, true, false, cond, ◌&&◌, ◌||◌, ltb, eqb, ℤ, pos, negsuc, ◌+ℤ◌, ◌*ℤ◌}
-use Rattle.reconciliation.specs.declared.Percent.{Percent}
-use Rattle.reconciliation.specs.declared.Percent.TheVariants.{Whole, None}
+use Rattle.std.specs.Prelude.{ℕ, ◌+◌, ◌*◌, ◌<◌, ◌≡◌, Bool, true, false, cond, ◌&&◌, ◌||◌, ltb, eqb, ℤ, pos, negsuc, ◌+ℤ◌, ◌*ℤ◌, None, Some}
+use Rattle.reconciliation.specs.Percent.{Percent}
 use Rattle.reconciliation.specs.declared.Reconciliation.{Reconciliation}
 
 -- the quotient is 0 or more
@@ -22,7 +21,7 @@ pub record Divided (numerator : ℤ) (divisor : ℕ) (quotient : ℤ) (remainder
 
 -- nothing exactly where the divisor is 0
 abbrev pub Exact : ℤ → ℕ → Percent → Type 0
-Exact numerator divisor (Whole p) = Divided numerator divisor p.quotient p.remainder × (p.rounded ≡ rounded_from p.quotient p.remainder divisor)
+Exact numerator divisor (Some p) = Divided numerator divisor p.quotient p.remainder × (p.rounded ≡ rounded_from p.quotient p.remainder divisor)
 Exact numerator divisor None = divisor ≡ 0
 
 -- "CC/IC, CC/(CC+IR), NC/(CC+IR)"

@@ -1,12 +1,11 @@
 -- How high the figures of a reconciliation are, by the limits of what they come from.
-use Rattle.std.specs.Prelude.{ℕ, ◌+◌, ◌*◌, ◌≤◌, ◌<◌, ◌≡◌, pos, nat_abs, ◌-ℤ◌}
+use Rattle.std.specs.Prelude.{ℕ, ◌+◌, ◌*◌, ◌≤◌, ◌<◌, ◌≡◌, pos, nat_abs, ◌-ℤ◌, None, Some}
 use Rattle.field_values.specs.Limits.{highest_amount}
 use Rattle.revenue.specs.RevenueLimits.{highest_incremental_revenue}
 use Rattle.capacity.specs.CapacityLimits.{highest_capacity_cost}
 use Rattle.reconciliation.specs.declared.Reconciliation.{Reconciliation}
 use Rattle.reconciliation.specs.declared.Costs.{Costs}
-use Rattle.reconciliation.specs.declared.Percent.{Percent}
-use Rattle.reconciliation.specs.declared.Percent.TheVariants.{Whole, None}
+use Rattle.reconciliation.specs.Percent.{Percent}
 
 -- 2⁶³: an amount below it fits 64 bits with a sign
 abbrev pub signed_below : ℕ
@@ -15,10 +14,6 @@ signed_below = 9223372036854775808
 -- 200 times an amount below it, and another one, fit 64 bits
 abbrev pub percent_below : ℕ
 percent_below = 10000000000000000
-
--- M: ME and MC
-abbrev pub highest_m : ℕ
-highest_m = highest_amount + highest_capacity_cost
 
 -- IC: ME, CE, TW, HR and OL, with MC and CC2
 abbrev pub highest_incremental_cost : ℕ
@@ -41,11 +36,11 @@ pub record CostsWithin (costs : Costs) : Type 0 where
 
 -- a percentage is at most so many percent, up or down, rounded to the nearest as well as down
 abbrev pub PercentWithin : ℕ → Percent → Type 0
-PercentWithin limit (Whole p) = (nat_abs p.rounded ≤ limit) × (nat_abs p.quotient ≤ limit)
+PercentWithin limit (Some p) = (nat_abs p.rounded ≤ limit) × (nat_abs p.quotient ≤ limit)
 PercentWithin limit None = Unit {0}
 
 abbrev pub RemainderWithin : Percent → Type 0
-RemainderWithin (Whole p) = p.remainder < highest_divisor
+RemainderWithin (Some p) = p.remainder < highest_divisor
 RemainderWithin None = Unit {0}
 
 -- the limits that a ledger needs, and that every figure fits 64 bits with a sign

@@ -1,9 +1,11 @@
 -- Document 01, 'Charge and reconciliation': "Percentages: ..., nearest whole, halves away from zero; none where the divisor is 0." Document 02, E10: "Beside
 -- each rounded percentage, give the whole percent rounded down and the exact remainder".
-use Rattle.std.specs.Prelude.{ℕ, suc, ◌+◌, ◌*◌, ◌-◌, ◌/◌, ◌%◌, cond, ℤ, pos, negsuc, neg_ℤ, eqb}
+use Rattle.std.specs.Prelude.{ℕ, suc, ◌+◌, ◌*◌, ◌-◌, ◌/◌, ◌%◌, cond, ℤ, pos, negsuc, neg_ℤ, eqb, None, Some, Option}
 use Rattle.reconciliation.specs.declared.WholePercent.{WholePercent}
-use Rattle.reconciliation.specs.declared.Percent.{Percent}
-use Rattle.reconciliation.specs.declared.Percent.TheVariants.{Whole, None}
+
+-- none where the divisor is 0
+abbrev pub Percent : Type 0
+Percent = Option WholePercent
 
 -- the whole nearest to 100 n / divisor, halves up
 abbrev pub nearest : ℕ → ℕ → ℕ
@@ -32,4 +34,4 @@ abbrev pub whole_of : ℤ → ℕ → WholePercent
 whole_of n divisor = record { rounded = rounded n divisor; quotient = quotient_of n divisor; remainder = remainder_of n divisor }
 
 abbrev pub percent_of : ℤ → ℕ → Percent
-percent_of n divisor = cond (eqb divisor 0) None (Whole (whole_of n divisor))
+percent_of n divisor = cond (eqb divisor 0) None (Some (whole_of n divisor))

@@ -1,13 +1,12 @@
 // The charge, its reconciliation and its percentages, in whole cents.
 #![tactic(auto)]
 
-ghost use Rattle.std.specs.Prelude.{◌≡◌, ◌+◌, ◌*◌, ◌-◌, ◌<◌, ◌≤◌, min, pos, neg_ℤ, ◌-ℤ◌};
-ghost use Rattle.reconciliation.specs.Percent.{nearest, whole_of, percent_of};
-ghost use Rattle.reconciliation.specs.Reconciliation.{ic_of, m_of, credit_of, not_charged_of, reconciliation_of};
+ghost use Rattle.std.specs.Prelude.{◌≡◌, ◌*◌, ◌<◌, ◌≤◌, nat_abs, pos, ◌-ℤ◌};
+ghost use Rattle.reconciliation.specs.Percent.{nearest, percent_of};
+ghost use Rattle.reconciliation.specs.Reconciliation.{credit_of, reconciliation_of};
 ghost use Rattle.field_values.specs.Limits.{highest_share};
 ghost use Rattle.revenue.specs.RevenueLimits.{highest_incremental_revenue};
-ghost use Rattle.capacity.specs.CapacityLimits.{highest_capacity_cost};
-ghost use Rattle.reconciliation.specs.FigureLimits.{signed_below, percent_below, highest_m, highest_incremental_cost, CostsWithin};
+ghost use Rattle.reconciliation.specs.FigureLimits.{signed_below, percent_below, CostsWithin};
 
 // A whole number of percent: the nearest; and beside it the one rounded down, with what that leaves of 100 times the numerator.
 #[derive(Clone, Copy)]
@@ -17,12 +16,8 @@ pub struct WholePercent {
     pub remainder: u64,
 }
 
-#[derive(Clone, Copy)]
-pub enum Percent {
-    Whole(WholePercent),
-    // no percentage: the divisor is 0
-    None,
-}
+// None where the divisor is 0.
+pub type Percent = Option<WholePercent>;
 
 // The costs that a connection enters: minimum scheme extension, capacity, customer enhancement
 // extension, its capacity, distributor enhancement, transmission works, historical cost recovery,
@@ -64,6 +59,7 @@ pub struct Reconciliation {
     pub nc_ratio: Percent,
 }
 
+// No TryFrom: below 2 to the 63rd nothing fails, and there would be a failure to take apart.
 pub fn signed(x: u64) -> i64
     requires { x < signed_below }
     ensures { result ≡ pos x }
@@ -85,56 +81,25 @@ fn nearest_percent(n: u64, divisor: u64) -> u64
     (200 * n + divisor) / (2 * divisor)
 }
 
-fn not_negative_percent(n: u64, divisor: u64) -> WholePercent
-    requires { (n < percent_below) × ((divisor < percent_below) × (0 < divisor)) }
-    ensures { result ≡ whole_of (pos n) divisor }
-{
-    let whole = nearest_percent(n, divisor);
-    let hundredfold = 100 * n;
-    WholePercent {
-        rounded: signed(whole),
-        quotient: signed(hundredfold / divisor),
-        remainder: hundredfold % divisor,
-    }
-}
-
-// The percentage that -n is: its size rounded up, so that the quotient is rounded down.
-fn negative_percent(n: u64, divisor: u64) -> WholePercent
-    requires { ((0 < n) × (n < percent_below)) × ((divisor < percent_below) × (0 < divisor)) }
-    ensures { result ≡ whole_of (neg_ℤ (pos n)) divisor }
-{
-    let whole = nearest_percent(n, divisor);
-    let hundredfold = 100 * n;
-    let size = (hundredfold - 1) / divisor + 1;
-    let remainder = size * divisor - hundredfold;
-    WholePercent {
-        rounded: 0 - signed(whole),
-        quotient: 0 - signed(size),
-        remainder,
-    }
-}
-
-// The percentage that a difference is of a divisor.
-fn percent_of(a: u64, b: u64, divisor: u64) -> Percent
-    requires { (a < percent_below) × ((b < percent_below) × (divisor < percent_below)) }
-    ensures { result ≡ percent_of (pos a -ℤ pos b) divisor }
+// The percentage that a figure is of a divisor, rounded down also below 0.
+fn percent_of(n: i64, divisor: u64) -> Percent
+    requires { (nat_abs n < percent_below) × (divisor < percent_below) }
+    ensures { result ≡ percent_of n divisor }
 {
     if divisor == 0 {
-        return Percent::None;
+        return None;
     }
-    if b <= a {
-        return Percent::Whole(not_negative_percent(a - b, divisor));
-    }
-    Percent::Whole(negative_percent(b - a, divisor))
-}
-
-fn smaller(a: u64, b: u64) -> u64
-    ensures { result ≡ min a b }
-{
-    if a <= b { a } else { b }
+    let size = signed(nearest_percent(n.unsigned_abs(), divisor));
+    let hundredfold = 100 * n;
+    Some(WholePercent {
+        rounded: if n < 0 { -size } else { size },
+        quotient: hundredfold.div_euclid(signed(divisor)),
+        remainder: hundredfold.rem_euclid(signed(divisor)) as u64,
+    })
 }
 
 // The amount where a is 1, nothing where it is 0.
+// a is document 01's number, 1 or 0, by which its formulas multiply.
 fn times(a: u64, amount: u64) -> u64
     requires { a ≤ 1 }
     ensures { (result ≡ a * amount) × (result ≤ amount) }
@@ -143,66 +108,29 @@ fn times(a: u64, amount: u64) -> u64
 }
 
 // The credit for incremental revenue at a share in ten-thousandths.
+// IR and share are plain numbers with a limit each: a type for either would be opened at once.
 fn credit_of(ir: u64, share: u16) -> u64
     requires { (ir ≤ highest_incremental_revenue) × (share ≤ highest_share) }
     ensures { (result ≡ credit_of ir share) × (result ≤ ir) }
 {
-    ir * share as u64 / 10_000
-}
-
-// IC
-fn ic_of(costs: Costs) -> u64
-    requires { CostsWithin costs }
-    ensures { (result ≡ ic_of costs) × (result ≤ highest_incremental_cost) }
-{
-    costs.me + costs.mc + costs.ce + costs.cc2 + costs.tw + costs.hr + costs.ol
-}
-
-// M
-fn m_of(costs: Costs, a: u64) -> u64
-    requires { CostsWithin costs × (a ≤ 1) }
-    ensures { (result ≡ m_of costs a) × (result ≤ highest_m) }
-{
-    costs.me + times(a, costs.mc)
-}
-
-// CC, from what the credit leaves of M.
-fn cc_of(costs: Costs, a: u64, left: u64) -> u64
-    requires { CostsWithin costs × (a ≤ 1) × (left ≤ highest_m) }
-    ensures { (result ≡ left + costs.ce + a * costs.cc2 + costs.tw + costs.hr + costs.ol) × (result ≤ highest_incremental_cost) }
-{
-    left + costs.ce + times(a, costs.cc2) + costs.tw + costs.hr + costs.ol
-}
-
-// The capacity that isn't charged.
-fn not_charged_of(costs: Costs, a: u64) -> u64
-    requires { CostsWithin costs × (a ≤ 1) }
-    ensures { (result ≡ not_charged_of costs a) × (result ≤ 2 * highest_capacity_cost) }
-{
-    times(1 - a, costs.mc + costs.cc2)
-}
-
-// What a scheme that opens here costs.
-fn x_of(costs: Costs, credit: u64) -> u64
-    requires { CostsWithin costs }
-    ensures { result ≡ costs.me - min costs.me credit + costs.ce }
-{
-    costs.me - smaller(costs.me, credit) + costs.ce
+    ir * u64::from(share) / 10_000
 }
 
 // The reconciliation of a connection's costs with its incremental revenue; `charged` is a.
+// Seven costs go over by name: the eighth, the distributor's enhancement, is no figure of a reconciliation.
 pub fn reconcile(costs: Costs, ir: u64, charged: u8, share: u16) -> Reconciliation
     requires { CostsWithin costs × (ir ≤ highest_incremental_revenue) × (charged ≤ 1) × (share ≤ highest_share) }
     ensures { result ≡ reconciliation_of costs ir charged share }
 {
-    let a = charged as u64;
+    let a = u64::from(charged);
     let credit = credit_of(ir, share);
-    let m = m_of(costs, a);
-    let used = smaller(m, credit);
-    let ic = ic_of(costs);
-    let cc = cc_of(costs, a, m - used);
-    let not_charged = not_charged_of(costs, a);
+    let m = costs.me + times(a, costs.mc);
+    let used = m.min(credit);
+    let not_charged = times(1 - a, costs.mc + costs.cc2);
     let ic_borne = used + not_charged;
+    let ic = costs.me + costs.mc + costs.ce + costs.cc2 + costs.tw + costs.hr + costs.ol;
+    let cc = m - used + costs.ce + times(a, costs.cc2) + costs.tw + costs.hr + costs.ol;
+    let nc = minus(ir, ic_borne);
     Reconciliation {
         me: costs.me,
         mc: costs.mc,
@@ -215,12 +143,12 @@ pub fn reconcile(costs: Costs, ir: u64, charged: u8, share: u16) -> Reconciliati
         ir,
         cc,
         nic: minus(ic, ir),
-        nc: minus(ir, ic_borne),
-        x: x_of(costs, credit),
+        nc,
+        x: costs.me - costs.me.min(credit) + costs.ce,
         entered: ic + costs.de,
         borne: ic_borne + costs.de,
-        reliance: percent_of(cc, 0, ic),
-        upfront: percent_of(cc, 0, cc + ir),
-        nc_ratio: percent_of(ir, ic_borne, cc + ir),
+        reliance: percent_of(signed(cc), ic),
+        upfront: percent_of(signed(cc), cc + ir),
+        nc_ratio: percent_of(nc, cc + ir),
     }
 }

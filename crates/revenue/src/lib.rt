@@ -1,7 +1,7 @@
 // Incremental revenue: the lines charges of the years 0 to 30 at most, scaled and discounted year by year.
 #![tactic(auto)]
 
-ghost use Rattle.std.specs.Prelude.{◌≡◌, suc, ◌*◌, ◌<◌, ◌≤◌, min};
+ghost use Rattle.std.specs.Prelude.{◌≡◌, suc, ◌*◌, ◌<◌, ◌≤◌};
 ghost use Rattle.field_values.specs.FactorLimits.{FactorsWithin};
 ghost use Rattle.field_values.specs.Limits.{highest_factor, highest_revenue, sums_below};
 ghost use Rattle.discount.specs.DiscountLimits.{highest_discount};
@@ -15,7 +15,8 @@ use field_values::limits::SPECIAL_PRICING;
 pub const TRANSMISSION_OPEX_FACTOR: u16 = 10_000;
 
 // A stream of revenue, distribution or transmission: its year-one figure, its opex factor, and the
-// factor lists of its years.
+// factor lists of its years. It may hold any figures: their limits are asked where revenue is worked
+// out, and not of whoever makes a stream.
 #[derive(Clone, Copy)]
 pub struct Stream {
     pub revenue: u32,
@@ -26,6 +27,7 @@ pub struct Stream {
 }
 
 // The opex factor O of a rate book.
+// Opex and revenue as two plain numbers, as a book holds them: a pair would be taken apart at once.
 fn opex_factor(opex: u64, revenue: u64) -> u16
     requires { (opex ≤ revenue) × (0 < revenue) × (revenue < sums_below) }
     ensures { (result ≡ opex_factor opex revenue) × (result ≤ highest_opex_factor) }
@@ -34,6 +36,7 @@ fn opex_factor(opex: u64, revenue: u64) -> u16
 }
 
 // The opex factor of distribution, by the connection's class: special pricing has transmission's.
+// A class is the file's byte: an enum would take fewer values than this does.
 pub fn distribution_opex_factor(class: u8, opex: u64, revenue: u64) -> u16
     requires { (opex ≤ revenue) × (0 < revenue) × (revenue < sums_below) }
     ensures { (result ≡ distribution_opex_factor class opex revenue) × (result ≤ highest_opex_factor) }
@@ -50,54 +53,34 @@ pub fn factor_of(list: Factors, n: usize) -> u64
     requires { FactorsWithin list }
     ensures { (result ≡ factor_of list n) × (result ≤ highest_factor) }
 {
-    let values = list.values;
-    let place = smaller(n, list.count - 1);
-    wide(values[place])
-}
-
-fn smaller(a: usize, b: usize) -> usize
-    ensures { result ≡ min a b }
-{
-    if a < b { a } else { b }
-}
-
-fn wide(x: u16) -> u64
-    ensures { (result ≡ x) × (result < 65536) }
-{
-    x as u64
+    u64::from(list.values[n.min(list.count - 1)])
 }
 
 // Scales a revenue to which at most two factors, of at most 4 each, were applied before.
 fn scaled(x: u64, factor: u64) -> u64
     requires { (x ≤ 16 * highest_revenue) × (factor ≤ highest_factor) }
-    ensures { (result ≡ scaled x factor) × (result ≤ 4 * x) }
+    ensures value { result ≡ scaled x factor }
+    ensures within { result ≤ 4 * x }
+    ensures opex_taken { factor ≤ highest_opex_factor → result ≤ x }
 {
     x * factor / 10_000
 }
 
-// Revenue × O / 10,000.
-fn after_opex(stream: Stream) -> u64
-    requires { StreamWithin stream }
-    ensures { (result ≡ scaled stream.revenue stream.opex_factor) × (result ≤ highest_revenue) }
-{
-    scaled(stream.revenue as u64, stream.opex_factor as u64)
-}
-
-// The revenue of year n, whose discount factor is f, rounded down after each division.
-fn stream_year(stream: Stream, n: usize, f: u64) -> u64
-    requires { StreamWithin stream × (f ≤ highest_discount) }
-    ensures { (result ≡ stream_year stream n f) × (result ≤ highest_year_revenue) }
-{
-    let part_year = stream.part_year;
-    let revenue_factors = stream.revenue_factors;
-    let tariff_factors = stream.tariff_factors;
-    let net = after_opex(stream);
-    let of_year = scaled(net, factor_of(part_year, n));
-    let grown = scaled(of_year, factor_of(revenue_factors, n));
-    scaled(grown, factor_of(tariff_factors, n)) * f / 100_000_000
+impl Stream {
+    // The revenue of year n, whose discount factor is f, rounded down after each division.
+    fn year(&self, n: usize, f: u64) -> u64
+        requires { StreamWithin self.now × (f ≤ highest_discount) }
+        ensures { (result ≡ stream_year self.now n f) × (result ≤ highest_year_revenue) }
+    {
+        let net = scaled(u64::from(self.revenue), u64::from(self.opex_factor));
+        let of_year = scaled(net, factor_of(self.part_year, n));
+        let grown = scaled(of_year, factor_of(self.revenue_factors, n));
+        scaled(grown, factor_of(self.tariff_factors, n)) * f / 100_000_000
+    }
 }
 
 // The life of a connection in years, by its class.
+// By the file's byte as well, of which any has a life.
 pub fn life_of(class: u8) -> usize
     ensures { (result ≡ life_of class) × (result ≤ longest_life) }
 {
@@ -105,18 +88,17 @@ pub fn life_of(class: u8) -> usize
 }
 
 // IR: both streams over the years 0 to life.
-#[tactic(auto, using(crate::proofs::Years::years), unfolding(crate::specs::Revenue::incremental_revenue))]
+// The life is a plain number of years, as the discount table takes it: a type would hold it for one call.
+#[tactic(auto, unfolding(crate::specs::Revenue::incremental_revenue))]
 pub fn incremental_revenue(distribution: Stream, transmission: Stream, b: u16, life: usize) -> u64
     requires { StreamWithin distribution × StreamWithin transmission × (life ≤ longest_life) }
     ensures { (result ≡ incremental_revenue distribution transmission b (suc life)) × (result ≤ highest_incremental_revenue) }
 {
     let factors = discount_table::factors_of(b, life);
-    let mut sum: u64 = 0;
-    let mut n: usize = 0;
-    while n <= life {
-        let f = factors[n] as u64;
-        sum += stream_year(distribution, n, f) + stream_year(transmission, n, f);
-        n += 1;
+    let mut sum = 0;
+    for (n, factor) in factors[..=life].iter().enumerate() {
+        let f = u64::from(*factor);
+        sum += distribution.year(n, f) + transmission.year(n, f);
     }
     sum
 }

@@ -1,3 +1,2 @@
-pub mod Copying
 pub mod Lines
 pub mod Theorems

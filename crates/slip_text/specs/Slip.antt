@@ -1,21 +1,20 @@
 -- Document 01, 'The slip': "It writes, each line ended by byte 0A, cents, then the three percentages". "“none” is written `-`; a negative figure starts
 -- with `-`." "A refusal is the one line `REFUSED n file place`." Document 02, E10: "The slip gains three lines after NCRATIO, named RELIANCE-R, UPFRONT-R and
 -- NCRATIO-R, each with quotient, a blank, remainder; `-` where the divisor is 0."
-use Rattle.std.specs.Prelude.{ℕ, zero, suc, ◌+◌, ◌/◌, ◌%◌, cond, length, take, drop, ltb, ℤ, pos, negsuc}
+use Rattle.std.specs.Prelude.{ℕ, zero, suc, ◌+◌, ◌/◌, ◌%◌, cond, length, drop, ltb, ℤ, pos, negsuc, Err, None, Ok, Some, Result}
 use mathlib.Core.List.{List, [], ◌∷◌, ◌++◌, flatten}
 use Rattle.tagged.specs.File.{refusal}
 use Rattle.tagged.specs.Refusals.{output_too_short}
 use Rattle.tagged.specs.declared.file.Refusal.{Refusal}
-use Rattle.reconciliation.specs.declared.Percent.{Percent}
-use Rattle.reconciliation.specs.declared.Percent.TheVariants.{Whole, None}
+use Rattle.reconciliation.specs.Percent.{Percent}
 use Rattle.reconciliation.specs.declared.Reconciliation.{Reconciliation}
-use Rattle.charge.specs.declared.Pricing.{Pricing}
-use Rattle.charge.specs.declared.Pricing.TheVariants.{Priced, NotPriced}
-use Rattle.slip_text.specs.declared.Text.{Text}
+use Rattle.charge.specs.Price.{Pricing}
 use Rattle.slip_text.specs.declared.Figure.{Figure}
-use Rattle.slip_text.specs.declared.Figure.TheVariants.{Unsigned, Signed, Percentage}
-use Rattle.slip_text.specs.declared.SlipWritten.{SlipWritten}
-use Rattle.slip_text.specs.declared.SlipWritten.TheVariants.{Written, Refused}
+use Rattle.slip_text.specs.declared.Figure.TheVariants.{Unsigned, Signed, Rounded, Exact}
+
+-- how many bytes were written, or the refusal
+abbrev pub SlipWritten : Type 0
+SlipWritten = Result ℕ Refusal
 
 -- decimal digits without leading zeros; `most` bounds their number
 unfoldable pub decimal_from : ℕ → ℕ → List ℕ
@@ -35,12 +34,12 @@ signed_decimal (negsuc n) = 45 ∷ decimal (suc n)
 
 -- "none" is written `-`
 abbrev pub percent_text : Percent → List ℕ
-percent_text (Whole p) = signed_decimal p.rounded
+percent_text (Some p) = signed_decimal p.rounded
 percent_text None = 45 ∷ []
 
 -- "quotient, a blank, remainder; `-` where the divisor is 0"
 abbrev pub exact_text : Percent → List ℕ
-exact_text (Whole p) = signed_decimal p.quotient ++ (32 ∷ decimal p.remainder)
+exact_text (Some p) = signed_decimal p.quotient ++ (32 ∷ decimal p.remainder)
 exact_text None = 45 ∷ []
 
 -- a label, a blank, the figure, byte 0A
@@ -77,12 +76,12 @@ refusal_text r =
     line (82 ∷ 69 ∷ 70 ∷ 85 ∷ 83 ∷ 69 ∷ 68 ∷ []) (decimal r.number ++ (32 ∷ (decimal r.file ++ (32 ∷ decimal r.place))))
 
 unfoldable pub slip_of : Pricing → List ℕ
-slip_of (Priced bill) = flatten (reconciliation_lines bill.reconciliation)
-slip_of (NotPriced r) = refusal_text r
+slip_of (Ok bill) = flatten (reconciliation_lines bill.reconciliation)
+slip_of (Err r) = refusal_text r
 
 -- The slip in a lent buffer: its length, and the buffer with the slip at its start; refused where the buffer is shorter, and the buffer as it was.
 abbrev pub slip_written : Pricing → List ℕ → SlipWritten
-slip_written pricing out = cond (ltb (length out) (length (slip_of pricing))) (Refused (refusal output_too_short 0 0)) (Written (length (slip_of pricing)))
+slip_written pricing out = cond (ltb (length out) (length (slip_of pricing))) (Err (refusal output_too_short 0 0)) (Ok (length (slip_of pricing)))
 
 abbrev pub slip_buffer : Pricing → List ℕ → List ℕ
 slip_buffer pricing out = cond (ltb (length out) (length (slip_of pricing))) out (slip_of pricing ++ drop (length (slip_of pricing)) out)
@@ -91,7 +90,13 @@ slip_buffer pricing out = cond (ltb (length out) (length (slip_of pricing))) out
 abbrev pub figure_text : Figure → List ℕ
 figure_text (Unsigned n) = decimal n
 figure_text (Signed n) = signed_decimal n
-figure_text (Percentage p) = percent_text p
+figure_text (Rounded p) = percent_text p
+figure_text (Exact p) = exact_text p
+
+-- how many bytes a figure has at most: 20 digits and a sign, and of a pair a blank and 20 digits more
+abbrev pub figure_room : Figure → ℕ
+figure_room (Exact p) = 42
+figure_room figure = 21
 
 -- how many bytes a text has room for: eleven lines of any figures of 64 bits
 abbrev pub room : ℕ
@@ -100,7 +105,3 @@ room = 384
 -- how long the slip of two files is at most
 abbrev pub longest_slip : ℕ
 longest_slip = 236
-
--- what a text holds
-abbrev pub text_of : Text → List ℕ
-text_of text = take text.len text.bytes

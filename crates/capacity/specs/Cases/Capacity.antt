@@ -1,8 +1,7 @@
 -- Document 01, 'Marked figures', M4 and M5, for the tiers, and the rows on either side of each limit.
-use Rattle.std.specs.Prelude.{ℕ, ◌≡◌, refl, true, false, List, [], ◌∷◌, replicate}
+use Rattle.std.specs.Prelude.{ℕ, ◌≡◌, refl, true, false, List, [], ◌∷◌, replicate, None, Some}
 use Rattle.capacity.specs.Capacity.{bespoke_allowed, first_not_allowed, tier_cost, cost_at, capacity_cost}
 use Rattle.capacity.specs.declared.Tiers.{Tiers}
-use Rattle.capacity.specs.declared.BespokeRates.TheVariants.{Allowed, NotAllowed}
 
 -- M5: "posted 8,500: 12,751 and 6,799 allowed; 12,750 and 6,800 not", and "only where the posted rate isn't 0"
 pub bespoke_marked_figures :
@@ -42,12 +41,12 @@ mode_cases = (refl, refl, refl)
 
 -- the place of refusal 5 is the first tier whose bespoke rate isn't allowed, 1 to 5
 pub first_not_allowed_cases :
-    (first_not_allowed (rates_against_100 (replicate 5 2) (replicate 5 151)) ≡ Allowed)
-    × (first_not_allowed (rates_against_100 (replicate 5 2) (150 ∷ 151 ∷ 151 ∷ 151 ∷ 151 ∷ [])) ≡ NotAllowed 1)
-    × (first_not_allowed (rates_against_100 (replicate 5 2) (151 ∷ 79 ∷ 151 ∷ 79 ∷ 80 ∷ [])) ≡ NotAllowed 5)
-    × (first_not_allowed (rates_against_100 (replicate 5 2) (151 ∷ 80 ∷ 151 ∷ 150 ∷ 151 ∷ [])) ≡ NotAllowed 2)
-    × (first_not_allowed (rates_against_100 (0 ∷ 1 ∷ 0 ∷ 2 ∷ 0 ∷ []) (replicate 5 150)) ≡ NotAllowed 4)
-    × (first_not_allowed (rates_against_100 (0 ∷ 1 ∷ 0 ∷ 1 ∷ 0 ∷ []) (replicate 5 150)) ≡ Allowed)
+    (first_not_allowed (rates_against_100 (replicate 5 2) (replicate 5 151)) ≡ None)
+    × (first_not_allowed (rates_against_100 (replicate 5 2) (150 ∷ 151 ∷ 151 ∷ 151 ∷ 151 ∷ [])) ≡ Some 1)
+    × (first_not_allowed (rates_against_100 (replicate 5 2) (151 ∷ 79 ∷ 151 ∷ 79 ∷ 80 ∷ [])) ≡ Some 5)
+    × (first_not_allowed (rates_against_100 (replicate 5 2) (151 ∷ 80 ∷ 151 ∷ 150 ∷ 151 ∷ [])) ≡ Some 2)
+    × (first_not_allowed (rates_against_100 (0 ∷ 1 ∷ 0 ∷ 2 ∷ 0 ∷ []) (replicate 5 150)) ≡ Some 4)
+    × (first_not_allowed (rates_against_100 (0 ∷ 1 ∷ 0 ∷ 1 ∷ 0 ∷ []) (replicate 5 150)) ≡ None)
 first_not_allowed_cases = (refl, refl, refl, refl, refl, refl)
 
 -- M4: "the slip's MC 108,000"

@@ -1,14 +1,12 @@
 -- What holds of every pricing: one altered byte of the book or the request is refused, and a bill lies within the bounds that a ledger needs and
 -- reconciles.
-use Rattle.std.specs.Prelude.{ℕ, zero, suc, ◌+◌, ◌-◌, ◌<◌, ◌≤◌, ◌≡◌, refl, Bool, true, false, cond, List, [], ◌⊎◌, length, get_or, set, eqb, pos, ◌-ℤ◌}
+use Rattle.std.specs.Prelude.{ℕ, zero, suc, ◌+◌, ◌-◌, ◌<◌, ◌≤◌, ◌≡◌, refl, Bool, true, false, cond, List, [], ◌⊎◌, length, get_or, set, eqb, pos, ◌-ℤ◌, Err, None, Ok, Option, Some, Result}
 use Rattle.std.proofs.Common.{sym, ap, subst, ◌∙◌, inl, inr, ⊎_elim, arith}
 use Rattle.tagged.proofs.Theorems.Impossible.{impossible}
 use Rattle.numbers.specs.BigEndian.{Bytes}
-use Rattle.tagged.specs.File.{fields_part, refusal}
+use Rattle.tagged.specs.File.{fields_part, refusal, answer_of}
 use Rattle.tagged.specs.Refusals.{file_does_not_walk, check_differs}
 use Rattle.tagged.specs.declared.file.Refusal.{Refusal}
-use Rattle.tagged.specs.declared.file.FileAnswer.{FileAnswer}
-use Rattle.tagged.specs.declared.file.FileAnswer.TheVariants.{Stands, Refused}
 use Rattle.field_values.specs.Limits.{highest_revenue}
 use Rattle.rate_book.specs.Book.{book_of}
 use Rattle.rate_book.proofs.Theorems.Book.{altered_book_refused}
@@ -28,8 +26,6 @@ use Rattle.revenue.proofs.Theorems.Revenue.{distribution_opex_factor_at_most, in
 use Rattle.capacity.specs.CapacityLimits.{TiersWithin}
 use Rattle.capacity.specs.Capacity.{first_not_allowed}
 use Rattle.capacity.proofs.Theorems.Capacity.{capacity_cost_at_most}
-use Rattle.capacity.specs.declared.BespokeRates.{BespokeRates}
-use Rattle.capacity.specs.declared.BespokeRates.TheVariants.{Allowed, NotAllowed}
 use Rattle.reconciliation.specs.FigureLimits.{CostsWithin}
 use Rattle.reconciliation.specs.ExactPercent.{ExactPercentages}
 use Rattle.reconciliation.proofs.Theorems.Reconciliation.{reconciliation_bounded}
@@ -37,100 +33,99 @@ use Rattle.reconciliation.proofs.Theorems.ExactPercent.{percentages_exact}
 use Rattle.charge.specs.Price.{zone_found, distribution_of, transmission_of, incremental_revenue_of, tiers_of, costs_of, bill_of, values_priced, price_of}
 use Rattle.charge.specs.BillLimits.{BillWithin}
 use Rattle.charge.proofs.Theorems.Price.{zone_not_in_book_lem, bespoke_not_allowed_lem, bill_in_zone, request_not_accepted, request_priced_lem, book_not_accepted, book_accepted}
-use Rattle.charge.specs.declared.Zone.{Zone}
-use Rattle.charge.specs.declared.Zone.TheVariants.{At, NotInBook}
 use Rattle.charge.specs.declared.Bill.{Bill}
-use Rattle.charge.specs.declared.Pricing.TheVariants.{Priced, NotPriced}
 
 -- a refusal is no bill
-no_bill : {r : Refusal} {bill : Bill} → NotPriced r ≡ Priced bill → ⊥
+no_bill : {r : Refusal} {bill : Bill} → Err r ≡ Ok bill → ⊥
 no_bill e = let z : ◌≡◌ {A = ℕ} 0 1 = cc in omega arith
 
 -- a zone that is found is one of the book's
-zone_found_below : (k zones : ℕ) (numbers : List ℕ) (number zone : ℕ) → zone_found k zones numbers number ≡ At zone → zone < k + zones
+zone_found_below : (k zones : ℕ) (numbers : List ℕ) (number zone : ℕ) → zone_found k zones numbers number ≡ Some zone → zone < k + zones
 unfolding zone_found
 zone_found_below k zero numbers number zone e = impossible cc
 zone_found_below k (suc zones) numbers number zone e = by (eqb (get_or numbers k 0) number) e (zone_found_below (k + 1) zones numbers number zone)
   where
-    by : (test : Bool) → cond test (At k) (zone_found (k + 1) zones numbers number) ≡ At zone →
-        (zone_found (k + 1) zones numbers number ≡ At zone → zone < k + 1 + zones) → zone < k + suc zones
+    by : (test : Bool) → cond test (Some k) (zone_found (k + 1) zones numbers number) ≡ Some zone →
+        (zone_found (k + 1) zones numbers number ≡ Some zone → zone < k + 1 + zones) → zone < k + suc zones
     by true p later = let same : k ≡ zone = cc in omega arith
     by false p later = omega (arith, later p)
 
 -- the values that a bill comes from: the book and the request are accepted, the zone is one of the book's, and each bespoke rate is allowed
 pub record PricedBy (book_file request_file : List ℕ) (bill : Bill) : Type 0 where
-  pub book_accepted : (book_of 1 book_file).answer ≡ Stands
-  pub request_accepted : (request_of 2 request_file).answer ≡ Stands
+  pub book : Book
+  pub request : Request
+  pub book_accepted : book_of 1 book_file ≡ Ok book
+  pub request_accepted : request_of 2 request_file ≡ Ok request
   pub zone : ℕ
-  pub zone_below : zone < (book_of 1 book_file).book.zones
-  pub found : zone_found 0 (book_of 1 book_file).book.zones (book_of 1 book_file).book.zone_numbers (request_of 2 request_file).request.zone ≡ At zone
-  pub allowed : first_not_allowed (tiers_of (get_or (zone_rates (fields_part book_file)) zone []) (request_of 2 request_file).request) ≡ Allowed
+  pub zone_below : zone < book.zones
+  pub found : zone_found 0 book.zones book.zone_numbers request.zone ≡ Some zone
+  pub allowed : first_not_allowed (tiers_of (get_or (zone_rates (fields_part book_file)) zone []) request) ≡ None
   pub is :
-      let book = (book_of 1 book_file).book in
-      let request = (request_of 2 request_file).request in
       bill ≡ bill_of book (tiers_of (get_or (zone_rates (fields_part book_file)) zone []) request) request
       (incremental_revenue_of book request request.distribution_revenue request.transmission_revenue)
 
-pub priced_by : (book_file request_file : List ℕ) (bill : Bill) → price_of book_file request_file ≡ Priced bill → PricedBy book_file request_file bill
-priced_by book_file request_file bill e = by_book (book_of 1 book_file).answer refl
+pub priced_by : (book_file request_file : List ℕ) (bill : Bill) → price_of book_file request_file ≡ Ok bill → PricedBy book_file request_file bill
+priced_by book_file request_file bill e = by_book (book_of 1 book_file) refl
   where
-    book : Book
-    book = (book_of 1 book_file).book
-
     rates : List (List ℕ)
     rates = zone_rates (fields_part book_file)
 
-    request : Request
-    request = (request_of 2 request_file).request
+    Priced : Book → Request → Type 0
+    Priced book request = values_priced book rates request request.distribution_revenue request.transmission_revenue ≡ Ok bill
 
-    ir : ℕ
-    ir = incremental_revenue_of book request request.distribution_revenue request.transmission_revenue
+    by_allowed : (book : Book) (request : Request) → book_of 1 book_file ≡ Ok book → request_of 2 request_file ≡ Ok request → Priced book request →
+        (zone : ℕ) → zone_found 0 book.zones book.zone_numbers request.zone ≡ Some zone →
+        (allowed : Option ℕ) → first_not_allowed (tiers_of (get_or rates zone []) request) ≡ allowed → PricedBy book_file request_file bill
+    by_allowed book request b r p zone f None a =
+        let priced = sym (bill_in_zone book rates request request.distribution_revenue request.transmission_revenue zone f a) ∙ p in
+        record {
+          book = book;
+          request = request;
+          book_accepted = b;
+          request_accepted = r;
+          zone = zone;
+          zone_below = omega (arith, zone_found_below 0 book.zones book.zone_numbers request.zone zone f);
+          found = f;
+          allowed = a;
+          is = cc priced;
+        }
+    by_allowed book request b r p zone f (Some tier) a =
+        absurd (no_bill (sym (bespoke_not_allowed_lem book rates request request.distribution_revenue request.transmission_revenue zone f tier a) ∙ p))
 
-    priced_so : (book_of 1 book_file).answer ≡ Stands → (request_of 2 request_file).answer ≡ Stands →
-        values_priced book rates request request.distribution_revenue request.transmission_revenue ≡ Priced bill
-    priced_so b r = sym (book_accepted book_file request_file b ∙ request_priced_lem book rates request_file r) ∙ e
+    by_zone : (book : Book) (request : Request) → book_of 1 book_file ≡ Ok book → request_of 2 request_file ≡ Ok request → Priced book request →
+        (zone : Option ℕ) → zone_found 0 book.zones book.zone_numbers request.zone ≡ zone → PricedBy book_file request_file bill
+    by_zone book request b r p (Some zone) f = by_allowed book request b r p zone f (first_not_allowed (tiers_of (get_or rates zone []) request)) refl
+    by_zone book request b r p None f =
+        absurd (no_bill (sym (zone_not_in_book_lem book rates request request.distribution_revenue request.transmission_revenue f) ∙ p))
 
-    by_allowed : (book_of 1 book_file).answer ≡ Stands → (request_of 2 request_file).answer ≡ Stands →
-        (zone : ℕ) → zone_found 0 book.zones book.zone_numbers request.zone ≡ At zone →
-        (allowed : BespokeRates) → first_not_allowed (tiers_of (get_or rates zone []) request) ≡ allowed → PricedBy book_file request_file bill
-    by_allowed b r zone f Allowed a =
-        let priced = sym (bill_in_zone book rates request request.distribution_revenue request.transmission_revenue zone f a) ∙ priced_so b r in
-        record { book_accepted = b; request_accepted = r; zone = zone; zone_below = omega (arith, zone_found_below 0 book.zones book.zone_numbers request.zone zone f); found = f; allowed = a; is = cc priced }
-    by_allowed b r zone f (NotAllowed tier) a =
-        absurd (no_bill (sym (bespoke_not_allowed_lem book rates request request.distribution_revenue request.transmission_revenue zone f tier a) ∙ priced_so b r))
+    by_request : (book : Book) → book_of 1 book_file ≡ Ok book → (read : Result Request Refusal) → request_of 2 request_file ≡ read → PricedBy book_file request_file bill
+    by_request book b (Ok request) r =
+        by_zone book request b r (sym (book_accepted book_file request_file b ∙ request_priced_lem book rates request_file r) ∙ e)
+        (zone_found 0 book.zones book.zone_numbers request.zone) refl
+    by_request book b (Err x) r = absurd (no_bill (sym (book_accepted book_file request_file b ∙ request_not_accepted book rates request_file x r) ∙ e))
 
-    by_zone : (book_of 1 book_file).answer ≡ Stands → (request_of 2 request_file).answer ≡ Stands →
-        (zone : Zone) → zone_found 0 book.zones book.zone_numbers request.zone ≡ zone → PricedBy book_file request_file bill
-    by_zone b r (At zone) f = by_allowed b r zone f (first_not_allowed (tiers_of (get_or rates zone []) request)) refl
-    by_zone b r NotInBook f =
-        absurd (no_bill (sym (zone_not_in_book_lem book rates request request.distribution_revenue request.transmission_revenue f) ∙ priced_so b r))
-
-    by_request : (book_of 1 book_file).answer ≡ Stands → (answer : FileAnswer) → (request_of 2 request_file).answer ≡ answer → PricedBy book_file request_file bill
-    by_request b Stands r = by_zone b r (zone_found 0 book.zones book.zone_numbers request.zone) refl
-    by_request b (Refused x) r = absurd (no_bill (sym (book_accepted book_file request_file b ∙ request_not_accepted book rates request_file x r) ∙ e))
-
-    by_book : (answer : FileAnswer) → (book_of 1 book_file).answer ≡ answer → PricedBy book_file request_file bill
-    by_book Stands b = by_request b (request_of 2 request_file).answer refl
-    by_book (Refused x) b = absurd (no_bill (sym (book_not_accepted book_file request_file x b) ∙ e))
+    by_book : (read : Result Book Refusal) → book_of 1 book_file ≡ read → PricedBy book_file request_file bill
+    by_book (Ok book) b = by_request book b (request_of 2 request_file) refl
+    by_book (Err x) b = absurd (no_bill (sym (book_not_accepted book_file request_file x b) ∙ e))
 
 -- With exactly one byte of the book altered, or of the request, a request that was priced is refused: with 1 for the last five bytes, or with 2.
-module _ (book_file request_file : List ℕ) (bill : Bill) (priced : price_of book_file request_file ≡ Priced bill) (i b : ℕ) (below : b < 256) where
+module _ (book_file request_file : List ℕ) (bill : Bill) (priced : price_of book_file request_file ≡ Ok bill) (i b : ℕ) (below : b < 256) where
   pub altered_book_not_priced : Bytes book_file → i < length book_file → (get_or book_file i 0 ≡ b → ⊥) →
-      (price_of (set book_file i b) request_file ≡ NotPriced (refusal file_does_not_walk 1 0)) ⊎ (price_of (set book_file i b) request_file ≡ NotPriced (refusal check_differs 1 (length book_file - 2)))
+      (price_of (set book_file i b) request_file ≡ Err (refusal file_does_not_walk 1 0)) ⊎ (price_of (set book_file i b) request_file ≡ Err (refusal check_differs 1 (length book_file - 2)))
   altered_book_not_priced bytes within other =
       ⊎_elim
-      (λ e. inl (book_not_accepted (set book_file i b) request_file _ (ap (λ r. r.answer) e)))
-      (λ e. inr (book_not_accepted (set book_file i b) request_file _ (ap (λ r. r.answer) e)))
-      (altered_book_refused 1 book_file i b (priced_by book_file request_file bill priced).book_accepted bytes within below other)
+      (λ e. inl (book_not_accepted (set book_file i b) request_file _ e))
+      (λ e. inr (book_not_accepted (set book_file i b) request_file _ e))
+      (altered_book_refused 1 book_file i b (ap answer_of (priced_by book_file request_file bill priced).book_accepted) bytes within below other)
 
   pub altered_request_not_priced : Bytes request_file → i < length request_file → (get_or request_file i 0 ≡ b → ⊥) →
-      (price_of book_file (set request_file i b) ≡ NotPriced (refusal file_does_not_walk 2 0)) ⊎ (price_of book_file (set request_file i b) ≡ NotPriced (refusal check_differs 2 (length request_file - 2)))
+      (price_of book_file (set request_file i b) ≡ Err (refusal file_does_not_walk 2 0)) ⊎ (price_of book_file (set request_file i b) ≡ Err (refusal check_differs 2 (length request_file - 2)))
   altered_request_not_priced bytes within other =
       let by = priced_by book_file request_file bill priced in
-      let refused : (r : Refusal) → (request_of 2 (set request_file i b)).answer ≡ Refused r → price_of book_file (set request_file i b) ≡ NotPriced r =
+      let refused : (r : Refusal) → request_of 2 (set request_file i b) ≡ Err r → price_of book_file (set request_file i b) ≡ Err r =
       λ r e. book_accepted book_file (set request_file i b) by.book_accepted ∙ request_not_accepted _ _ (set request_file i b) r e in
-      ⊎_elim (λ e. inl (refused _ (ap (λ r. r.answer) e))) (λ e. inr (refused _ (ap (λ r. r.answer) e)))
-      (altered_request_refused 2 request_file i b bytes within below other by.request_accepted)
+      ⊎_elim (λ e. inl (refused _ e)) (λ e. inr (refused _ e))
+      (altered_request_refused 2 request_file i b bytes within below other (ap answer_of by.request_accepted))
 
 -- the costs, and the bill, of values within document 01's limits
 pub costs_within : (book : Book) (rates : List (List ℕ)) (request : Request) (zone : ℕ) → RatesWithin rates book.zones → RequestWithin request → zone < book.zones →
@@ -192,17 +187,17 @@ bill_within book rates request zone distribution transmission b s r h d t =
         by true = omega arith
         by false = omega arith
 
-pub priced_within : (book_file request_file : List ℕ) (bill : Bill) → Bytes book_file → Bytes request_file → price_of book_file request_file ≡ Priced bill → BillWithin bill
+pub priced_within : (book_file request_file : List ℕ) (bill : Bill) → Bytes book_file → Bytes request_file → price_of book_file request_file ≡ Ok bill → BillWithin bill
 priced_within book_file request_file bill bytes bytes' priced =
     let by = priced_by book_file request_file bill priced in
     let request = request_within_limits 2 request_file bytes' by.request_accepted in
     subst BillWithin (sym by.is)
-    (bill_within (book_of 1 book_file).book (zone_rates (fields_part book_file)) (request_of 2 request_file).request by.zone _ _
+    (bill_within by.book (zone_rates (fields_part book_file)) by.request by.zone _ _
     (book_within_limits 1 book_file by.book_accepted bytes) (rates_within_limits 1 book_file by.book_accepted) request by.zone_below
     request.distribution_revenue request.transmission_revenue)
 
 -- CC and the cost borne make up the cost entered, and CC − NC is NIC, of every bill from the bytes on.
-pub priced_reconciles : (book_file request_file : List ℕ) (bill : Bill) → Bytes book_file → Bytes request_file → price_of book_file request_file ≡ Priced bill →
+pub priced_reconciles : (book_file request_file : List ℕ) (bill : Bill) → Bytes book_file → Bytes request_file → price_of book_file request_file ≡ Ok bill →
     (bill.reconciliation.cc + bill.reconciliation.borne ≡ bill.reconciliation.entered)
     × (pos bill.reconciliation.cc -ℤ bill.reconciliation.nc ≡ bill.reconciliation.nic)
 priced_reconciles book_file request_file bill bytes bytes' priced =
@@ -211,6 +206,6 @@ priced_reconciles book_file request_file bill bytes bytes' priced =
 
 -- Document 02, E10: "100 × numerator = quotient × divisor + remainder, remainder from 0 to divisor − 1, also where NC is negative", of all three percentages of
 -- every bill from the bytes on; and each rounded percentage follows from its quotient and remainder.
-pub priced_percentages_exact : (book_file request_file : List ℕ) (bill : Bill) → price_of book_file request_file ≡ Priced bill → ExactPercentages bill.reconciliation
+pub priced_percentages_exact : (book_file request_file : List ℕ) (bill : Bill) → price_of book_file request_file ≡ Ok bill → ExactPercentages bill.reconciliation
 priced_percentages_exact book_file request_file bill priced =
     subst (λ (bill : Bill). ExactPercentages bill.reconciliation) (sym (priced_by book_file request_file bill priced).is) (percentages_exact _ _ _ _)

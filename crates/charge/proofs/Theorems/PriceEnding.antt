@@ -1,6 +1,7 @@
 -- Pricing's ending tells its answer: done or refused by the number, and two different answers never end alike.
-use Rattle.std.specs.Prelude.{ℕ, ◌≤◌, ◌≡◌, refl, List}
+use Rattle.std.specs.Prelude.{ℕ, ◌≤◌, ◌≡◌, refl, List, Err, Ok}
 use Rattle.std.proofs.Common.{sym, ap}
+use Rattle.tagged.specs.File.{answer_of}
 use Rattle.tagged.specs.Ending.{Ending, file_ending, number_is_0, stands}
 use Rattle.tagged.proofs.Theorems.Ending.{refused_by_number, refused_not_done, refusal_by_ending, numbered_to, file_answer_by_number}
 use Rattle.tagged.specs.Refusals.{value_not_listed}
@@ -10,22 +11,20 @@ use Rattle.rate_book.proofs.Theorems.Book.{book_refusal_numbers}
 use Rattle.request.specs.Request.{request_of}
 use Rattle.request.proofs.Theorems.Request.{request_refusal_numbers}
 use Rattle.reconciliation.proofs.Theorems.Figures.{reconciliation_by_figures}
-use Rattle.charge.specs.Price.{price_of}
+use Rattle.charge.specs.Price.{price_of, Pricing}
 use Rattle.charge.proofs.Theorems.PriceRefusals.{pricing_refusal_numbers}
 use Rattle.charge.specs.PriceEnding.{pricing_ending, is_priced, SamePricing}
-use Rattle.charge.specs.declared.Pricing.{Pricing}
-use Rattle.charge.specs.declared.Pricing.TheVariants.{Priced, NotPriced}
 
 -- ---- number 0 exactly where the file is read, and where the request is priced
 module _ (file : ℕ) (s : List ℕ) where
-  pub book_by_number : number_is_0 (file_ending (book_of file s).answer) ≡ stands (book_of file s).answer
-  book_by_number = file_answer_by_number (book_of file s).answer (numbered_to value_not_listed file (book_of file s).answer (book_refusal_numbers file s))
+  pub book_by_number : number_is_0 (file_ending (answer_of (book_of file s))) ≡ stands (answer_of (book_of file s))
+  book_by_number = file_answer_by_number (answer_of (book_of file s)) (numbered_to value_not_listed file (answer_of (book_of file s)) (book_refusal_numbers file s))
 
-  pub request_by_number : number_is_0 (file_ending (request_of file s).answer) ≡ stands (request_of file s).answer
-  request_by_number = file_answer_by_number (request_of file s).answer (numbered_to value_not_listed file (request_of file s).answer (request_refusal_numbers file s))
+  pub request_by_number : number_is_0 (file_ending (answer_of (request_of file s))) ≡ stands (answer_of (request_of file s))
+  request_by_number = file_answer_by_number (answer_of (request_of file s)) (numbered_to value_not_listed file (answer_of (request_of file s)) (request_refusal_numbers file s))
 
 abbrev Numbered : Pricing → Type 0
-Numbered pricing = (r : Refusal) → pricing ≡ NotPriced r → 1 ≤ r.number
+Numbered pricing = (r : Refusal) → pricing ≡ Err r → 1 ≤ r.number
 
 numbered : (book request : List ℕ) → Numbered (price_of book request)
 numbered book request r refused = (pricing_refusal_numbers book request r refused).0
@@ -34,8 +33,8 @@ pub pricing_by_number : (book request : List ℕ) → number_is_0 (pricing_endin
 pricing_by_number book request = by (price_of book request) (numbered book request)
   where
     by : (pricing : Pricing) → Numbered pricing → number_is_0 (pricing_ending pricing) ≡ is_priced pricing
-    by (Priced bill) numbers = refl
-    by (NotPriced r) numbers = refused_by_number r (numbers r refl)
+    by (Ok bill) numbers = refl
+    by (Err r) numbers = refused_by_number r (numbers r refl)
 
 pub pricing_by_ending : (book request other_book other_request : List ℕ) →
     pricing_ending (price_of book request) ≡ pricing_ending (price_of other_book other_request) → SamePricing (price_of book request) (price_of other_book other_request)
@@ -43,8 +42,8 @@ pricing_by_ending book request other_book other_request =
     by (price_of book request) (price_of other_book other_request) (numbered book request) (numbered other_book other_request)
   where
     by : (pricing other : Pricing) → Numbered pricing → Numbered other → pricing_ending pricing ≡ pricing_ending other → SamePricing pricing other
-    by (Priced bill) (Priced other) numbers others e =
+    by (Ok bill) (Ok other) numbers others e =
         reconciliation_by_figures bill.reconciliation other.reconciliation (ap (λ (ending : Ending). ending.values) e)
-    by (Priced bill) (NotPriced s) numbers others e = refused_not_done s _ (others s refl) (sym e)
-    by (NotPriced r) (Priced other) numbers others e = refused_not_done r _ (numbers r refl) e
-    by (NotPriced r) (NotPriced s) numbers others e = refusal_by_ending r s e
+    by (Ok bill) (Err s) numbers others e = refused_not_done s _ (others s refl) (sym e)
+    by (Err r) (Ok other) numbers others e = refused_not_done r _ (numbers r refl) e
+    by (Err r) (Err s) numbers others e = refusal_by_ending r s e

@@ -1,12 +1,10 @@
 -- Pricing refuses a book with 1 to 3, a request with 1 to 5, and with no other number.
-use Rattle.std.specs.Prelude.{ℕ, ◌≤◌, ◌≡◌, refl, List, [], get_or}
+use Rattle.std.specs.Prelude.{ℕ, ◌≤◌, ◌≡◌, refl, List, [], get_or, Err, None, Ok, Option, Some, Result}
 use Rattle.std.proofs.Common.{subst, inl, inr, ⊎_elim, arith}
-use Rattle.tagged.specs.File.{RefusalTo}
+use Rattle.tagged.specs.File.{RefusalTo, answer_of}
 use Rattle.tagged.proofs.Theorems.File.{RefusesTo}
 use Rattle.tagged.specs.Refusals.{value_not_listed, bespoke_not_allowed}
 use Rattle.tagged.specs.declared.file.Refusal.{Refusal}
-use Rattle.tagged.specs.declared.file.FileAnswer.{FileAnswer}
-use Rattle.tagged.specs.declared.file.FileAnswer.TheVariants.{Stands, Refused}
 use Rattle.rate_book.specs.Book.{book_of}
 use Rattle.rate_book.proofs.Theorems.Book.{book_refusal_numbers}
 use Rattle.rate_book.specs.declared.book.Book.{Book}
@@ -14,32 +12,26 @@ use Rattle.request.specs.Request.{request_of}
 use Rattle.request.proofs.Theorems.Request.{request_refusal_numbers}
 use Rattle.request.specs.declared.values.Request.{Request}
 use Rattle.capacity.specs.Capacity.{first_not_allowed}
-use Rattle.capacity.specs.declared.BespokeRates.{BespokeRates}
-use Rattle.capacity.specs.declared.BespokeRates.TheVariants.{Allowed, NotAllowed}
-use Rattle.charge.specs.Price.{zone_found, tiers_of, if_allowed, in_zone, if_stands, values_priced, request_priced, price_of}
+use Rattle.charge.specs.Price.{zone_found, tiers_of, if_allowed, in_zone, if_stands, values_priced, request_priced, price_of, Pricing}
 use Rattle.charge.specs.PriceRefusals.{PricingRefusal}
-use Rattle.charge.specs.declared.Zone.{Zone}
-use Rattle.charge.specs.declared.Zone.TheVariants.{At, NotInBook}
 use Rattle.charge.specs.declared.Bill.{Bill}
-use Rattle.charge.specs.declared.Pricing.{Pricing}
-use Rattle.charge.specs.declared.Pricing.TheVariants.{Priced, NotPriced}
 
 abbrev PricingRefuses : Pricing → Type 0
-PricingRefuses (Priced bill) = Unit {0}
-PricingRefuses (NotPriced r) = PricingRefusal r
+PricingRefuses (Ok bill) = Unit {0}
+PricingRefuses (Err r) = PricingRefusal r
 
-if_allowed_lem : (allowed : BespokeRates) (bill : Bill) → PricingRefuses (if_allowed allowed bill)
-if_allowed_lem Allowed bill = tt
-if_allowed_lem (NotAllowed tier) bill = inr (omega arith, omega arith, refl)
+if_allowed_lem : (allowed : Option ℕ) (bill : Bill) → PricingRefuses (if_allowed allowed bill)
+if_allowed_lem None bill = tt
+if_allowed_lem (Some tier) bill = inr (omega arith, omega arith, refl)
 
-in_zone_lem : (zone : Zone) (priced : ℕ → Pricing) → ((zone : ℕ) → PricingRefuses (priced zone)) → PricingRefuses (in_zone zone priced)
-in_zone_lem NotInBook priced h = inr (omega arith, omega arith, refl)
-in_zone_lem (At zone) priced h = h zone
+in_zone_lem : (zone : Option ℕ) (priced : ℕ → Pricing) → ((zone : ℕ) → PricingRefuses (priced zone)) → PricingRefuses (in_zone zone priced)
+in_zone_lem None priced h = inr (omega arith, omega arith, refl)
+in_zone_lem (Some zone) priced h = h zone
 
-if_stands_lem : (file : ℕ) (answer : FileAnswer) (priced : Pricing) → ((r : Refusal) → RefusalTo value_not_listed file r → PricingRefusal r) →
-    RefusesTo value_not_listed file answer → PricingRefuses priced → PricingRefuses (if_stands answer priced)
-if_stands_lem file Stands priced told h p = p
-if_stands_lem file (Refused r) priced told h p = told r h
+if_stands_lem : {Values : Type 0} (file : ℕ) (read : Result Values Refusal) (priced : Values → Pricing) → ((r : Refusal) → RefusalTo value_not_listed file r → PricingRefusal r) →
+    RefusesTo value_not_listed file (answer_of read) → ((values : Values) → PricingRefuses (priced values)) → PricingRefuses (if_stands read priced)
+if_stands_lem file (Ok values) priced told h p = p values
+if_stands_lem file (Err r) priced told h p = told r h
 
 values_refusals : (book : Book) (rates : List (List ℕ)) (request : Request) (distribution transmission : ℕ) →
     PricingRefuses (values_priced book rates request distribution transmission)
@@ -50,14 +42,14 @@ values_refusals book rates request distribution transmission =
 request_refusals : (book : Book) (rates : List (List ℕ)) (file : List ℕ) → PricingRefuses (request_priced book rates file)
 unfolding request_priced
 request_refusals book rates file =
-    if_stands_lem 2 (request_of 2 file).answer _ (λ r h. inr (h.0, omega arith, h.2)) (request_refusal_numbers 2 file) (values_refusals _ _ _ _ _)
+    if_stands_lem 2 (request_of 2 file) _ (λ r h. inr (h.0, omega arith, h.2)) (request_refusal_numbers 2 file) (λ request. values_refusals _ _ request _ _)
 
 pricing_refuses : (book_file request_file : List ℕ) → PricingRefuses (price_of book_file request_file)
 unfolding price_of
 pricing_refuses book_file request_file =
-    if_stands_lem 1 (book_of 1 book_file).answer _ (λ r h. inl h) (book_refusal_numbers 1 book_file) (request_refusals _ _ request_file)
+    if_stands_lem 1 (book_of 1 book_file) _ (λ r h. inl h) (book_refusal_numbers 1 book_file) (λ book. request_refusals book _ request_file)
 
-module _ (book_file request_file : List ℕ) (r : Refusal) (refused : price_of book_file request_file ≡ NotPriced r) where
+module _ (book_file request_file : List ℕ) (r : Refusal) (refused : price_of book_file request_file ≡ Err r) where
   pub pricing_refusal : PricingRefusal r
   pricing_refusal = subst PricingRefuses refused (pricing_refuses book_file request_file)
 

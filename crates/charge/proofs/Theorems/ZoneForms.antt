@@ -1,6 +1,6 @@
 -- Document 02, E6: "a two-byte number up to 255 means the same zone as the one-byte number". What a book and a request say depends on their zone numbers, not on
 -- how many bytes those take: one theorem for all four pairs of a book's and a request's forms.
-use Rattle.std.specs.Prelude.{ℕ, zero, suc, ◌+◌, ◌-◌, ◌≤◌, ◌≡◌, Bool, true, false, cond, take, drop, replicate, ltb, leb, eqb}
+use Rattle.std.specs.Prelude.{ℕ, zero, suc, ◌+◌, ◌-◌, ◌≤◌, ◌≡◌, Bool, true, false, cond, take, drop, replicate, ltb, leb, eqb, Err, Ok, None, Some, Option}
 use Rattle.std.proofs.Math.Path.{refl, sym, ap}
 use Rattle.std.proofs.Common.{ap₂, subst, ◌∙◌, arith, take-take, drop-drop}
 use mathlib.Core.List.{List, [], ◌∷◌, map}
@@ -8,17 +8,13 @@ use Rattle.std.proofs.Math.ListN.{length, get_or}
 use Rattle.std.proofs.lemmas.List.{length-map}
 use Rattle.numbers.specs.BigEndian.{number, number_at}
 use Rattle.tagged.specs.Find.{first_place, field_start, field_value}
-use Rattle.tagged.specs.File.{file_answer, fields_part}
+use Rattle.tagged.specs.File.{answer_of, file_answer, fields_part}
 use Rattle.tagged.proofs.Theorems.Impossible.{impossible}
 use Rattle.tagged.specs.declared.find.Place.{Place}
-use Rattle.tagged.specs.declared.find.Place.TheVariants.{At, Nowhere}
-use Rattle.tagged.specs.declared.file.FileAnswer.TheVariants.{Stands}
 use Rattle.field_values.specs.Limits.{tier_count, highest_rate, highest_threshold, highest_minimum, lowest_term}
-use Rattle.field_values.specs.Judged.{judge, in_order, width_of, within, judge_numbers, judge_field, same_bytes}
+use Rattle.field_values.specs.Judged.{judge, in_order, width_of, within, judge_numbers, judge_field, same_bytes, Judged}
 use Rattle.field_values.specs.Factors.{factor_limits, factors_in}
 use Rattle.field_values.proofs.Theorems.Judged.{judge_passes, first_failure_passes}
-use Rattle.field_values.specs.declared.judged.Judged.{Judged}
-use Rattle.field_values.specs.declared.judged.Judged.TheVariants.{Passes, Fails}
 use Rattle.book_zones.specs.BookRows.{book_rows}
 use Rattle.book_zones.specs.Zones.{tag_by, number_width, zone_starts, zone_array, zone_number, zone_numbers, rates_from, rate_row, zone_rates, row_judgements, judge_row, judge_zones_from}
 use Rattle.rate_book.specs.Fields.{rate_limits, sum_from, sum_judgements, term_judgements, charged_limits}
@@ -43,9 +39,9 @@ abbrev pub zones_in_two_bytes : List ℕ → List (List ℕ)
 zones_in_two_bytes s = map (zone_in_two_bytes_at s) (zone_starts s)
 
 -- the zone that a request names, its number in two bytes
-abbrev pub zone_bytes_by : Place → List ℕ → List ℕ
-zone_bytes_by Nowhere s = in_two_bytes 1 (take 1 (field_value 4 s))
-zone_bytes_by (At start len) s = in_two_bytes 2 (take 2 (field_value 13 s))
+abbrev pub zone_bytes_by : Option Place → List ℕ → List ℕ
+zone_bytes_by None s = in_two_bytes 1 (take 1 (field_value 4 s))
+zone_bytes_by (Some place) s = in_two_bytes 2 (take 2 (field_value 13 s))
 
 abbrev pub zone_in_two_bytes : List ℕ → List ℕ
 zone_in_two_bytes s = zone_bytes_by (first_place 13 s) s
@@ -77,7 +73,7 @@ pub record SameRequests (s s' : List ℕ) : Type 0 where
   pub zone : zone_in_two_bytes s ≡ zone_in_two_bytes s'
 
 -- two judgements that pass, one after the other
-both : {first second : Judged} → first ≡ Passes → second ≡ Passes → in_order first second ≡ Passes
+both : {first second : Judged} → first ≡ Ok tt → second ≡ Ok tt → in_order first second ≡ Ok tt
 both p q = ap₂ in_order p q
 
 -- ---- parts of parts
@@ -98,13 +94,13 @@ module _ (s : List ℕ) (at : ℕ) where
       ap (λ k. number_at s k 4) is ∙ ap (λ l. number (take 4 l)) (sym (drop-drop j at s)) ∙ ap number (sym (part_of_part (drop at s) j 4 n h))
 
   -- the number and the rates of a zone, from its value with the number in two bytes
-  number_of : (place : Place) → number_at s at (tag_by place - 7) ≡ number_at (in_two_bytes (tag_by place - 7) (take (tag_by place - 7 + 20) (drop at s))) 0 2
+  number_of : (place : Option Place) → number_at s at (tag_by place - 7) ≡ number_at (in_two_bytes (tag_by place - 7) (take (tag_by place - 7 + 20) (drop at s))) 0 2
   unfolding number
-  number_of Nowhere = ap number (sym (take-take 1 21 (drop at s) (omega arith)))
-  number_of (At start len) = ap number (sym (take-take 2 22 (drop at s) (omega arith)))
+  number_of None = ap number (sym (take-take 1 21 (drop at s) (omega arith)))
+  number_of (Some place) = ap number (sym (take-take 2 22 (drop at s) (omega arith)))
 
-  rates_of : (place : Place) → rates_from s (at + (tag_by place - 7)) ≡ rates_from (in_two_bytes (tag_by place - 7) (take (tag_by place - 7 + 20) (drop at s))) 2
-  rates_of Nowhere =
+  rates_of : (place : Option Place) → rates_from s (at + (tag_by place - 7)) ≡ rates_from (in_two_bytes (tag_by place - 7) (take (tag_by place - 7 + 20) (drop at s))) 2
+  rates_of None =
       λ i.
       in_value 1 21 (at + 1) (omega arith) refl i ∷
       in_value 5 21 (at + 1 + 4) (omega arith) (omega arith) i ∷
@@ -112,7 +108,7 @@ module _ (s : List ℕ) (at : ℕ) where
       in_value 13 21 (at + 1 + 12) (omega arith) (omega arith) i ∷
       in_value 17 21 (at + 1 + 16) (omega arith) (omega arith) i ∷
       []
-  rates_of (At start len) =
+  rates_of (Some place) =
       λ i.
       in_value 2 22 (at + 2) (omega arith) refl i ∷
       in_value 6 22 (at + 2 + 4) (omega arith) (omega arith) i ∷
@@ -131,10 +127,10 @@ rates_in_two s =
 count_in_two : (s : List ℕ) → length (zone_starts s) ≡ length (zones_in_two_bytes s)
 count_in_two s = sym (length-map (zone_starts s) _)
 
-zone_in_two : (s : List ℕ) (place : Place) → zone_by place s ≡ number_at (zone_bytes_by place s) 0 2
+zone_in_two : (s : List ℕ) (place : Option Place) → zone_by place s ≡ number_at (zone_bytes_by place s) 0 2
 unfolding number
-zone_in_two s Nowhere = ap number (sym (take-take 1 1 (field_value 4 s) (omega arith)))
-zone_in_two s (At start len) = ap number (sym (take-take 2 2 (field_value 13 s) (omega arith)))
+zone_in_two s None = ap number (sym (take-take 1 1 (field_value 4 s) (omega arith)))
+zone_in_two s (Some place) = ap number (sym (take-take 2 2 (field_value 13 s) (omega arith)))
 
 -- ---- what the files say
 module _ (s s' : List ℕ) (same : SameBooks s s') where
@@ -199,26 +195,26 @@ module _ (s s' : List ℕ) (same : SameRequests s s') where
       }
 
 -- ---- values that pass in one file pass in the other, wherever they stand there
-judge_anywhere : (listed : Bool) (at at' : ℕ) → judge listed at ≡ Passes → judge listed at' ≡ Passes
+judge_anywhere : (listed : Bool) (at at' : ℕ) → judge listed at ≡ Ok tt → judge listed at' ≡ Ok tt
 judge_anywhere listed at at' e = ap (λ b. judge b at') (judge_passes listed at e)
 
-numbers_anywhere : (limits : List (List ℕ)) (at at' : ℕ) (value : List ℕ) → judge_numbers limits at value ≡ Passes → judge_numbers limits at' value ≡ Passes
+numbers_anywhere : (limits : List (List ℕ)) (at at' : ℕ) (value : List ℕ) → judge_numbers limits at value ≡ Ok tt → judge_numbers limits at' value ≡ Ok tt
 unfolding judge_numbers
 numbers_anywhere [] at at' value e = refl
 numbers_anywhere (limit ∷ limits) at at' value e =
     by (ltb (length value) (width_of limit)) (within limit (number (take (width_of limit) value))) _ _
     (numbers_anywhere limits (at + width_of limit) (at' + width_of limit) (drop (width_of limit) value)) e
   where
-    by : (short listed : Bool) (later later' : Judged) → (later ≡ Passes → later' ≡ Passes) → cond short Passes (cond listed later (Fails at)) ≡ Passes →
-        cond short Passes (cond listed later' (Fails at')) ≡ Passes
+    by : (short listed : Bool) (later later' : Judged) → (later ≡ Ok tt → later' ≡ Ok tt) → cond short (Ok tt) (cond listed later (Err at)) ≡ Ok tt →
+        cond short (Ok tt) (cond listed later' (Err at')) ≡ Ok tt
     by true listed later later' on e = refl
     by false true later later' on e = on e
     by false false later later' on e = impossible cc
 
-row_anywhere : (rates rates' : ℕ) (row : List ℕ) → judge_row rates row ≡ Passes → judge_row rates' row ≡ Passes
+row_anywhere : (rates rates' : ℕ) (row : List ℕ) → judge_row rates row ≡ Ok tt → judge_row rates' row ≡ Ok tt
 row_anywhere rates rates' row e =
     let judged = first_failure_passes (row_judgements rates row) e in
-    let tier : (k at at' : ℕ) → judge (leb (get_or row k 0) highest_rate) at ≡ Passes → judge (leb (get_or row k 0) highest_rate) at' ≡ Passes =
+    let tier : (k at at' : ℕ) → judge (leb (get_or row k 0) highest_rate) at ≡ Ok tt → judge (leb (get_or row k 0) highest_rate) at' ≡ (Ok tt) =
     λ k. judge_anywhere (leb (get_or row k 0) highest_rate) in
     both (tier 0 rates rates' (judged 0))
     (both (tier 1 (rates + 4) (rates' + 4) (judged 1))
@@ -227,17 +223,17 @@ row_anywhere rates rates' row e =
 
 module _ (s s' : List ℕ) where
   -- a test of a value
-  test_passes : (test : List ℕ → Bool) (tag at at' : ℕ) → field_value tag s ≡ field_value tag s' → judge (test (field_value tag s)) at ≡ Passes →
-      judge (test (field_value tag s')) at' ≡ Passes
-  test_passes test tag at at' same e = subst (λ value. judge (test value) at' ≡ Passes) same (judge_anywhere (test (field_value tag s)) at at' e)
+  test_passes : (test : List ℕ → Bool) (tag at at' : ℕ) → field_value tag s ≡ field_value tag s' → judge (test (field_value tag s)) at ≡ Ok tt →
+      judge (test (field_value tag s')) at' ≡ Ok tt
+  test_passes test tag at at' same e = subst (λ value. judge (test value) at' ≡ Ok tt) same (judge_anywhere (test (field_value tag s)) at at' e)
 
-  field_passes : (limits : List (List ℕ)) (tag : ℕ) → field_value tag s ≡ field_value tag s' → judge_field limits tag s ≡ Passes → judge_field limits tag s' ≡ Passes
+  field_passes : (limits : List (List ℕ)) (tag : ℕ) → field_value tag s ≡ field_value tag s' → judge_field limits tag s ≡ Ok tt → judge_field limits tag s' ≡ Ok tt
   field_passes limits tag same e =
-      subst (λ value. judge_numbers limits (field_start tag s') value ≡ Passes) same
+      subst (λ value. judge_numbers limits (field_start tag s') value ≡ Ok tt) same
       (numbers_anywhere limits (field_start tag s) (field_start tag s') (field_value tag s) e)
 
   zones_pass : (starts starts' : List ℕ) (least : ℕ) → map (zone_in_two_bytes_at s) starts ≡ map (zone_in_two_bytes_at s') starts' →
-      judge_zones_from least s starts ≡ Passes → judge_zones_from least s' starts' ≡ Passes
+      judge_zones_from least s starts ≡ Ok tt → judge_zones_from least s' starts' ≡ Ok tt
   unfolding judge_zones_from
   zones_pass [] [] least same e = refl
   zones_pass [] (at' ∷ starts') least same e = absurd (omega (arith, ap length same))
@@ -250,12 +246,12 @@ module _ (s s' : List ℕ) where
       number_of s at (first_place 9 s) ∙ ap (λ bytes. number_at bytes 0 2) zone ∙ sym (number_of s' at' (first_place 9 s')) in
       let row : rate_row s at ≡ rate_row s' at' =
       rates_of s at (first_place 9 s) ∙ ap (λ bytes. rates_from bytes 2) zone ∙ sym (rates_of s' at' (first_place 9 s')) in
-      both (subst (λ n. judge (leb least n) at' ≡ Passes) number_same (judge_anywhere (leb least (zone_number s at)) at at' (judged 0)))
-      (both (subst (λ rates. judge_row (at' + number_width s') rates ≡ Passes) row (row_anywhere (at + number_width s) _ (rate_row s at) (judged 1)))
+      both (subst (λ n. judge (leb least n) at' ≡ Ok tt) number_same (judge_anywhere (leb least (zone_number s at)) at at' (judged 0)))
+      (both (subst (λ rates. judge_row (at' + number_width s') rates ≡ Ok tt) row (row_anywhere (at + number_width s) _ (rate_row s at) (judged 1)))
       (both (zones_pass starts starts' (zone_number s' at' + 1) (ap (drop 1) same)
-      (subst (λ n. judge_zones_from (n + 1) s starts ≡ Passes) number_same (judged 2))) refl))
+      (subst (λ n. judge_zones_from (n + 1) s starts ≡ Ok tt) number_same (judged 2))) refl))
 
-  book_passes : SameBooks s s' → judge_book s ≡ Passes → judge_book s' ≡ Passes
+  book_passes : SameBooks s s' → judge_book s ≡ Ok tt → judge_book s' ≡ Ok tt
   book_passes same e =
       let judged = first_failure_passes (book_judgements s) e in
       let sums = first_failure_passes (sum_judgements s) (judged 2) in
@@ -275,11 +271,11 @@ module _ (s s' : List ℕ) where
       (both (field_passes charged_limits 7 same.charging (judged 6))
       (both (zones_pass (zone_starts s) (zone_starts s') 0 same.zones (judged 7)) refl)))))))
 
-  request_passes : SameRequests s s' → judge_request s ≡ Passes → judge_request s' ≡ Passes
+  request_passes : SameRequests s s' → judge_request s ≡ Ok tt → judge_request s' ≡ Ok tt
   request_passes same e =
       let judged = first_failure_passes (request_judgements s) e in
       let charges = first_failure_passes (charge_judgements s) (judged 1) in
-      let amounts = subst (λ value. judge_field (amount_limits (number_at value 0 1)) 5 s' ≡ Passes) same.class (field_passes (amount_limits (class_in s)) 5 same.amounts (charges 1)) in
+      let amounts = subst (λ value. judge_field (amount_limits (number_at value 0 1)) 5 s' ≡ Ok tt) same.class (field_passes (amount_limits (class_in s)) 5 same.amounts (charges 1)) in
       both (test_passes (λ value. same_bytes value request_letters) 1 _ _ same.letters (judged 0))
       (both (both (field_passes class_limits 3 same.class (charges 0)) (both amounts refl))
       (both (field_passes five_tier_limits 6 same.tiers (judged 2))
@@ -293,36 +289,34 @@ module _ (s s' : List ℕ) where
 -- Zone numbers written either way price alike: an accepted book and request, and files that stand by their tags, lengths and checks and say the same but
 -- for the form. Those are accepted then too.
 pub either_form_accepted : (book book' request request' : List ℕ) →
-    (book_of 1 book).answer ≡ Stands → file_answer book_rows 1 book' ≡ Stands → (request_of 2 request).answer ≡ Stands → file_answer request_rows 2 request' ≡ Stands →
+    answer_of (book_of 1 book) ≡ Ok tt → file_answer book_rows 1 book' ≡ Ok tt → answer_of (request_of 2 request) ≡ Ok tt → file_answer request_rows 2 request' ≡ Ok tt →
     SameBooks (fields_part book) (fields_part book') → SameRequests (fields_part request) (fields_part request') →
-    ((book_of 1 book').answer ≡ Stands) × ((request_of 2 request').answer ≡ Stands)
+    (answer_of (book_of 1 book') ≡ Ok tt) × (answer_of (request_of 2 request') ≡ Ok tt)
 either_form_accepted book book' request request' b b' r r' books requests = (
   rw (book_judged 1 book' b', book_passes (fields_part book) (fields_part book') books (accepted_passes 1 book b)),
-  ap (λ read. read.answer) (request_judged 2 request' Passes r' (request_passes (fields_part request) (fields_part request') requests (request_accepted 2 request r).passes)),
+  ap answer_of (request_judged 2 request' (Ok tt) r' (request_passes (fields_part request) (fields_part request') requests (request_accepted 2 request r).passes)),
 )
 
 pub either_form_prices_alike : (book book' request request' : List ℕ) →
-    (book_of 1 book).answer ≡ Stands → file_answer book_rows 1 book' ≡ Stands → (request_of 2 request).answer ≡ Stands → file_answer request_rows 2 request' ≡ Stands →
+    answer_of (book_of 1 book) ≡ Ok tt → file_answer book_rows 1 book' ≡ Ok tt → answer_of (request_of 2 request) ≡ Ok tt → file_answer request_rows 2 request' ≡ Ok tt →
     SameBooks (fields_part book) (fields_part book') → SameRequests (fields_part request) (fields_part request') →
     price_of book request ≡ price_of book' request'
 either_form_prices_alike book book' request request' b stands r stands' books requests =
     let accepted = either_form_accepted book book' request request' b stands r stands' books requests in
     alike accepted.0 accepted.1
   where
-    by_values : (book request : List ℕ) → (book_of 1 book).answer ≡ Stands → (request_of 2 request).answer ≡ Stands →
+    by_values : (book request : List ℕ) → answer_of (book_of 1 book) ≡ Ok tt → answer_of (request_of 2 request) ≡ Ok tt →
+        let read = request_values (fields_part request) in
         price_of book request
-        ≡ values_priced (book_of 1 book).book (zone_rates (fields_part book)) (request_of 2 request).request
-        (request_of 2 request).request.distribution_revenue (request_of 2 request).request.transmission_revenue
-    by_values book request b r = book_accepted book request b ∙ request_priced_lem (book_of 1 book).book (zone_rates (fields_part book)) request r
+        ≡ values_priced (book_values (fields_part book)) (zone_rates (fields_part book)) read read.distribution_revenue read.transmission_revenue
+    by_values book request b r =
+        book_accepted book request (accepted_values 1 book b)
+        ∙ request_priced_lem (book_values (fields_part book)) (zone_rates (fields_part book)) request (request_accepted 2 request r).values
 
-    alike : (book_of 1 book').answer ≡ Stands → (request_of 2 request').answer ≡ Stands → price_of book request ≡ price_of book' request'
+    alike : answer_of (book_of 1 book') ≡ Ok tt → answer_of (request_of 2 request') ≡ Ok tt → price_of book request ≡ price_of book' request'
     alike b' r' =
-        let values : (book_of 1 book).book ≡ (book_of 1 book').book =
-        accepted_values 1 book b ∙ same_book_values (fields_part book) (fields_part book') books ∙ sym (accepted_values 1 book' b') in
-        let read : (request_of 2 request).request ≡ (request_of 2 request').request =
-        ap (λ read. read.request) (request_accepted 2 request r).values
-        ∙ same_request_values (fields_part request) (fields_part request') requests
-        ∙ sym (ap (λ read. read.request) (request_accepted 2 request' r').values) in
+        let values = same_book_values (fields_part book) (fields_part book') books in
+        let read = same_request_values (fields_part request) (fields_part request') requests in
         by_values book request b r
         ∙ (λ i. values_priced (values i) (same_rates (fields_part book) (fields_part book') books i) (read i) (read i).distribution_revenue (read i).transmission_revenue)
         ∙ sym (by_values book' request' b' r')

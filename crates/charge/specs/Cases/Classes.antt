@@ -1,6 +1,6 @@
 -- Document 02, E3, on document 01's slip: how a request of each class is refused or priced, with an operating loading and without, by books with opex and
 -- without.
-use Rattle.std.specs.Prelude.{ℕ, ◌≡◌, refl, ℤ, pos}
+use Rattle.std.specs.Prelude.{ℕ, ◌≡◌, refl, ℤ, pos, Err, Ok}
 use mathlib.Core.List.{List, [], ◌∷◌, map, flat_map}
 use Rattle.numbers.specs.BigEndian.{number, bytes_of}
 use Rattle.numbers.specs.Check.{check_from}
@@ -13,10 +13,8 @@ use Rattle.rate_book.specs.Book.{book_of}
 use Rattle.request.specs.Request.{request_of}
 use Rattle.discount.specs.Discount.{discount}
 use Rattle.revenue.specs.Revenue.{incremental_revenue}
-use Rattle.charge.specs.Price.{zone_found, values_priced, request_priced, price_of}
+use Rattle.charge.specs.Price.{zone_found, values_priced, request_priced, price_of, Pricing}
 use Rattle.charge.specs.Cases.MarkedFigures.{slip_book, slip_book_with, request_of_class, tier, connection}
-use Rattle.charge.specs.declared.Pricing.{Pricing}
-use Rattle.charge.specs.declared.Pricing.TheVariants.{Priced, NotPriced}
 
 -- of this class, with these for HR, OL and the first tier's mode
 abbrev altered : ℕ → ℕ → ℕ → ℕ → List ℕ
@@ -30,15 +28,15 @@ loaded class ol = altered class 0 ol 0
 -- "OL above 0 in class 0 or 1 is 3, at OL's first byte, in its turn among the values."
 abbrev refused_cases : List (Pricing × Pricing)
 refused_cases =
-    (price_of slip_book (loaded 0 1), NotPriced (refusal 3 2 45)) ∷
-    (price_of slip_book (loaded 1 1), NotPriced (refusal 3 2 45)) ∷
+    (price_of slip_book (loaded 0 1), Err (refusal 3 2 45)) ∷
+    (price_of slip_book (loaded 1 1), Err (refusal 3 2 45)) ∷
     -- HR past its limit comes before it, a mode after it
-    (price_of slip_book (altered 1 1000000001 1 0), NotPriced (refusal 3 2 41)) ∷
-    (price_of slip_book (altered 1 0 1 3), NotPriced (refusal 3 2 45)) ∷
-    (price_of slip_book (loaded 3 1), NotPriced (refusal 3 2 17)) ∷
-    (price_of slip_book (loaded 2 1000000001), NotPriced (refusal 3 2 45)) ∷
+    (price_of slip_book (altered 1 1000000001 1 0), Err (refusal 3 2 41)) ∷
+    (price_of slip_book (altered 1 0 1 3), Err (refusal 3 2 45)) ∷
+    (price_of slip_book (loaded 3 1), Err (refusal 3 2 17)) ∷
+    (price_of slip_book (loaded 2 1000000001), Err (refusal 3 2 45)) ∷
     -- the book's opex is judged in every class
-    (price_of (slip_book_with 0 153801 153800) (loaded 2 0), NotPriced (refusal 3 1 15)) ∷
+    (price_of (slip_book_with 0 153801 153800) (loaded 2 0), Err (refusal 3 1 15)) ∷
     []
 
 pub refused_by_class : map (λ t. t.0) refused_cases ≡ map (λ t. t.1) refused_cases
@@ -47,9 +45,9 @@ refused_by_class = refl
 
 -- CC, IC, IR, NIC and NC, as the slip has them
 abbrev figures_of : Pricing → List ℤ
-figures_of (Priced bill) =
+figures_of (Ok bill) =
     pos bill.reconciliation.cc ∷ pos bill.reconciliation.ic ∷ pos bill.reconciliation.ir ∷ bill.reconciliation.nic ∷ bill.reconciliation.nc ∷ []
-figures_of (NotPriced r) = []
+figures_of (Err r) = []
 
 -- by books with opex 19,300 and revenue 153,800 in each pair: b, class and OL, and the figures
 abbrev priced_cases : List ((ℕ × ℕ × ℕ) × List ℤ)

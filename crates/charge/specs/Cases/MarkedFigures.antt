@@ -1,5 +1,5 @@
 -- Document 01, 'Marked figures', over the definitions. M6 to M8 are the ledger's.
-use Rattle.std.specs.Prelude.{ℕ, ◌*◌, ◌-◌, ◌≡◌, refl, true, false, replicate, ℤ, pos, negsuc}
+use Rattle.std.specs.Prelude.{ℕ, ◌*◌, ◌-◌, ◌≡◌, refl, true, false, replicate, ℤ, pos, negsuc, Err, Ok}
 use mathlib.Core.List.{List, [], ◌∷◌, ◌++◌, flat_map}
 use Rattle.numbers.specs.BigEndian.{number, bytes_of}
 use Rattle.numbers.specs.Check.{check, check_from}
@@ -17,10 +17,8 @@ use Rattle.capacity.specs.Capacity.{bespoke_allowed}
 use Rattle.reconciliation.specs.Percent.{percent_of}
 use Rattle.reconciliation.specs.Reconciliation.{reconciliation_of}
 use Rattle.reconciliation.specs.Cases.Reconciliation.{whole}
-use Rattle.charge.specs.Price.{zone_found, values_priced, request_priced, price_of}
+use Rattle.charge.specs.Price.{zone_found, values_priced, request_priced, price_of, Pricing}
 use Rattle.charge.specs.declared.Bill.{Bill}
-use Rattle.charge.specs.declared.Pricing.{Pricing}
-use Rattle.charge.specs.declared.Pricing.TheVariants.{Priced, NotPriced}
 
 -- The slip's book: "b 0, opex 0, revenue 1 in each pair, all factors 10,000, capacity charged, share 6,500, zone 1 at 0, 0, 8500, 38000, 10000."
 -- with these for b, opex, revenue, capacity charged and share
@@ -101,15 +99,15 @@ slip_bill ce month capacity scheme =
     }
 
 -- the slip from its bytes on: book, request, bill
-pub slip_priced : price_of slip_book slip_request ≡ Priced (slip_bill 0 24315 15000 0)
+pub slip_priced : price_of slip_book slip_request ≡ Ok (slip_bill 0 24315 15000 0)
 unfolding check_from number bytes_of due_from all_had front_of walk_from fields_from first_with fields_with judge_numbers same_bytes judge_zones_from book_of request_of discount incremental_revenue zone_found values_priced request_priced price_of flat_map
 slip_priced = refl
 
 -- MC, IR, CC and NC of a pricing
 abbrev pub figures_of : Pricing → List ℤ
-figures_of (Priced bill) =
+figures_of (Ok bill) =
     pos bill.reconciliation.mc ∷ pos bill.reconciliation.ir ∷ pos bill.reconciliation.cc ∷ bill.reconciliation.nc ∷ []
-figures_of (NotPriced r) = []
+figures_of (Err r) = []
 
 pub record MarkedFigures : Type 0 where
   -- "check of no bytes 0; of 01 02, 517; of FF FF, 527"
@@ -140,9 +138,9 @@ marked_figures =
 
 -- 4 and 5 at the pricing call: another zone than the book's; the first tier whose bespoke rate isn't allowed; both rates at their edges allowed.
 pub pricing_refusals :
-    (price_of slip_book (request_with 2 (replicate 5 (tier 0 0 0))) ≡ NotPriced (refusal 4 2 0))
-    × (price_of slip_book (bespoke_request 12750 57001) ≡ NotPriced (refusal 5 2 3))
-    × (price_of slip_book (bespoke_request 12751 57000) ≡ NotPriced (refusal 5 2 4))
+    (price_of slip_book (request_with 2 (replicate 5 (tier 0 0 0))) ≡ Err (refusal 4 2 0))
+    × (price_of slip_book (bespoke_request 12750 57001) ≡ Err (refusal 5 2 3))
+    × (price_of slip_book (bespoke_request 12751 57000) ≡ Err (refusal 5 2 4))
     × (figures_of (price_of slip_book (bespoke_request 12751 57001)) ≡ pos 154504 ∷ pos 859800 ∷ pos 1194134 ∷ pos 300930 ∷ [])
 unfolding check_from number bytes_of due_from all_had front_of walk_from fields_from first_with fields_with judge_numbers same_bytes judge_zones_from book_of request_of discount incremental_revenue zone_found values_priced request_priced price_of flat_map
 pricing_refusals = (refl, refl, refl, refl)
@@ -158,7 +156,7 @@ abbrev pub scheme_bill : ℕ → ℕ → ℕ → ℕ → Bill
 scheme_bill x month capacity scheme = slip_bill (x - 1039630) month capacity scheme
 
 abbrev pub SchemeBilled : ℕ → ℕ → ℕ → ℕ → Type 0
-SchemeBilled x month capacity scheme = price_of slip_book (scheme_request x month capacity scheme) ≡ Priced (scheme_bill x month capacity scheme)
+SchemeBilled x month capacity scheme = price_of slip_book (scheme_request x month capacity scheme) ≡ Ok (scheme_bill x month capacity scheme)
 
 pub record SchemeBills : Type 0 where
   -- X the threshold, and one cent more

@@ -1,6 +1,6 @@
 -- Pricings from the bytes on, with every figure written out. Book and request have values that all differ and none that is neutral: several factors in
 -- every list, all three classes, two bespoke modes, and a zone that isn't the book's first.
-use Rattle.std.specs.Prelude.{ℕ, ◌≡◌, refl, replicate, pos}
+use Rattle.std.specs.Prelude.{ℕ, ◌≡◌, refl, replicate, pos, Err, None, Ok}
 use mathlib.Core.List.{List, [], ◌∷◌, ◌++◌, flat_map}
 use Rattle.numbers.specs.BigEndian.{number, bytes_of}
 use Rattle.numbers.specs.Check.{check_from}
@@ -16,11 +16,9 @@ use Rattle.discount.specs.Discount.{discount}
 use Rattle.revenue.specs.Revenue.{incremental_revenue}
 use Rattle.reconciliation.specs.Cases.Reconciliation.{figures, capacity_charged, capacity_not_charged, without_loading, credit_is_m, credit_above_m}
 use Rattle.reconciliation.specs.declared.Reconciliation.{Reconciliation}
-use Rattle.reconciliation.specs.declared.Percent.TheVariants.{None}
 use Rattle.charge.specs.Price.{zone_found, values_priced, request_priced, price_of}
 use Rattle.charge.specs.Cases.MarkedFigures.{tier, connection}
 use Rattle.charge.specs.declared.Bill.{Bill}
-use Rattle.charge.specs.declared.Pricing.TheVariants.{Priced, NotPriced}
 
 -- a book with these values for capacity charged and for the share
 abbrev varied_book : ℕ → ℕ → List ℕ
@@ -72,20 +70,20 @@ varied_bill reconciliation =
 
 pub record PricingCases : Type 0 where
   -- special pricing: the book's opex takes nothing from the revenue
-  pub charged : price_of (varied_book 1 6300) (varied_request 2 7 1598500 154400) ≡ Priced (varied_bill capacity_charged)
+  pub charged : price_of (varied_book 1 6300) (varied_request 2 7 1598500 154400) ≡ Ok (varied_bill capacity_charged)
   -- capacity isn't charged: IC still has it, and NC is below 0
-  pub not_charged : price_of (varied_book 0 6300) (varied_request 2 7 1598500 154400) ≡ Priced (varied_bill capacity_not_charged)
+  pub not_charged : price_of (varied_book 0 6300) (varied_request 2 7 1598500 154400) ≡ Ok (varied_bill capacity_not_charged)
   -- non-residential: the same but for the opex and the loading
-  pub without_loading_lem : price_of (varied_book 1 6300) (varied_request 1 7 1598500 0) ≡ Priced (varied_bill without_loading)
+  pub without_loading_lem : price_of (varied_book 1 6300) (varied_request 1 7 1598500 0) ≡ Ok (varied_bill without_loading)
   -- residential: the credit is M, and one cent above it; X is CE
-  pub credit_is_m_lem : price_of (varied_book 1 8700) (varied_request 0 7 138000 0) ≡ Priced (varied_bill credit_is_m)
-  pub credit_above_m_lem : price_of (varied_book 1 8700) (varied_request 0 7 137999 0) ≡ Priced (varied_bill credit_above_m)
+  pub credit_is_m_lem : price_of (varied_book 1 8700) (varied_request 0 7 138000 0) ≡ Ok (varied_bill credit_is_m)
+  pub credit_above_m_lem : price_of (varied_book 1 8700) (varied_request 0 7 137999 0) ≡ Ok (varied_bill credit_above_m)
   -- nothing is asked for: "none where the divisor is 0"
   pub nothing_asked :
       price_of (varied_book 1 6300) (varied_by 0 7 (replicate 6 0) (replicate 5 (tier 0 0 0)) (replicate 5 0) (replicate 2 0))
-      ≡ Priced (varied_bill (figures 0 0 0 0 0 0 0 0 0 0 (pos 0) (pos 0) 0 0 0 None None None))
+      ≡ Ok (varied_bill (figures 0 0 0 0 0 0 0 0 0 0 (pos 0) (pos 0) 0 0 0 None None None))
   -- zone 0 isn't in a book of three zones, though the places past them hold zeros
-  pub zone_0 : price_of (varied_book 1 6300) (varied_request 2 0 1598500 154400) ≡ NotPriced (refusal 4 2 0)
+  pub zone_0 : price_of (varied_book 1 6300) (varied_request 2 0 1598500 154400) ≡ Err (refusal 4 2 0)
 
 pub pricing_cases : PricingCases
 unfolding check_from number bytes_of due_from all_had front_of walk_from fields_from first_with fields_with judge_numbers same_bytes judge_zones_from book_of request_of discount incremental_revenue zone_found values_priced request_priced price_of flat_map

@@ -1,5 +1,5 @@
 -- Document 02, E6: books and requests of both forms, priced. "A two-byte number up to 255 means the same zone as the one-byte number", and 263 is never 7.
-use Rattle.std.specs.Prelude.{ℕ, ◌≡◌, refl, replicate}
+use Rattle.std.specs.Prelude.{ℕ, ◌≡◌, refl, replicate, Err, Ok}
 use mathlib.Core.List.{List, [], ◌∷◌, ◌++◌, map, flat_map}
 use Rattle.numbers.specs.BigEndian.{number, bytes_of}
 use Rattle.numbers.specs.Check.{check_from}
@@ -12,10 +12,8 @@ use Rattle.rate_book.specs.Book.{book_letters, book_of}
 use Rattle.request.specs.Request.{request_letters, request_of}
 use Rattle.discount.specs.Discount.{discount}
 use Rattle.revenue.specs.Revenue.{incremental_revenue}
-use Rattle.charge.specs.Price.{zone_found, values_priced, request_priced, price_of}
+use Rattle.charge.specs.Price.{zone_found, values_priced, request_priced, price_of, Pricing}
 use Rattle.charge.specs.Cases.MarkedFigures.{tier, connection}
-use Rattle.charge.specs.declared.Pricing.{Pricing}
-use Rattle.charge.specs.declared.Pricing.TheVariants.{Priced, NotPriced}
 
 -- a book of zones with these numbers and LV rates, in the form that a zone is written in
 abbrev book_of_zones : (ℕ → List ℕ → ℕ × List ℕ) → List (ℕ × ℕ) → List ℕ
@@ -59,8 +57,8 @@ in_wide zone = request_of_zone [] ((13, bytes_of 2 zone) ∷ [])
 
 -- 0 and MC, or the refusal's number and place
 abbrev ended : Pricing → ℕ × ℕ
-ended (Priced bill) = (0, bill.reconciliation.mc)
-ended (NotPriced r) = (r.number, r.place)
+ended (Ok bill) = (0, bill.reconciliation.mc)
+ended (Err r) = (r.number, r.place)
 
 abbrev narrow_book : List ℕ
 narrow_book = book_of_zones narrow ((0, 10) ∷ (7, 11) ∷ (255, 12) ∷ [])

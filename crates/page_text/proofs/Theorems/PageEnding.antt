@@ -1,5 +1,5 @@
 -- The ending tells the answer: written or refused by the number, and two different answers never end alike.
-use Rattle.std.specs.Prelude.{ℕ, ◌≤◌, ◌≡◌, List, Bool, cond, length}
+use Rattle.std.specs.Prelude.{ℕ, ◌≤◌, ◌≡◌, List, Bool, cond, length, Err, Ok}
 use Rattle.std.proofs.Math.Path.{refl}
 use Rattle.std.proofs.Common.{sym, ap, ◌∙◌}
 use Rattle.std.proofs.Math.Bool.{true, false}
@@ -7,14 +7,10 @@ use Rattle.std.proofs.Math.Dec.{ltb}
 use Rattle.tagged.specs.Ending.{Ending, number_is_0}
 use Rattle.tagged.proofs.Theorems.Ending.{refusal_in, refused_by_number}
 use Rattle.tagged.specs.declared.file.Refusal.{Refusal}
-use Rattle.charge.specs.Price.{price_of}
+use Rattle.charge.specs.Price.{price_of, Pricing}
 use Rattle.charge.proofs.Theorems.PriceRefusals.{pricing_refusal_numbers}
-use Rattle.charge.specs.declared.Pricing.{Pricing}
-use Rattle.charge.specs.declared.Pricing.TheVariants.{Priced, NotPriced}
-use Rattle.page_text.specs.Page.{page_size, page_written}
+use Rattle.page_text.specs.Page.{page_size, page_written, PageWritten}
 use Rattle.page_text.specs.PageEnding.{page_ending, is_written}
-use Rattle.page_text.specs.declared.PageWritten.{PageWritten}
-use Rattle.page_text.specs.declared.PageWritten.TheVariants.{Written, Refused}
 
 module _ (book request out : List ℕ) where
   -- number 0 exactly where the page is written
@@ -22,19 +18,19 @@ module _ (book request out : List ℕ) where
   unfolding page_written
   page_by_number = by (price_of book request) (λ r refused. (pricing_refusal_numbers book request r refused).0) (ltb (length out) page_size) refl
     where
-      by : (pricing : Pricing) → ((r : Refusal) → pricing ≡ NotPriced r → 1 ≤ r.number) → (short : Bool) → ltb (length out) page_size ≡ short →
+      by : (pricing : Pricing) → ((r : Refusal) → pricing ≡ Err r → 1 ≤ r.number) → (short : Bool) → ltb (length out) page_size ≡ short →
           number_is_0 (page_ending (page_written pricing out)) ≡ is_written (page_written pricing out)
-      by (NotPriced r) numbers short e = refused_by_number r (numbers r refl)
-      by (Priced bill) numbers true e = rw e
-      by (Priced bill) numbers false e = rw e
+      by (Err r) numbers short e = refused_by_number r (numbers r refl)
+      by (Ok bill) numbers true e = rw e
+      by (Ok bill) numbers false e = rw e
 
 -- ---- the ending tells the answer
 abbrev page_from : Ending → PageWritten
-page_from ending = cond (number_is_0 ending) Written (Refused (refusal_in ending))
+page_from ending = cond (number_is_0 ending) (Ok tt) (Err (refusal_in ending))
 
 page_from_lem : (written : PageWritten) → number_is_0 (page_ending written) ≡ is_written written → page_from (page_ending written) ≡ written
-page_from_lem Written numbered = refl
-page_from_lem (Refused r) numbered = rw numbered
+page_from_lem (Ok _) numbered = refl
+page_from_lem (Err r) numbered = rw numbered
 
 pub page_by_ending : (book request other_book other_request out other_out : List ℕ) →
     page_ending (page_written (price_of book request) out) ≡ page_ending (page_written (price_of other_book other_request) other_out) →

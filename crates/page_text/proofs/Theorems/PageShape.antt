@@ -1,5 +1,5 @@
 -- The page's lines: each has 64 bytes, the listed label and byte 0A at its end alone, and its amount is read back as the charge's.
-use Rattle.std.specs.Prelude.{ℕ, zero, suc, ◌+◌, ◌*◌, ◌-◌, ◌/◌, ◌%◌, ◌^◌, ◌<◌, ◌≤◌, ◌≡◌, refl, Bool, true, false, cond, ltb, eqb, ℤ, pos, nat_abs, length, get_or, take, drop}
+use Rattle.std.specs.Prelude.{ℕ, zero, suc, ◌+◌, ◌*◌, ◌-◌, ◌/◌, ◌%◌, ◌^◌, ◌<◌, ◌≤◌, ◌≡◌, refl, Bool, true, false, cond, ltb, eqb, ℤ, pos, nat_abs, length, get_or, take, drop, Err, Ok}
 use Rattle.std.proofs.Common.{ap, sym, ◌∙◌, arith, eq-eqb, le-ltb, ltb-true, ltb-false, length-append, length-drop, get_or-append-add, take_at, drop_at}
 use mathlib.Core.List.{List, [], ◌∷◌, ◌++◌, flatten}
 use Rattle.std.proofs.Math.Option.{some}
@@ -10,18 +10,15 @@ use Rattle.tagged.specs.File.{refusal}
 use Rattle.tagged.specs.declared.file.Refusal.{Refusal}
 use Rattle.reconciliation.specs.FigureLimits.{FiguresWithin}
 use Rattle.reconciliation.specs.declared.Reconciliation.{Reconciliation}
-use Rattle.charge.specs.Price.{price_of}
+use Rattle.charge.specs.Price.{price_of, Pricing}
 use Rattle.numbers.specs.BigEndian.{Bytes}
 use Rattle.charge.proofs.Theorems.Bill.{priced_within}
 use Rattle.charge.specs.declared.Bill.{Bill}
-use Rattle.charge.specs.declared.Pricing.{Pricing}
-use Rattle.charge.specs.declared.Pricing.TheVariants.{Priced, NotPriced}
 use Rattle.page_text.specs.AmountGrammar.{amount_read}
-use Rattle.page_text.specs.Page.{amount_text, label_text, right_aligned, line, page_lines, page_of, page_size, Lines, page_written, page_output}
+use Rattle.page_text.specs.Page.{amount_text, label_text, right_aligned, line, page_lines, page_of, page_size, Lines, page_written, page_output, PageWritten}
 use Rattle.page_text.specs.PageColumns.{names, amounts_of, line_of, label_columns, amount_columns, AmountsFit}
 use Rattle.page_text.proofs.Theorems.Page.{amount_short}
 use Rattle.page_text.proofs.Theorems.ReadBack.{columns_written, written_read, amount_no_end}
-use Rattle.page_text.specs.declared.PageWritten.TheVariants.{Written, Refused}
 
 -- ---- lines of 64 bytes, one behind the other
 lines_first : (n : ℕ) (l : List ℕ) (ls : List (List ℕ)) → Lines (suc n) (l ∷ ls) → (length l ≡ 64) × Lines n ls
@@ -225,7 +222,7 @@ no_other_end r fit k h e =
 -- ---- the page that the call writes
 
 -- every amount of a charge has 64 bits
-pub charge_fits : (book_file request_file : List ℕ) (bill : Bill) → Bytes book_file → Bytes request_file → price_of book_file request_file ≡ Priced bill → AmountsFit bill.reconciliation
+pub charge_fits : (book_file request_file : List ℕ) (bill : Bill) → Bytes book_file → Bytes request_file → price_of book_file request_file ≡ Ok bill → AmountsFit bill.reconciliation
 charge_fits book_file request_file bill bytes bytes' priced = by (priced_within book_file request_file bill bytes bytes' priced).figures
   where
     by : FiguresWithin bill.reconciliation → AmountsFit bill.reconciliation
@@ -251,7 +248,7 @@ line_in_output page rest i long h =
     rw (drop-append-le (64 * i) page rest start) (take-append-le 64 (drop (64 * i) page) rest whole)
 
 -- "For each line, the amount can be read off the page in one way only, and it is that of the charge."
-pub page_read_back : (book_file request_file out : List ℕ) (bill : Bill) → Bytes book_file → Bytes request_file → price_of book_file request_file ≡ Priced bill → page_size ≤ length out →
+pub page_read_back : (book_file request_file out : List ℕ) (bill : Bill) → Bytes book_file → Bytes request_file → price_of book_file request_file ≡ Ok bill → page_size ≤ length out →
     (i : ℕ) → i < 12 →
     amount_read (amount_columns (line_of i (page_output (price_of book_file request_file) out))) ≡ some (get_or (amounts_of bill.reconciliation) i (pos 0))
 unfolding page_output
@@ -261,11 +258,11 @@ page_read_back book_file request_file out bill bytes bytes' priced enough i h =
     (amount_read_back r i h (charge_fits book_file request_file bill bytes bytes' priced i h))
 
 -- a refused page leaves the output as it was
-pub refused_page_changes_nothing : (pricing : Pricing) (out : List ℕ) (refused : Refusal) → page_written pricing out ≡ Refused refused → page_output pricing out ≡ out
+pub refused_page_changes_nothing : (pricing : Pricing) (out : List ℕ) (refused : Refusal) → page_written pricing out ≡ Err refused → page_output pricing out ≡ out
 unfolding page_written page_output
-refused_page_changes_nothing (NotPriced r) out refused e = refl
-refused_page_changes_nothing (Priced bill) out refused e = by (ltb (length out) page_size) e
+refused_page_changes_nothing (Err r) out refused e = refl
+refused_page_changes_nothing (Ok bill) out refused e = by (ltb (length out) page_size) e
   where
-    by : (short : Bool) → cond short (Refused (refusal 14 0 0)) Written ≡ Refused refused → cond short out (page_of bill.reconciliation ++ drop page_size out) ≡ out
+    by : (short : Bool) → ◌≡◌ {A = PageWritten} (cond short (Err (refusal 14 0 0)) (Ok tt)) (Err refused) → cond short out (page_of bill.reconciliation ++ drop page_size out) ≡ out
     by true e = refl
     by false e = let z : ◌≡◌ {A = ℕ} 0 1 = cc in absurd (omega arith)

@@ -1,13 +1,11 @@
 -- Amounts, a page and outputs about its length, in literals.
-use Rattle.std.specs.Prelude.{◌-◌, ◌^◌, ◌≡◌, refl, replicate, pos, negsuc}
+use Rattle.std.specs.Prelude.{◌-◌, ◌^◌, ◌≡◌, refl, replicate, pos, negsuc, Err, Ok}
 use mathlib.Core.List.{[], ◌∷◌, flatten}
 use Rattle.tagged.specs.File.{refusal}
 use Rattle.reconciliation.specs.SlipReconciliation.{slip_reconciliation}
 use Rattle.charge.specs.declared.Bill.{Bill}
-use Rattle.charge.specs.declared.Pricing.TheVariants.{Priced, NotPriced}
 use Rattle.slip_text.specs.SlipReading.{ascii}
 use Rattle.page_text.specs.Page.{dollars_text, amount_text, page_of, page_written}
-use Rattle.page_text.specs.declared.PageWritten.TheVariants.{Written, Refused}
 
 -- ---- literal tables
 
@@ -54,8 +52,8 @@ slip_page = refl
 
 -- one byte short, and as long as the page; a pricing that is refused comes first
 pub output_cases : (bill : Bill) →
-    (page_written (Priced bill) (replicate 767 7) ≡ Refused (refusal 14 0 0))
-    × (page_written (Priced bill) (replicate 768 7) ≡ Written)
-    × (page_written (NotPriced (refusal 4 2 0)) [] ≡ Refused (refusal 4 2 0))
+    (page_written (Ok bill) (replicate 767 7) ≡ Err (refusal 14 0 0))
+    × (page_written (Ok bill) (replicate 768 7) ≡ Ok tt)
+    × (page_written (Err (refusal 4 2 0)) [] ≡ Err (refusal 4 2 0))
 unfolding page_written
 output_cases bill = (refl, refl, refl)

@@ -1,5 +1,5 @@
 -- Pages from the bytes of a book and a request on, written out: document 01's slip with fee, minimum and threshold 0 and term 84, and what differs from it.
-use Rattle.std.specs.Prelude.{ℕ, ◌≡◌, refl, take, drop, replicate}
+use Rattle.std.specs.Prelude.{ℕ, ◌≡◌, refl, take, drop, replicate, Err, Ok}
 use mathlib.Core.List.{List, [], ◌∷◌, ◌++◌, flatten, flat_map}
 use Rattle.numbers.specs.BigEndian.{number, bytes_of}
 use Rattle.numbers.specs.Check.{check_from}
@@ -18,7 +18,6 @@ use Rattle.charge.specs.Cases.MarkedFigures.{tier, connection, slip_tiers}
 use Rattle.slip_text.specs.SlipReading.{ascii}
 use Rattle.page_text.specs.Page.{dollars_text, page_of, page_written, page_output}
 use Rattle.page_text.specs.PageColumns.{line_of}
-use Rattle.page_text.specs.declared.PageWritten.TheVariants.{Written, Refused}
 
 -- a book with these factors, capacity charged or not, share and rates of zone 1
 abbrev book_with : ℕ → ℕ → ℕ → List ℕ → List ℕ
@@ -127,10 +126,10 @@ pub record Pages : Type 0 where
   pub few_mc : line_of 1 (page_for few_book few_request) ≡ ascii "MC                                                         0.05\n"
   pub few_nc : line_of 11 (page_for few_book few_request) ≡ ascii "NC                                                        -0.05\n"
   -- the output one byte short, as long as the page and one byte longer; a refused pricing comes first
-  pub output_767 : page_written (price_of slip_book (slip_request 1 57320)) (replicate 767 7) ≡ Refused (refusal 14 0 0)
-  pub output_768 : page_written (price_of slip_book (slip_request 1 57320)) (replicate 768 7) ≡ Written
+  pub output_767 : page_written (price_of slip_book (slip_request 1 57320)) (replicate 767 7) ≡ Err (refusal 14 0 0)
+  pub output_768 : page_written (price_of slip_book (slip_request 1 57320)) (replicate 768 7) ≡ Ok tt
   pub output_769 : drop 768 (page_output (price_of slip_book (slip_request 1 57320)) (replicate 769 7)) ≡ 7 ∷ []
-  pub zone_first : page_written (price_of slip_book (slip_request 2 57320)) [] ≡ Refused (refusal 4 2 0)
+  pub zone_first : page_written (price_of slip_book (slip_request 2 57320)) [] ≡ Err (refusal 4 2 0)
 
 pub page_cases : Pages
 unfolding check_from number bytes_of due_from all_had front_of walk_from fields_from first_with fields_with judge_numbers same_bytes judge_zones_from book_of request_of discount incremental_revenue zone_found values_priced request_priced price_of flat_map flatten dollars_text page_of page_written page_output

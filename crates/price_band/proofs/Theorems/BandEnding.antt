@@ -1,5 +1,5 @@
 -- Pricing between two figures refuses as pricing does, or with 3 or 15 for its bands; its ending tells its answer.
-use Rattle.std.specs.Prelude.{ℕ, ◌≤◌, ◌≡◌, List, pos, nat_abs, get_or}
+use Rattle.std.specs.Prelude.{ℕ, ◌≤◌, ◌≡◌, List, pos, nat_abs, get_or, Err, Ok}
 use Rattle.std.proofs.Math.Path.{refl, ap}
 use Rattle.std.proofs.Common.{sym, ◌∙◌, ⊎_elim, arith}
 use Rattle.std.proofs.Math.Logic.{inl, inr}
@@ -9,35 +9,32 @@ use Rattle.tagged.proofs.Theorems.Ending.{refused_by_number, refused_not_done, r
 use Rattle.tagged.proofs.Theorems.Impossible.{impossible}
 use Rattle.tagged.proofs.Theorems.Walk.{by_test}
 use Rattle.tagged.specs.declared.file.Refusal.{Refusal}
-use Rattle.charge.specs.Price.{price_of}
+use Rattle.charge.specs.Price.{price_of, Pricing}
 use Rattle.charge.proofs.Theorems.Bill.{priced_by}
 use Rattle.charge.proofs.Theorems.PriceRefusals.{pricing_refusal}
-use Rattle.charge.specs.declared.Pricing.{Pricing}
-use Rattle.price_band.specs.PriceBand.{within_limits, low_to_high, if_bands, band_at_ends, if_priced, band_of, band_values}
+use Rattle.price_band.specs.PriceBand.{within_limits, low_to_high, if_bands, band_at_ends, if_priced, band_of, band_values, BandPricing}
 use Rattle.price_band.specs.BandEnding.{band_ending, has_band, BandRefusal}
 use Rattle.price_band.proofs.Theorems.PriceBand.{ends_priced}
 use Rattle.price_band.specs.declared.Bands.{Bands}
 use Rattle.price_band.specs.declared.Band.{Band}
-use Rattle.price_band.specs.declared.BandPricing.{BandPricing}
-use Rattle.price_band.specs.declared.BandPricing.TheVariants.{Priced, NotPriced}
 
 module _ (book_file request_file : List ℕ) (bands : Bands) where
-  pub band_refusal : (r : Refusal) → band_of book_file request_file bands ≡ NotPriced r → BandRefusal r
+  pub band_refusal : (r : Refusal) → band_of book_file request_file bands ≡ Err r → BandRefusal r
   unfolding band_of
   band_refusal r = by_pricing (price_of book_file request_file) refl
     where
-      by_pricing : (pricing : Pricing) → price_of book_file request_file ≡ pricing → if_priced pricing (if_bands bands (band_at_ends book_file request_file bands)) ≡ NotPriced r →
+      by_pricing : (pricing : Pricing) → price_of book_file request_file ≡ pricing → if_priced pricing (if_bands bands (band_at_ends book_file request_file bands)) ≡ Err r →
           BandRefusal r
-      by_pricing (Pricing.NotPriced s) p e = let same : s ≡ r = cc in inl (pricing_refusal book_file request_file r (p ∙ ap Pricing.NotPriced same))
-      by_pricing (Pricing.Priced bill) p e =
-          by_test (λ band. band ≡ NotPriced r → BandRefusal r) (within_limits bands) _ _
+      by_pricing (Err s) p e = let same : s ≡ r = cc in inl (pricing_refusal book_file request_file r (p ∙ ap Err same))
+      by_pricing (Ok bill) p e =
+          by_test (λ band. band ≡ Err r → BandRefusal r) (within_limits bands) _ _
           (λ _.
-          by_test (λ band. band ≡ NotPriced r → BandRefusal r) (low_to_high bands) _ _
+          by_test (λ band. band ≡ Err r → BandRefusal r) (low_to_high bands) _ _
           (λ _ e. impossible (cc (sym e ∙ ends_priced book_file request_file (priced_by book_file request_file bill p) bands)))
           (λ _ e. inr (inr (cc))))
           (λ _ e. inr (inl (cc))) e
 
-  numbered : (r : Refusal) → band_of book_file request_file bands ≡ NotPriced r → 1 ≤ r.number
+  numbered : (r : Refusal) → band_of book_file request_file bands ≡ Err r → 1 ≤ r.number
   numbered r e =
       ⊎_elim (λ priced. ⊎_elim (λ h. h.0) (λ h. h.0) priced)
       (⊎_elim (λ same. let is : r.number ≡ value_not_listed = ap (λ s. s.number) same in omega arith) (λ same. let is : r.number ≡ low_above_high = ap (λ s. s.number) same in omega arith))
@@ -47,9 +44,9 @@ module _ (book_file request_file : List ℕ) (bands : Bands) where
   pub band_by_number : number_is_0 (band_ending (band_of book_file request_file bands)) ≡ has_band (band_of book_file request_file bands)
   band_by_number = by (band_of book_file request_file bands) numbered
     where
-      by : (pricing : BandPricing) → ((r : Refusal) → pricing ≡ NotPriced r → 1 ≤ r.number) → number_is_0 (band_ending pricing) ≡ has_band pricing
-      by (Priced band) numbers = refl
-      by (NotPriced r) numbers = refused_by_number r (numbers r refl)
+      by : (pricing : BandPricing) → ((r : Refusal) → pricing ≡ Err r → 1 ≤ r.number) → number_is_0 (band_ending pricing) ≡ has_band pricing
+      by (Ok band) numbers = refl
+      by (Err r) numbers = refused_by_number r (numbers r refl)
 
 -- ---- the ending tells the answer
 band_by_values : (band other : Band) → band_values band ≡ band_values other → band ≡ other
@@ -71,9 +68,9 @@ pub band_by_ending : (book_file request_file other_book other_request : List ℕ
 band_by_ending book_file request_file other_book other_request bands other_bands =
     by (band_of book_file request_file bands) (band_of other_book other_request other_bands) (numbered book_file request_file bands) (numbered other_book other_request other_bands)
   where
-    by : (pricing other : BandPricing) → ((r : Refusal) → pricing ≡ NotPriced r → 1 ≤ r.number) → ((r : Refusal) → other ≡ NotPriced r → 1 ≤ r.number) →
+    by : (pricing other : BandPricing) → ((r : Refusal) → pricing ≡ Err r → 1 ≤ r.number) → ((r : Refusal) → other ≡ Err r → 1 ≤ r.number) →
         band_ending pricing ≡ band_ending other → pricing ≡ other
-    by (Priced band) (Priced other) numbers others e = ap Priced (band_by_values band other (ap (λ (ending : Ending). ending.values) e))
-    by (Priced band) (NotPriced s) numbers others e = absurd (refused_not_done s _ (others s refl) (sym e))
-    by (NotPriced r) (Priced other) numbers others e = absurd (refused_not_done r _ (numbers r refl) e)
-    by (NotPriced r) (NotPriced s) numbers others e = ap NotPriced (refusal_by_ending r s e)
+    by (Ok band) (Ok other) numbers others e = ap Ok (band_by_values band other (ap (λ (ending : Ending). ending.values) e))
+    by (Ok band) (Err s) numbers others e = absurd (refused_not_done s _ (others s refl) (sym e))
+    by (Err r) (Ok other) numbers others e = absurd (refused_not_done r _ (numbers r refl) e)
+    by (Err r) (Err s) numbers others e = ap Err (refusal_by_ending r s e)

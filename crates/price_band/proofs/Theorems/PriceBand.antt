@@ -1,5 +1,5 @@
 -- Pricing between two figures by its cases, in order: as the request itself is refused, 3, 15, the band; and what a band comes from.
-use Rattle.std.specs.Prelude.{ℕ, ◌≤◌, ◌≡◌, refl, List, [], Bool, true, false, cond, get_or, leb}
+use Rattle.std.specs.Prelude.{ℕ, ◌≤◌, ◌≡◌, refl, List, [], Bool, true, false, cond, get_or, leb, Err, Ok}
 use Rattle.std.proofs.Common.{sym, ap, ap₂, ◌∙◌, arith, leb-true}
 use Rattle.std.proofs.lemmas.Bool.{false≢true}
 use Rattle.numbers.specs.BigEndian.{Bytes}
@@ -9,29 +9,25 @@ use Rattle.tagged.proofs.Theorems.Walk.{by_test}
 use Rattle.tagged.specs.declared.file.Refusal.{Refusal}
 use Rattle.field_values.specs.Limits.{highest_revenue}
 use Rattle.book_zones.specs.Zones.{zone_rates}
-use Rattle.rate_book.specs.Book.{book_of}
 use Rattle.rate_book.proofs.Theorems.BookLimits.{book_within_limits, rates_within_limits}
-use Rattle.request.specs.Request.{request_of}
 use Rattle.request.proofs.Theorems.RequestLimits.{request_within_limits}
 use Rattle.reconciliation.specs.FigureLimits.{CostsWithin}
-use Rattle.charge.specs.Price.{tiers_of, incremental_revenue_of, bill_of, price_of}
+use Rattle.charge.specs.Price.{tiers_of, incremental_revenue_of, bill_of, price_of, Pricing}
 use Rattle.charge.specs.BillLimits.{BillWithin}
 use Rattle.charge.proofs.Theorems.Price.{bill_in_zone}
 use Rattle.charge.proofs.Theorems.Bill.{PricedBy, priced_by, costs_within, bill_within}
 use Rattle.charge.specs.declared.Bill.{Bill}
-use Rattle.charge.specs.declared.Pricing.{Pricing}
 use Rattle.price_band.specs.PriceBand.{within_limits, low_to_high, if_bands, priced_with, band_between, between_pricings, band_at_ends, if_priced, band_of}
 use Rattle.price_band.specs.EndCosts.{end_costs, end_reconciliation}
 use Rattle.price_band.specs.declared.Bands.{Bands}
 use Rattle.price_band.specs.declared.Band.{Band}
-use Rattle.price_band.specs.declared.BandPricing.TheVariants.{Priced, NotPriced}
 
 module _ (book_file request_file : List ℕ) (bands : Bands) where
-  pub band_not_priced : (r : Refusal) → price_of book_file request_file ≡ Pricing.NotPriced r → band_of book_file request_file bands ≡ NotPriced r
+  pub band_not_priced : (r : Refusal) → price_of book_file request_file ≡ Err r → band_of book_file request_file bands ≡ Err r
   unfolding band_of
   band_not_priced r e = rw e
 
-  pub band_judged : (bill : Bill) → price_of book_file request_file ≡ Pricing.Priced bill →
+  pub band_judged : (bill : Bill) → price_of book_file request_file ≡ Ok bill →
       band_of book_file request_file bands ≡ if_bands bands (band_at_ends book_file request_file bands)
   unfolding band_of
   band_judged bill e = rw e
@@ -63,34 +59,30 @@ module _ (book_file request_file : List ℕ) {bill : Bill} (by : PricedBy book_f
   -- its bill with these
   abbrev pub end_bill : ℕ → ℕ → Bill
   end_bill distribution transmission =
-      let book = (book_of 1 book_file).book in
-      let request = (request_of 2 request_file).request in
-      bill_of book (tiers_of (get_or (zone_rates (fields_part book_file)) by.zone []) request) request (incremental_revenue_of book request distribution transmission)
+      bill_of by.book (tiers_of (get_or (zone_rates (fields_part book_file)) by.zone []) by.request) by.request
+      (incremental_revenue_of by.book by.request distribution transmission)
 
-  pub end_priced : (distribution transmission : ℕ) → priced_with book_file request_file distribution transmission ≡ Pricing.Priced (end_bill distribution transmission)
-  end_priced distribution transmission = bill_in_zone _ _ _ distribution transmission by.zone by.found by.allowed
+  pub end_priced : (distribution transmission : ℕ) → priced_with book_file request_file distribution transmission ≡ Ok (end_bill distribution transmission)
+  end_priced distribution transmission =
+      rw (by.book_accepted, by.request_accepted) (bill_in_zone _ _ _ distribution transmission by.zone by.found by.allowed)
 
   pub ends_priced : (bands : Bands) → band_at_ends book_file request_file bands
-      ≡ Priced (band_between (end_bill bands.distribution_low bands.transmission_low).reconciliation (end_bill bands.distribution_high bands.transmission_high).reconciliation)
+      ≡ Ok (band_between (end_bill bands.distribution_low bands.transmission_low).reconciliation (end_bill bands.distribution_high bands.transmission_high).reconciliation)
   ends_priced bands = ap₂ between_pricings (end_priced _ _) (end_priced _ _)
 
   -- from the costs of the bill alone
   pub ends_by_costs : (bands : Bands) →
-      let book = (book_of 1 book_file).book in
-      let request = (request_of 2 request_file).request in
       let costs = end_costs bill.reconciliation in
       band_at_ends book_file request_file bands
-      ≡ Priced (band_between (end_reconciliation book request costs bands.distribution_low bands.transmission_low) (end_reconciliation book request costs bands.distribution_high bands.transmission_high))
+      ≡ Ok (band_between (end_reconciliation by.book by.request costs bands.distribution_low bands.transmission_low) (end_reconciliation by.book by.request costs bands.distribution_high bands.transmission_high))
   ends_by_costs bands =
-      let book = (book_of 1 book_file).book in
-      let request = (request_of 2 request_file).request in
       ends_priced bands
-      ∙ ap (λ b. Priced (band_between (end_reconciliation book request (end_costs b.reconciliation) bands.distribution_low bands.transmission_low) (end_reconciliation book request (end_costs b.reconciliation) bands.distribution_high bands.transmission_high))) (sym by.is)
+      ∙ ap (λ b. Ok (band_between (end_reconciliation by.book by.request (end_costs b.reconciliation) bands.distribution_low bands.transmission_low) (end_reconciliation by.book by.request (end_costs b.reconciliation) bands.distribution_high bands.transmission_high))) (sym by.is)
 
   module _ (bytes : Bytes request_file) where
     pub end_costs_within : CostsWithin (end_costs bill.reconciliation)
     end_costs_within =
-        let within = costs_within (book_of 1 book_file).book (zone_rates (fields_part book_file)) (request_of 2 request_file).request by.zone
+        let within = costs_within by.book (zone_rates (fields_part book_file)) by.request by.zone
         (rates_within_limits 1 book_file by.book_accepted) (request_within_limits 2 request_file bytes by.request_accepted) by.zone_below in
         rw by.is
         (record { me = within.me; mc = within.mc; ce = within.ce; cc2 = within.cc2; de = omega arith; tw = within.tw; hr = within.hr; ol = within.ol })
@@ -98,7 +90,7 @@ module _ (book_file request_file : List ℕ) {bill : Bill} (by : PricedBy book_f
     pub end_within : Bytes book_file → (distribution transmission : ℕ) → distribution ≤ highest_revenue → transmission ≤ highest_revenue →
         BillWithin (end_bill distribution transmission)
     end_within book_bytes distribution transmission d t =
-        bill_within (book_of 1 book_file).book (zone_rates (fields_part book_file)) (request_of 2 request_file).request by.zone distribution transmission
+        bill_within by.book (zone_rates (fields_part book_file)) by.request by.zone distribution transmission
         (book_within_limits 1 book_file by.book_accepted book_bytes) (rates_within_limits 1 book_file by.book_accepted)
         (request_within_limits 2 request_file bytes by.request_accepted) by.zone_below d t
 
@@ -112,17 +104,17 @@ pub record BandBy (book_file request_file : List ℕ) (bands : Bands) (band : Ba
       band
       ≡ band_between (end_bill book_file request_file by bands.distribution_low bands.transmission_low).reconciliation (end_bill book_file request_file by bands.distribution_high bands.transmission_high).reconciliation
 
-pub band_by : (book_file request_file : List ℕ) (bands : Bands) (band : Band) → band_of book_file request_file bands ≡ Priced band → BandBy book_file request_file bands band
+pub band_by : (book_file request_file : List ℕ) (bands : Bands) (band : Band) → band_of book_file request_file bands ≡ Ok band → BandBy book_file request_file bands band
 unfolding band_of
 band_by book_file request_file bands band = by_pricing (price_of book_file request_file) refl
   where
-    by_pricing : (pricing : Pricing) → price_of book_file request_file ≡ pricing → if_priced pricing (if_bands bands (band_at_ends book_file request_file bands)) ≡ Priced band →
+    by_pricing : (pricing : Pricing) → price_of book_file request_file ≡ pricing → if_priced pricing (if_bands bands (band_at_ends book_file request_file bands)) ≡ Ok band →
         BandBy book_file request_file bands band
-    by_pricing (Pricing.NotPriced r) p e = impossible cc
-    by_pricing (Pricing.Priced bill) p e =
-        by_test (λ band'. band' ≡ Priced band → BandBy book_file request_file bands band) (within_limits bands) _ _
+    by_pricing (Err r) p e = impossible cc
+    by_pricing (Ok bill) p e =
+        by_test (λ band'. band' ≡ Ok band → BandBy book_file request_file bands band) (within_limits bands) _ _
         (λ limits.
-        by_test (λ band'. band' ≡ Priced band → BandBy book_file request_file bands band) (low_to_high bands) _ _
+        by_test (λ band'. band' ≡ Ok band → BandBy book_file request_file bands band) (low_to_high bands) _ _
         (λ order e.
         let by = priced_by book_file request_file bill p in
         record { bill = bill; by = by; limits = limits_kept bands limits; order = low_to_high_lem bands order; is = cc (sym e ∙ ends_priced book_file request_file by bands) })

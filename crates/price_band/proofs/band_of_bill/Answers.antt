@@ -1,19 +1,18 @@
 -- The files of a priced request stand, so that the values read are the definition's; both ends come from the bill's costs.
-use Rattle.std.proofs.Common.{List, ap, ap₂, subst, sym, ℕ, ◌∙◌, ◌≡◌}
+use Rattle.std.proofs.Common.{List, ap, ap₂, subst, sym, ℕ, ◌∙◌, ◌≡◌, Ok}
 use Rattle.numbers.specs.BigEndian.{Bytes}
 use Rattle.field_walk.specs.Walk.{FieldsWalk}
 use Rattle.tagged.specs.File.{fields_part}
-use Rattle.tagged.proofs.Theorems.File.{stands_means}
 use Rattle.book_zones.specs.BookRows.{book_rows}
-use Rattle.rate_book.specs.Book.{book_values, book_of}
+use Rattle.rate_book.specs.Book.{book_values}
 use Rattle.rate_book.specs.BookLimits.{BookWithin}
-use Rattle.rate_book.proofs.Theorems.Book.{book_walks, accepted_stands, accepted_values}
+use Rattle.rate_book.proofs.Theorems.Book.{book_walks, accepted_stands, read_is_accepted, book_is_values}
 use Rattle.rate_book.proofs.Theorems.BookLimits.{book_within_limits}
 use Rattle.rate_book.specs.declared.book.Book.{Book}
-use Rattle.request.specs.Request.{request_values, request_of}
+use Rattle.request.specs.Request.{request_values}
 use Rattle.request.specs.RequestLimits.{RequestWithin}
 use Rattle.request.specs.RequestRows.{request_rows}
-use Rattle.request.proofs.Theorems.Request.{request_accepted}
+use Rattle.request.proofs.Theorems.Request.{request_walks, read_accepted, request_is_values}
 use Rattle.request.proofs.Theorems.RequestLimits.{request_within_limits}
 use Rattle.request.specs.declared.values.Request.{Request}
 use Rattle.reconciliation.specs.FigureLimits.{CostsWithin}
@@ -23,17 +22,16 @@ use Rattle.charge.specs.declared.Bill.{Bill}
 use Rattle.price_band.specs.PriceBand.{band_between}
 use Rattle.price_band.specs.EndCosts.{end_costs, end_reconciliation}
 use Rattle.price_band.proofs.Theorems.PriceBand.{limits_kept, ends_by_costs, end_costs_within}
-use Rattle.price_band.specs.declared.BandPricing.TheVariants.{Priced}
 use Rattle.price_band.proofs.band_of_bill.Goals as goal
 
 module _ {book request : List ℕ} {bill : Bill} (by : PricedBy book request bill) where
-  values_are : {values : Book} {part : List ℕ} → values ≡ book_values part → part ≡ fields_part book → values ≡ (book_of 1 book).book
-  values_are e p = e ∙ ap book_values p ∙ sym (accepted_values 1 book by.book_accepted)
+  values_are : {values : Book} {part : List ℕ} → values ≡ book_values part → part ≡ fields_part book → values ≡ by.book
+  values_are e p = e ∙ ap book_values p ∙ sym (book_is_values 1 book by.book_accepted)
 
-  asked_are : {asked : Request} {part : List ℕ} → asked ≡ request_values part → part ≡ fields_part request → asked ≡ (request_of 2 request).request
-  asked_are e p = e ∙ ap request_values p ∙ sym (ap (λ read. read.request) (request_accepted 2 request by.request_accepted).values)
+  asked_are : {asked : Request} {part : List ℕ} → asked ≡ request_values part → part ≡ fields_part request → asked ≡ by.request
+  asked_are e p = e ∙ ap request_values p ∙ sym (request_is_values 2 request by.request_accepted)
 
-  within : {values : Book} {asked : Request} {costs : Costs} → Bytes book → Bytes request → values ≡ (book_of 1 book).book → asked ≡ (request_of 2 request).request
+  within : {values : Book} {asked : Request} {costs : Costs} → Bytes book → Bytes request → values ≡ by.book → asked ≡ by.request
       → costs ≡ end_costs bill.reconciliation → BookWithin values × RequestWithin asked × CostsWithin costs
   within b r p q e = (
     subst BookWithin (sym p) (book_within_limits 1 _ by.book_accepted b),
@@ -48,13 +46,12 @@ same_end distribution transmission p q r = λ i. end_reconciliation (p i) (q i) 
 pub book_values-values-requires : goal.book_values-values-requires
 book_values-values-requires c =
     let file = c.args.book.now in
-    subst (FieldsWalk book_rows) (sym c.fields_part.ensures.0) (book_walks 1 file (accepted_stands 1 file (priced_by _ _ _ c.requires.0).book_accepted))
+    subst (FieldsWalk book_rows) (sym c.fields_part.ensures.0) (book_walks 1 file (accepted_stands 1 file (read_is_accepted 1 file (priced_by _ _ _ c.requires.0).book_accepted)))
 
 pub request_values-asked-requires : goal.request_values-asked-requires
 request_values-asked-requires c =
     let file = c.args.request.now in
-    let walks = stands_means request_rows 2 file (request_accepted 2 file (priced_by _ _ _ c.requires.0).request_accepted).stands in
-    subst (FieldsWalk request_rows) (sym c.fields_part-2.ensures.0) (walks.field_list, walks.walks)
+    subst (FieldsWalk request_rows) (sym c.fields_part-2.ensures.0) (request_walks 2 file (read_accepted 2 file (priced_by _ _ _ c.requires.0).request_accepted).stands)
 
 pub at_end-low-requires : goal.at_end-low-requires
 at_end-low-requires c =
@@ -75,7 +72,7 @@ returns c =
     let by = priced_by _ _ _ c.requires.0 in
     let values = values_are by c.book_values-values.ensures c.fields_part.ensures.0 in
     let asked = asked_are by c.request_values-asked.ensures c.fields_part-2.ensures.0 in
-    ap Priced
+    ap Ok
     (c.band_between.ensures
     ∙ ap₂ band_between (c.at_end-low.ensures ∙ same_end _ _ values asked c.end_costs-costs.ensures)
     (c.at_end-high.ensures ∙ same_end _ _ values asked c.end_costs-costs.ensures))

@@ -1,5 +1,5 @@
 -- Bands on document 01's slip, from the bytes on, with every figure written out.
-use Rattle.std.specs.Prelude.{ℕ, ◌≡◌, refl, ℤ, pos, negsuc}
+use Rattle.std.specs.Prelude.{ℕ, ◌≡◌, refl, ℤ, pos, negsuc, Err, Ok}
 use mathlib.Core.List.{List, [], ◌∷◌, map, flat_map}
 use Rattle.numbers.specs.BigEndian.{number, bytes_of}
 use Rattle.numbers.specs.Check.{check_from}
@@ -14,10 +14,8 @@ use Rattle.discount.specs.Discount.{discount}
 use Rattle.revenue.specs.Revenue.{incremental_revenue}
 use Rattle.charge.specs.Price.{zone_found, values_priced, request_priced, price_of}
 use Rattle.charge.specs.Cases.MarkedFigures.{slip_book_by, slip_book_with, slip_book, slip_request, slip_tiers, connection, request_of_revenues, request_with, bespoke_request}
-use Rattle.price_band.specs.PriceBand.{band_of}
+use Rattle.price_band.specs.PriceBand.{band_of, BandPricing}
 use Rattle.price_band.specs.declared.Bands.{Bands}
-use Rattle.price_band.specs.declared.BandPricing.{BandPricing}
-use Rattle.price_band.specs.declared.BandPricing.TheVariants.{Priced, NotPriced}
 
 -- low and high, of distribution and of transmission
 abbrev bands : ℕ → ℕ → ℕ → ℕ → Bands
@@ -26,7 +24,7 @@ bands a b c d = record { distribution_low = a; distribution_high = b; transmissi
 -- IR, CC and NC, each lowest then highest
 abbrev pub band_of_figures : ℕ → ℕ → ℕ → ℕ → ℤ → ℤ → BandPricing
 band_of_figures a b c d e f =
-    Priced (record { lowest_ir = a; highest_ir = b; lowest_cc = c; highest_cc = d; lowest_nc = e; highest_nc = f })
+    Ok (record { lowest_ir = a; highest_ir = b; lowest_cc = c; highest_cc = d; lowest_nc = e; highest_nc = f })
 
 -- the slip's request but for its class, OL and revenues
 abbrev request_with_revenues : ℕ → ℕ → ℕ → ℕ → List ℕ
@@ -34,7 +32,7 @@ request_with_revenues class ol distribution transmission =
     request_of_revenues (distribution ∷ transmission ∷ []) class 1 (1598500 ∷ 0 ∷ 0 ∷ 0 ∷ 0 ∷ ol ∷ []) slip_tiers (connection 24315 15000 0 0)
 
 abbrev refused : ℕ → BandPricing
-refused number = NotPriced (refusal number 0 0)
+refused number = Err (refusal number 0 0)
 
 abbrev slip_bands : List (Bands × BandPricing)
 slip_bands =
@@ -69,13 +67,13 @@ other_bands =
     -- special pricing with an operating loading, by a book with opex
     (band_of (slip_book_with 0 19300 153800) (request_with_revenues 2 50000 57320 0) (bands 0 57320 0 1), band_of_figures 0 859815 1197621 1756500 (pos 0) (pos 300936)) ∷
     -- the request's own field 08 is judged as always, and stands for nothing where it passes
-    (band_of slip_book (request_with_revenues 1 0 1000000001 0) (bands 0 0 0 0), NotPriced (refusal 3 2 123)) ∷
+    (band_of slip_book (request_with_revenues 1 0 1000000001 0) (bands 0 0 0 0), Err (refusal 3 2 123)) ∷
     (band_of slip_book (request_with_revenues 1 0 1000000000 1) (bands 57320 57320 0 0), band_of_figures 859800 859800 1147630 1147630 (pos 300930) (pos 300930)) ∷
     -- book, request, 4 and 5 come before the figures
-    (band_of [] slip_request (bands 1 0 0 0), NotPriced (refusal 1 1 0)) ∷
-    (band_of slip_book [] (bands 1 0 0 0), NotPriced (refusal 1 2 0)) ∷
-    (band_of slip_book (request_with 2 slip_tiers) (bands 1 0 0 0), NotPriced (refusal 4 2 0)) ∷
-    (band_of slip_book (bespoke_request 12750 57001) (bands 1000000001 0 0 0), NotPriced (refusal 5 2 3)) ∷
+    (band_of [] slip_request (bands 1 0 0 0), Err (refusal 1 1 0)) ∷
+    (band_of slip_book [] (bands 1 0 0 0), Err (refusal 1 2 0)) ∷
+    (band_of slip_book (request_with 2 slip_tiers) (bands 1 0 0 0), Err (refusal 4 2 0)) ∷
+    (band_of slip_book (bespoke_request 12750 57001) (bands 1000000001 0 0 0), Err (refusal 5 2 3)) ∷
     []
 
 pub other_bands_hold : map (λ t. t.0) other_bands ≡ map (λ t. t.1) other_bands

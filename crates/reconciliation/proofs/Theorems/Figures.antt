@@ -1,18 +1,17 @@
 -- Two reconciliations with the same figures are the same.
-use Rattle.std.specs.Prelude.{ℕ, ◌≡◌, refl, pos, nat_abs, get_or}
+use Rattle.std.specs.Prelude.{ℕ, ◌≡◌, refl, pos, nat_abs, get_or, None, Some}
 use Rattle.std.proofs.Common.{ap}
 use Rattle.tagged.proofs.Theorems.Impossible.{impossible}
 use Rattle.reconciliation.specs.Figures.{figure_values, percent_is_there, percent_figure, percent_quotient, percent_remainder}
 use Rattle.reconciliation.specs.declared.Reconciliation.{Reconciliation}
-use Rattle.reconciliation.specs.declared.Percent.{Percent}
-use Rattle.reconciliation.specs.declared.Percent.TheVariants.{Whole, None}
+use Rattle.reconciliation.specs.Percent.{Percent}
 
 percent_told : (p q : Percent) → percent_is_there p ≡ percent_is_there q → percent_figure p ≡ percent_figure q →
     percent_quotient p ≡ percent_quotient q → percent_remainder p ≡ percent_remainder q → p ≡ q
-percent_told (Whole m) (Whole n) told figure quotient remainder =
-    λ i. Whole (record { rounded = figure i; quotient = quotient i; remainder = nat_abs (remainder i) })
-percent_told (Whole m) None told figure quotient remainder = impossible cc
-percent_told None (Whole n) told figure quotient remainder = impossible cc
+percent_told (Some m) (Some n) told figure quotient remainder =
+    λ i. Some (record { rounded = figure i; quotient = quotient i; remainder = nat_abs (remainder i) })
+percent_told (Some m) None told figure quotient remainder = impossible cc
+percent_told None (Some n) told figure quotient remainder = impossible cc
 percent_told None None told figure quotient remainder = refl
 
 pub reconciliation_by_figures : (r s : Reconciliation) → figure_values r ≡ figure_values s → r ≡ s

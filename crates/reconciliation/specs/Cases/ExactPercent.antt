@@ -1,9 +1,8 @@
 -- Quotients and remainders in literals: percentages that add up to 101, halves and the places next to them below 0, divisors of 0 and 1, the lowest NC.
-use Rattle.std.specs.Prelude.{ℕ, ◌≡◌, refl, ℤ, pos, negsuc}
+use Rattle.std.specs.Prelude.{ℕ, ◌≡◌, refl, ℤ, pos, negsuc, None}
 use Rattle.reconciliation.specs.Reconciliation.{reconciliation_of}
 use Rattle.reconciliation.specs.Cases.Reconciliation.{whole}
-use Rattle.reconciliation.specs.declared.Percent.{Percent}
-use Rattle.reconciliation.specs.declared.Percent.TheVariants.{None}
+use Rattle.reconciliation.specs.Percent.{Percent}
 use Rattle.reconciliation.specs.declared.Reconciliation.{Reconciliation}
 
 -- ME, MC, CE and CC2, other amounts 0, and IR; a and the share

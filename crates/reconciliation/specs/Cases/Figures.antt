@@ -1,8 +1,7 @@
 -- The figures of a reconciliation whose amounts all differ, in their order.
-use Rattle.std.specs.Prelude.{◌≡◌, refl, List, [], ◌∷◌, ℤ, pos, negsuc}
+use Rattle.std.specs.Prelude.{◌≡◌, refl, List, [], ◌∷◌, ℤ, pos, negsuc, None}
 use Rattle.reconciliation.specs.Figures.{figure_values}
 use Rattle.reconciliation.specs.Cases.Reconciliation.{whole}
-use Rattle.reconciliation.specs.declared.Percent.TheVariants.{None}
 use Rattle.reconciliation.specs.declared.Reconciliation.{Reconciliation}
 
 -- every figure another one, NC negative, and no percentage of IC

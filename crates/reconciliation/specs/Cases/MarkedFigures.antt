@@ -1,9 +1,8 @@
 -- Percentages and the slip's reconciliation, as document 01 marks them.
-use Rattle.std.specs.Prelude.{◌≡◌, refl, ℤ, pos, negsuc}
+use Rattle.std.specs.Prelude.{◌≡◌, refl, ℤ, pos, negsuc, None}
 use Rattle.reconciliation.specs.Percent.{percent_of}
 use Rattle.reconciliation.specs.SlipReconciliation.{slip_reconciliation}
 use Rattle.reconciliation.specs.Cases.Reconciliation.{whole}
-use Rattle.reconciliation.specs.declared.Percent.TheVariants.{None}
 
 -- M9: "−1 of 200 is −1 percent", and "nearest whole, halves away from zero; none where the divisor is 0"; beside it quotient
 -- and remainder

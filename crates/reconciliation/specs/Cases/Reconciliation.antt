@@ -1,10 +1,9 @@
 -- Reconciliations with every figure written out, at amounts that all differ and none of which is 0 but OL.
-use Rattle.std.specs.Prelude.{ℕ, ◌≡◌, refl, ℤ, pos, negsuc}
+use Rattle.std.specs.Prelude.{ℕ, ◌≡◌, refl, ℤ, pos, negsuc, Some}
 use Rattle.reconciliation.specs.Reconciliation.{reconciliation_of}
 use Rattle.reconciliation.specs.declared.Costs.{Costs}
 use Rattle.reconciliation.specs.declared.Reconciliation.{Reconciliation}
-use Rattle.reconciliation.specs.declared.Percent.{Percent}
-use Rattle.reconciliation.specs.declared.Percent.TheVariants.{Whole}
+use Rattle.reconciliation.specs.Percent.{Percent}
 
 -- ME, MC, CE, CC2, TW, HR, OL; IC, IR, CC; NIC, NC; X, cost entered, borne; the percentages
 abbrev pub figures : (me mc ce cc2 tw hr ol ic ir cc : ℕ) → (nic nc : ℤ) → (x entered borne : ℕ) → (reliance upfront ratio : Percent) → Reconciliation
@@ -32,7 +31,7 @@ figures me mc ce cc2 tw hr ol ic ir cc nic nc x entered borne reliance upfront r
 
 -- a percentage: rounded, and its quotient and remainder
 abbrev pub whole : ℤ → ℤ → ℕ → Percent
-whole rounded quotient remainder = Whole (record { rounded = rounded; quotient = quotient; remainder = remainder })
+whole rounded quotient remainder = Some (record { rounded = rounded; quotient = quotient; remainder = remainder })
 
 -- with these for ME and OL
 abbrev costs_with : ℕ → ℕ → Costs

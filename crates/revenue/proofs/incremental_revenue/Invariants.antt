@@ -1,10 +1,7 @@
 -- The loop keeps that sum is the revenue of the years before n, each at its discount factor; 31 years of greatest revenue fit 64 bits.
-use Rattle.std.proofs.Common.{◌+◌, ◌-◌, ◌≡◌, ◌≤◌}
+use Rattle.std.proofs.Common.{◌≡◌}
 use Rattle.revenue.specs.Revenue.{incremental_revenue}
 use Rattle.revenue.proofs.incremental_revenue.Given as goal
 
 abbrev pub invariant-loop-n : goal.invariant-loop-n
-invariant-loop-n l = (l.n ≤ l.life + 1) × (l.sum ≡ incremental_revenue l.distribution l.transmission l.b l.n)
-
-abbrev pub decreases-loop-n : goal.decreases-loop-n
-decreases-loop-n l = (l.life + 1) - l.n
+invariant-loop-n l = l.sum ≡ incremental_revenue l.distribution l.transmission l.b l.n

@@ -1,6 +1,6 @@
 -- The three lines of quotient and remainder, read off a slip by their grammar alone: the numbers satisfy the equation, and a line is `-` where the divisor is 0.
 use Prim.Native.Nat.{ℕ, zero, suc, ◌+◌, ◌/◌, ◌%◌, ◌^◌, ◌≤◌, ◌<◌}
-use Rattle.std.specs.Prelude.{◌≡◌, Bool, ◌&&◌, ◌||◌, ltb, leb, eqb, ℤ, pos, negsuc, nat_abs, length, get_or}
+use Rattle.std.specs.Prelude.{◌≡◌, Bool, ◌&&◌, ◌||◌, ltb, leb, eqb, ℤ, pos, negsuc, nat_abs, length, get_or, None, Ok, Some}
 use Rattle.std.proofs.Math.Path.{refl, ap}
 use Rattle.std.proofs.Common.{sym, subst, ◌∙◌, arith, eq-eqb, ne_eqb, le-leb, lt-ltb, leb-true, ltb-true, ltb-false}
 use Rattle.std.proofs.Math.Bool.{true, false, cond}
@@ -10,13 +10,11 @@ use Rattle.tagged.proofs.Theorems.Impossible.{impossible}
 use Rattle.numbers.specs.BigEndian.{Bytes}
 use Rattle.reconciliation.specs.ExactPercent.{Exact, ExactPercentages}
 use Rattle.reconciliation.specs.FigureLimits.{PercentWithin, RemainderWithin, FiguresWithin}
-use Rattle.reconciliation.specs.declared.Percent.{Percent}
-use Rattle.reconciliation.specs.declared.Percent.TheVariants.{Whole, None}
+use Rattle.reconciliation.specs.Percent.{Percent}
 use Rattle.reconciliation.specs.declared.Reconciliation.{Reconciliation}
 use Rattle.charge.specs.Price.{price_of}
 use Rattle.charge.proofs.Theorems.Bill.{priced_within, priced_percentages_exact}
 use Rattle.charge.specs.declared.Bill.{Bill}
-use Rattle.charge.specs.declared.Pricing.TheVariants.{Priced}
 use Rattle.slip_text.specs.Slip.{decimal_from, decimal, signed_decimal, percent_text, exact_text, line, exact_lines, reconciliation_lines, slip_of}
 use Rattle.slip_text.specs.SlipReading.{ascii}
 use Rattle.slip_text.specs.ExactReading.{without, before, after, line_of, all_digits, unsigned_read, not_negative, negative, signed_read, ExactRead, exact_read, SaysExact, LineExact, SlipExact}
@@ -82,11 +80,11 @@ module _ (byte : ℕ) where
   signed_without small (negsuc n) = without_both (45 ∷ []) (decimal (suc n)) (without_one 45 (λ e. omega arith)) (digits_without (omega arith) 20 (suc n))
 
   percent_without : byte < 45 → (p : Percent) → without byte (percent_text p) ≡ true
-  percent_without small (Whole p) = signed_without small p.rounded
+  percent_without small (Some p) = signed_without small p.rounded
   percent_without small None = without_one 45 (λ e. omega arith)
 
 exact_without_end : (p : Percent) → without 10 (exact_text p) ≡ true
-exact_without_end (Whole p) =
+exact_without_end (Some p) =
     without_both 10 (signed_decimal p.quotient) (32 ∷ decimal p.remainder) (signed_without 10 (omega arith) p.quotient)
     (without_both 10 (32 ∷ []) (decimal p.remainder) (without_one 10 32 (λ e. omega arith)) (digits_without 10 (omega arith) 20 p.remainder))
 exact_without_end None = without_one 10 45 (λ e. omega arith)
@@ -161,7 +159,7 @@ exact_read_back quotient remainder h k =
 says_exact : (numerator : ℤ) (divisor limit : ℕ) → limit < 10 ^ 20 → (p : Percent) → Exact numerator divisor p → PercentWithin limit p → RemainderWithin p →
     SaysExact numerator divisor (exact_read (exact_text p))
 unfolding exact_read without
-says_exact numerator divisor limit small (Whole p) exact within left =
+says_exact numerator divisor limit small (Some p) exact within left =
     rw (exact_read_back p.quotient p.remainder (omega (arith, within.1)) (omega (arith, left))) exact.0
 says_exact numerator divisor limit small None exact within left = exact
 
@@ -239,7 +237,7 @@ module _ (r : Reconciliation) where
 
 -- The reader finds on the three lines of every priced slip numbers that satisfy "100 × numerator = quotient × divisor + remainder, remainder from 0 to
 -- divisor − 1", or `-` where the divisor is 0.
-pub slip_read_exact : (book request : List ℕ) (bill : Bill) → Bytes book → Bytes request → price_of book request ≡ Priced bill →
+pub slip_read_exact : (book request : List ℕ) (bill : Bill) → Bytes book → Bytes request → price_of book request ≡ Ok bill →
     SlipExact (slip_of (price_of book request)) bill.reconciliation
 unfolding slip_of
 slip_read_exact book request bill bytes bytes' priced =

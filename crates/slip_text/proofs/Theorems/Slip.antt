@@ -1,5 +1,5 @@
 -- The slip's figures read back as themselves, it fits in the room of a text, and a refused one changes nothing.
-use Rattle.std.specs.Prelude.{ℕ, zero, suc, ◌+◌, ◌/◌, ◌%◌, ◌^◌, ◌≤◌, ◌<◌, ◌≡◌, refl, Bool, true, false, cond, ltb, ℤ, pos, negsuc, nat_abs, length, get_or, drop}
+use Rattle.std.specs.Prelude.{ℕ, zero, suc, ◌+◌, ◌/◌, ◌%◌, ◌^◌, ◌≤◌, ◌<◌, ◌≡◌, refl, Bool, true, false, cond, ltb, ℤ, pos, negsuc, nat_abs, length, get_or, drop, Err, None, Ok, Some}
 use Rattle.std.proofs.Common.{ap, sym, ◌∙◌, ⊎_elim, pow-suc, arith, lt-ltb, le-ltb, ltb-true, ltb-false, ne_eqb, length-append}
 use mathlib.Core.List.Memᴰ
 use mathlib.Core.List.{List, [], ◌∷◌, ◌++◌, foldl-append, Memᴰ, flatten}
@@ -8,15 +8,11 @@ use Rattle.tagged.proofs.Theorems.Impossible.{impossible}
 use Rattle.tagged.specs.File.{refusal}
 use Rattle.tagged.specs.Refusals.{output_too_short}
 use Rattle.tagged.specs.declared.file.Refusal.{Refusal}
-use Rattle.reconciliation.specs.declared.Percent.{Percent}
-use Rattle.reconciliation.specs.declared.Percent.TheVariants.{Whole, None}
-use Rattle.charge.specs.Price.{price_of}
+use Rattle.reconciliation.specs.Percent.{Percent}
+use Rattle.charge.specs.Price.{price_of, Pricing}
 use Rattle.charge.specs.Cases.MarkedFigures.{slip_book, slip_request, slip_priced}
-use Rattle.charge.specs.declared.Pricing.{Pricing}
-use Rattle.charge.specs.declared.Pricing.TheVariants.{Priced, NotPriced}
 use Rattle.slip_text.specs.Slip.{decimal_from, decimal, signed_decimal, percent_text, exact_text, slip_of, slip_written, slip_buffer, room}
 use Rattle.slip_text.specs.SlipReading.{read_decimal, read_signed, ascii}
-use Rattle.slip_text.specs.declared.SlipWritten.TheVariants.{Written, Refused}
 
 digits_end : (most n : ℕ) → n < 10 → decimal_from (suc most) n ≡ (48 + n) ∷ []
 unfolding decimal_from
@@ -130,28 +126,28 @@ signed_short (pos n) = omega (arith, decimal_short n)
 signed_short (negsuc n) = omega (arith, decimal_short (suc n))
 
 percent_short : (p : Percent) → length (percent_text p) ≤ 21
-percent_short (Whole p) = signed_short p.rounded
+percent_short (Some p) = signed_short p.rounded
 percent_short None = omega arith
 
 exact_short : (p : Percent) → length (exact_text p) ≤ 42
-exact_short (Whole p) = simp length-append (omega (arith, signed_short p.quotient, decimal_short p.remainder))
+exact_short (Some p) = simp length-append (omega (arith, signed_short p.quotient, decimal_short p.remainder))
 exact_short None = omega arith
 
 -- every slip fits in the room of a text
 pub slip_fits : (pricing : Pricing) → length (slip_of pricing) ≤ room
 unfolding slip_of flatten
-slip_fits (Priced bill) =
+slip_fits (Ok bill) =
     let r = bill.reconciliation in
     simp length-append
     (omega (arith, decimal_short r.cc, decimal_short r.ic, decimal_short r.ir, signed_short r.nic, signed_short r.nc, percent_short r.reliance, percent_short r.upfront, percent_short r.nc_ratio, exact_short r.reliance, exact_short r.upfront, exact_short r.nc_ratio))
-slip_fits (NotPriced r) =
+slip_fits (Err r) =
     simp length-append (omega (arith, decimal_short r.number, decimal_short r.file, decimal_short r.place))
 
 -- a refused slip leaves the buffer as it was
-pub refused_slip_changes_nothing : (pricing : Pricing) (out : List ℕ) (r : Refusal) → slip_written pricing out ≡ Refused r → slip_buffer pricing out ≡ out
+pub refused_slip_changes_nothing : (pricing : Pricing) (out : List ℕ) (r : Refusal) → slip_written pricing out ≡ Err r → slip_buffer pricing out ≡ out
 refused_slip_changes_nothing pricing out r = by (ltb (length out) (length (slip_of pricing)))
   where
-    by : (t : Bool) → cond t (Refused (refusal output_too_short 0 0)) (Written (length (slip_of pricing))) ≡ Refused r → cond t out (slip_of pricing ++ drop (length (slip_of pricing)) out) ≡ out
+    by : (t : Bool) → cond t (Err (refusal output_too_short 0 0)) (Ok (length (slip_of pricing))) ≡ Err r → cond t out (slip_of pricing ++ drop (length (slip_of pricing)) out) ≡ out
     by true e = refl
     by false e = impossible cc
 
@@ -162,10 +158,10 @@ unfolding slip_of decimal_from flatten
 slip_of_document_01 = ap slip_of slip_priced
 
 -- A slip that is written fits the buffer.
-pub written_within : (pricing : Pricing) (out : List ℕ) (size : ℕ) → slip_written pricing out ≡ Written size → size ≤ length out
+pub written_within : (pricing : Pricing) (out : List ℕ) (size : ℕ) → slip_written pricing out ≡ Ok size → size ≤ length out
 written_within pricing out size e = by (ltb (length out) (length (slip_of pricing))) refl e
   where
     by : (short : Bool) → ltb (length out) (length (slip_of pricing)) ≡ short →
-        cond short (Refused (refusal output_too_short 0 0)) (Written (length (slip_of pricing))) ≡ Written size → size ≤ length out
+        cond short (Err (refusal output_too_short 0 0)) (Ok (length (slip_of pricing))) ≡ Ok size → size ≤ length out
     by true t p = impossible cc
     by false t p = let same : length (slip_of pricing) ≡ size = cc in omega (arith, ltb-false (length out) (length (slip_of pricing)) t)

@@ -1,19 +1,15 @@
 -- How long a slip of two files is at most: by the limits of the figures, with every line at its longest.
-use Rattle.std.specs.Prelude.{ℕ, suc, ◌+◌, ◌*◌, ◌/◌, ◌%◌, ◌^◌, ◌≤◌, ◌<◌, ◌≡◌, refl, Bool, true, false, cond, eqb, ℤ, pos, negsuc, nat_abs, length}
+use Rattle.std.specs.Prelude.{ℕ, suc, ◌+◌, ◌*◌, ◌/◌, ◌%◌, ◌^◌, ◌≤◌, ◌<◌, ◌≡◌, refl, Bool, true, false, cond, eqb, ℤ, pos, negsuc, nat_abs, length, Err, None, Ok, Some}
 use Rattle.std.proofs.Common.{subst, arith, length-append}
 use mathlib.Core.List.{List, flatten}
 use Rattle.numbers.specs.BigEndian.{Bytes}
-use Rattle.reconciliation.specs.Percent.{nearest, whole_of, percent_of}
+use Rattle.reconciliation.specs.Percent.{nearest, whole_of, percent_of, Percent}
 use Rattle.reconciliation.specs.Reconciliation.{reconciliation_of}
 use Rattle.reconciliation.specs.FigureLimits.{PercentWithin, RemainderWithin, FiguresWithin}
 use Rattle.reconciliation.specs.declared.Costs.{Costs}
-use Rattle.reconciliation.specs.declared.Percent.{Percent}
-use Rattle.reconciliation.specs.declared.Percent.TheVariants.{Whole, None}
-use Rattle.charge.specs.Price.{price_of}
+use Rattle.charge.specs.Price.{price_of, Pricing}
 use Rattle.charge.proofs.Theorems.Bill.{priced_by, priced_within}
 use Rattle.charge.specs.declared.Bill.{Bill}
-use Rattle.charge.specs.declared.Pricing.{Pricing}
-use Rattle.charge.specs.declared.Pricing.TheVariants.{Priced, NotPriced}
 use Rattle.slip_text.specs.Slip.{decimal, signed_decimal, percent_text, exact_text, reconciliation_lines, slip_of, longest_slip}
 use Rattle.slip_text.proofs.Theorems.Slip.{decimal_short, decimal_within}
 
@@ -22,7 +18,7 @@ signed_within most (pos n) h b = omega (arith, decimal_within most n h b)
 signed_within most (negsuc n) h b = omega (arith, decimal_within most (suc n) h b)
 
 -- a remainder has 13 digits
-remainder_fits : (n : ℕ) → RemainderWithin (Whole (record { rounded = pos 0; quotient = pos 0; remainder = n })) → length (decimal n) ≤ 13
+remainder_fits : (n : ℕ) → RemainderWithin (Some (record { rounded = pos 0; quotient = pos 0; remainder = n })) → length (decimal n) ≤ 13
 remainder_fits n h = decimal_within 12 n (omega (arith, h)) (omega (arith, h))
 
 -- a part's percentage has 3 digits and no sign
@@ -30,8 +26,8 @@ part_fits : (n divisor : ℕ) → PercentWithin 100 (percent_of (pos n) divisor)
     (length (percent_text (percent_of (pos n) divisor)) ≤ 3) × (length (exact_text (percent_of (pos n) divisor)) ≤ 17)
 part_fits n divisor = by (eqb divisor 0)
   where
-    by : (t : Bool) → PercentWithin 100 (cond t None (Whole (whole_of (pos n) divisor))) → RemainderWithin (cond t None (Whole (whole_of (pos n) divisor))) →
-        (length (percent_text (cond t None (Whole (whole_of (pos n) divisor)))) ≤ 3) × (length (exact_text (cond t None (Whole (whole_of (pos n) divisor)))) ≤ 17)
+    by : (t : Bool) → PercentWithin 100 (cond t None (Some (whole_of (pos n) divisor))) → RemainderWithin (cond t None (Some (whole_of (pos n) divisor))) →
+        (length (percent_text (cond t None (Some (whole_of (pos n) divisor)))) ≤ 3) × (length (exact_text (cond t None (Some (whole_of (pos n) divisor)))) ≤ 17)
     by true within left = (omega arith, omega arith)
     by false within left =
         let quotient = decimal_within 2 (100 * n / divisor) (omega (arith, within.1)) (omega (arith, within.1)) in (
@@ -41,7 +37,7 @@ part_fits n divisor = by (eqb divisor 0)
 
 -- any percentage has 15 digits and a sign
 percent_fits : (limit : ℕ) → limit < 10 ^ 15 → (p : Percent) → PercentWithin limit p → RemainderWithin p → (length (percent_text p) ≤ 16) × (length (exact_text p) ≤ 30)
-percent_fits limit small (Whole p) within left = (
+percent_fits limit small (Some p) within left = (
   signed_within 14 p.rounded (omega (arith, within.0)) (omega (arith, within.0)),
   simp length-append (omega (arith, signed_within 14 p.quotient (omega (arith, within.1)) (omega (arith, within.1)), remainder_fits p.remainder left)),
 )
@@ -67,13 +63,13 @@ pub longest_slip_lem : (book request : List ℕ) → Bytes book → Bytes reques
 unfolding slip_of
 longest_slip_lem book request bytes bytes' = by (price_of book request) refl
   where
-    priced : (bill : Bill) → price_of book request ≡ Priced bill → length (slip_of (Priced bill)) ≤ longest_slip
+    priced : (bill : Bill) → price_of book request ≡ Ok bill → length (slip_of (Ok bill)) ≤ longest_slip
     priced bill e =
         let is = (priced_by book request bill e).is in
         let within = subst (λ (b : Bill). FiguresWithin b.reconciliation) is (priced_within book request bill bytes bytes' e).figures in
         rw is (reconciliation_fits _ _ _ _ within)
 
     by : (pricing : Pricing) → price_of book request ≡ pricing → length (slip_of pricing) ≤ longest_slip
-    by (Priced bill) e = priced bill e
-    by (NotPriced r) e =
+    by (Ok bill) e = priced bill e
+    by (Err r) e =
         simp length-append (omega (arith, decimal_short r.number, decimal_short r.file, decimal_short r.place))

@@ -1,19 +1,16 @@
 -- Lines of a slip in literals: a refusal, no percentage, a negative figure, 0; and a buffer as long as the slip, shorter and longer.
-use Rattle.std.specs.Prelude.{◌^◌, ◌-◌, [], ◌∷◌, ◌++◌, ◌≡◌, refl, pos, negsuc, replicate}
+use Rattle.std.specs.Prelude.{◌^◌, ◌-◌, [], ◌∷◌, ◌++◌, ◌≡◌, refl, pos, negsuc, replicate, Err, None, Ok}
 use Rattle.tagged.specs.File.{refusal}
-use Rattle.reconciliation.specs.declared.Percent.TheVariants.{None}
-use Rattle.charge.specs.declared.Pricing.TheVariants.{NotPriced}
 use Rattle.slip_text.specs.Slip.{slip_written, slip_buffer, decimal_from, decimal, signed_decimal, percent_text, slip_of}
 use Rattle.slip_text.specs.SlipReading.{ascii}
-use Rattle.slip_text.specs.declared.SlipWritten.TheVariants.{Written, Refused}
 
 -- a refusal, no percentage, a negative figure, 0
-pub printed_figures : (slip_of (NotPriced (refusal 3 1 87)) ≡ ascii "REFUSED 3 1 87\n") × (percent_text None ≡ ascii "-") × (signed_decimal (negsuc 0) ≡ ascii "-1") × (decimal 0 ≡ ascii "0")
+pub printed_figures : (slip_of (Err (refusal 3 1 87)) ≡ ascii "REFUSED 3 1 87\n") × (percent_text None ≡ ascii "-") × (signed_decimal (negsuc 0) ≡ ascii "-1") × (decimal 0 ≡ ascii "0")
 unfolding slip_of decimal_from
 printed_figures = (refl, refl, refl, refl)
 
 -- a buffer as long as the slip, one byte shorter, one byte longer
-pub buffer_limits : (slip_written (NotPriced (refusal 3 1 87)) (replicate 15 7) ≡ Written 15) × (slip_written (NotPriced (refusal 3 1 87)) (replicate 14 7) ≡ Refused (refusal 14 0 0)) × (slip_buffer (NotPriced (refusal 3 1 87)) (replicate 16 7) ≡ ascii "REFUSED 3 1 87\n" ++ (7 ∷ []))
+pub buffer_limits : (slip_written (Err (refusal 3 1 87)) (replicate 15 7) ≡ Ok 15) × (slip_written (Err (refusal 3 1 87)) (replicate 14 7) ≡ Err (refusal 14 0 0)) × (slip_buffer (Err (refusal 3 1 87)) (replicate 16 7) ≡ ascii "REFUSED 3 1 87\n" ++ (7 ∷ []))
 unfolding slip_of decimal_from
 buffer_limits = (refl, refl, refl)
 
