@@ -1,12 +1,11 @@
 -- What accept answers and leaves, and when: document 01's order of refusals, 13, pricing's own, 10, 7, 6, 8, 9, each case with the tests that lead to it;
 -- where none refuses, what becomes of the joining, and then of the opening.
-use Rattle.std.specs.Prelude.{ℕ, ◌+◌, ◌-◌, ◌<◌, ◌≤◌, ◌≡◌, true, false, ◌⊎◌, length}
+use Rattle.std.specs.Prelude.{ℕ, ◌+◌, ◌-◌, ◌<◌, ◌≤◌, ◌≡◌, true, false, ◌⊎◌, length, Err, None, Ok, Option, Some}
 use Rattle.tagged.specs.File.{refusal}
 use Rattle.tagged.specs.Refusals.{scheme_never_opened, month_before_last, no_scheme_left, no_entry_left, no_connection_left, ledger_unsound}
 use Rattle.tagged.specs.declared.file.Refusal.{Refusal}
 use Rattle.charge.specs.declared.Bill.{Bill}
-use Rattle.charge.specs.declared.Pricing.{Pricing}
-use Rattle.charge.specs.declared.Pricing.TheVariants.{Priced, NotPriced}
+use Rattle.charge.specs.Price.{Pricing}
 use Rattle.ledger.specs.Limits.{most_schemes, most_entries, most_connections}
 use Rattle.ledger.specs.Lists.{found}
 use Rattle.ledger.specs.Books.{SchemeParticulars, scheme_at}
@@ -17,7 +16,6 @@ use Rattle.calls.specs.Carried.{State, books_on, booked, joined, opened}
 use Rattle.calls.specs.Answers.{accepted_as, joined_as}
 use Rattle.calls.specs.declared.courses.Joining.{Joining}
 use Rattle.calls.specs.declared.answers.JoiningAnswer.{JoiningAnswer}
-use Rattle.calls.specs.declared.answers.OpeningAnswer.{OpeningAnswer}
 
 -- ---- what is read off the books
 
@@ -49,7 +47,7 @@ module _ (state : State) where
     -- neither 13 nor refused by pricing
     pub record Billed : Type 0 where
       pub stands : sound state.ledger state.table (length state.table) ≡ true
-      pub priced : pricing ≡ Priced bill
+      pub priced : pricing ≡ Ok bill
 
     -- neither 10 nor 7
     pub record MayConnect : Type 0 where
@@ -84,19 +82,19 @@ module _ (state : State) where
           G ≡ contribution_of state bill scheme → JoiningAnswers (joined_as (state.ledger.entries + 1) G) 1 (joined_with state bill scheme G)
 
     -- what becomes of the opening, which "comes after its joining is booked": its answer, how many schemes and entries it needs, and what it leaves
-    pub data OpeningAnswers (between : State) : OpeningAnswer → ℕ → State → Type 0 where
+    pub data OpeningAnswers (between : State) : Option ℕ → ℕ → State → Type 0 where
       opens_none : (1 ≤ bill.applicant.mark) ⊎ (bill.reconciliation.x ≤ bill.terms.threshold) →
-          OpeningAnswers between OpeningAnswer.NotOpened 0 between
+          OpeningAnswers between None 0 between
       -- "mark 0, and X .. above the threshold": "a scheme of cost X opens .., and the applicant is its first entry with X put in"
       opens : bill.applicant.mark ≡ 0 → bill.terms.threshold < bill.reconciliation.x →
-          OpeningAnswers between (OpeningAnswer.Opened (state.ledger.count + 1)) 1 (opened true bill between)
+          OpeningAnswers between (Some (state.ledger.count + 1)) 1 (opened true bill between)
 
 -- ---- what accept answers and leaves, and when
 pub data Answers (state : State) (pricing : Pricing) : CallAnswer → State → Type 0 where
   -- 13: ledger unsound, or table shorter than its entries
   refused_13 : sound state.ledger state.table (length state.table) ≡ false → Answers state pricing (is_refused (refusal ledger_unsound 0 0)) state
   -- book, request, 4, 5
-  refused_by_pricing : {r : Refusal} → sound state.ledger state.table (length state.table) ≡ true → pricing ≡ NotPriced r →
+  refused_by_pricing : {r : Refusal} → sound state.ledger state.table (length state.table) ≡ true → pricing ≡ Err r →
       Answers state pricing (is_refused r) state
   -- 10: 1,000,000 connections taken
   refused_10 : {bill : Bill} → Billed state pricing bill → most_connections ≤ state.ledger.connections →
@@ -109,14 +107,14 @@ pub data Answers (state : State) (pricing : Pricing) : CallAnswer → State → 
       Answers state pricing (is_refused (refusal scheme_never_opened 0 0)) state
   -- "8 and 9 are judged for joining and opening together, before either is booked."
   -- 8: 64 schemes, one must open
-  refused_8 : {bill : Bill} {joining : JoiningAnswer} {opening : OpeningAnswer} {entries new : ℕ} {between after : State} → MayConnect state pricing bill →
+  refused_8 : {bill : Bill} {joining : JoiningAnswer} {opening : Option ℕ} {entries new : ℕ} {between after : State} → MayConnect state pricing bill →
       JoiningAnswers state bill joining entries between → OpeningAnswers state bill between opening new after → most_schemes < state.ledger.count + new →
       Answers state pricing (is_refused (refusal no_scheme_left 0 0)) state
   -- 9: the entries that both need aren't left
-  refused_9 : {bill : Bill} {joining : JoiningAnswer} {opening : OpeningAnswer} {entries new : ℕ} {between after : State} → MayConnect state pricing bill →
+  refused_9 : {bill : Bill} {joining : JoiningAnswer} {opening : Option ℕ} {entries new : ℕ} {between after : State} → MayConnect state pricing bill →
       JoiningAnswers state bill joining entries between → OpeningAnswers state bill between opening new after → state.ledger.count + new ≤ most_schemes →
       EntriesLacking state (entries + new) → Answers state pricing (is_refused (refusal no_entry_left 0 0)) state
   -- every joining with every opening; "plain" is none of both
-  accepts : {bill : Bill} {joining : JoiningAnswer} {opening : OpeningAnswer} {entries new : ℕ} {between after : State} → MayConnect state pricing bill →
+  accepts : {bill : Bill} {joining : JoiningAnswer} {opening : Option ℕ} {entries new : ℕ} {between after : State} → MayConnect state pricing bill →
       JoiningAnswers state bill joining entries between → OpeningAnswers state bill between opening new after → state.ledger.count + new ≤ most_schemes →
       EntriesLeft state (entries + new) → Answers state pricing (accepted_as bill joining opening) after

@@ -1,9 +1,8 @@
 -- The laws that the functions of src/ are there for, one statement each; the proofs stand in specs/.
-use Rattle.std.specs.Prelude.{ℕ, ◌<◌, ◌≡◌, List, length, get_or, set}
+use Rattle.std.specs.Prelude.{ℕ, ◌<◌, ◌≡◌, List, length, get_or, set, Ok}
 use Rattle.tagged.specs.declared.file.Refusal.{Refusal}
 use Rattle.charge.specs.Price.{price_of}
 use Rattle.charge.specs.declared.Bill.{Bill}
-use Rattle.charge.specs.declared.Pricing.TheVariants.{Priced}
 use Rattle.ledger.specs.Limits.{most_schemes}
 use Rattle.calls.specs.Decision.{accept, CallAnswer, is_refused}
 use Rattle.calls.specs.Carried.{State}
@@ -39,12 +38,12 @@ RefusalNumbers =
 -- one byte of the book is another byte
 abbrev pub AlteredBookNotAccepted : Type 0
 AlteredBookNotAccepted =
-    (state : State) (book request : List ℕ) (bill : Bill) (priced : price_of book request ≡ Priced bill) (i b : ℕ) (below : b < 256) → Bytes book → i < length book → (get_or book i 0 ≡ b → ⊥) → RefusedAndLeft state (accept (set book i b) request)
+    (state : State) (book request : List ℕ) (bill : Bill) (priced : price_of book request ≡ Ok bill) (i b : ℕ) (below : b < 256) → Bytes book → i < length book → (get_or book i 0 ≡ b → ⊥) → RefusedAndLeft state (accept (set book i b) request)
 
 -- one byte of the request is another byte
 abbrev pub AlteredRequestNotAccepted : Type 0
 AlteredRequestNotAccepted =
-    (state : State) (book request : List ℕ) (bill : Bill) (priced : price_of book request ≡ Priced bill) (i b : ℕ) (below : b < 256) → Bytes request → i < length request → (get_or request i 0 ≡ b → ⊥) → RefusedAndLeft state (accept book (set request i b))
+    (state : State) (book request : List ℕ) (bill : Bill) (priced : price_of book request ≡ Ok bill) (i b : ℕ) (below : b < 256) → Bytes request → i < length request → (get_or request i 0 ≡ b → ⊥) → RefusedAndLeft state (accept book (set request i b))
 
 -- the answer is by what pricing answers
 abbrev pub AnsweredByPricing : Type 0

@@ -1,12 +1,11 @@
 -- An accept as the code makes it, over columns and places: the connection is booked, the joining that is paid comes next, and a scheme that opens last. By
 -- `plan_is_call` it comes to what the call answers and leaves.
-use Rattle.std.specs.Prelude.{ℕ, ◌+◌, ◌-◌, List, [], ◌++◌, Bool, true, false, cond, length, take, get_or, set, replicate}
+use Rattle.std.specs.Prelude.{ℕ, ◌+◌, ◌-◌, List, [], ◌++◌, Bool, true, false, cond, length, take, get_or, set, replicate, Err, None, Ok, Option, Some}
 use Rattle.tagged.specs.File.{refusal}
 use Rattle.tagged.specs.Refusals.{ledger_unsound}
 use Rattle.tagged.specs.declared.file.Refusal.{Refusal}
 use Rattle.charge.specs.declared.Bill.{Bill}
-use Rattle.charge.specs.declared.Pricing.{Pricing}
-use Rattle.charge.specs.declared.Pricing.TheVariants.{Priced, NotPriced}
+use Rattle.charge.specs.Price.{Pricing}
 use Rattle.ledger.specs.Limits.{most_entries}
 use Rattle.ledger.specs.Records.{no_scheme, no_party}
 use Rattle.ledger.specs.Updates.{with_fees, with_connection, with_entries, with_schemes}
@@ -14,23 +13,15 @@ use Rattle.ledger.specs.Lookup.{scheme_place}
 use Rattle.ledger.specs.Sound.{sound}
 use Rattle.ledger.specs.declared.records.Party.{Party}
 use Rattle.ledger.specs.declared.records.Ledger.{Ledger}
-use Rattle.ledger.specs.declared.lookup.SchemeAt.{SchemeAt}
-use Rattle.ledger.specs.declared.lookup.SchemeAt.TheVariants.{Place, NeverOpened}
 use Rattle.calls.specs.ByPlace.{credits_among}
-use Rattle.calls.specs.Verdict.{verdict}
-use Rattle.calls.specs.Decision.{acceptance_of}
+use Rattle.calls.specs.Verdict.{verdict, Verdict}
+use Rattle.calls.specs.Decision.{acceptance_of, AcceptAnswer}
 use Rattle.calls.specs.Carried.{new_party, new_scheme}
 use Rattle.calls.specs.declared.courses.Joining.{Joining}
 use Rattle.calls.specs.declared.courses.Joining.TheVariants.{NotAsked, Ended, Small, Pays}
 use Rattle.calls.specs.declared.courses.Course.{Course}
-use Rattle.calls.specs.declared.courses.Verdict.{Verdict}
-use Rattle.calls.specs.declared.courses.Verdict.TheVariants.{Accepts, Refuses}
-use Rattle.calls.specs.declared.answers.AcceptAnswer.{AcceptAnswer}
-use Rattle.calls.specs.declared.answers.AcceptAnswer.TheVariants.{Accepted, NotAccepted}
 use Rattle.verdict.specs.Snapshot.{snapshot_books}
-use Rattle.acceptance.specs.PlanCarried.{plan_carried_out}
-use Rattle.acceptance.specs.declared.accept.Plan.{Plan}
-use Rattle.acceptance.specs.declared.accept.Added.{Added}
+use Rattle.acceptance.specs.PlanCarried.{Plan, plan_carried_out}
 
 -- ---- the ledger
 abbrev pub booked_ledger : Bill → Ledger → Ledger
@@ -44,9 +35,9 @@ fee_taken at fee ledger =
     (with_schemes ledger.count (set ledger.schemes at (with_fees (scheme.fees + fee) scheme)) ledger)
 
 -- a verdict that accepts has found the scheme, so that the second case doesn't come up
-abbrev pub fee_at_place : SchemeAt → ℕ → Ledger → Ledger
-fee_at_place (Place at) fee ledger = fee_taken at fee ledger
-fee_at_place NeverOpened fee ledger = ledger
+abbrev pub fee_at_place : Option ℕ → ℕ → Ledger → Ledger
+fee_at_place (Some at) fee ledger = fee_taken at fee ledger
+fee_at_place None fee ledger = ledger
 
 abbrev pub joined_ledger : Joining → Bill → Ledger → Ledger
 joined_ledger NotAsked bill ledger = ledger
@@ -69,7 +60,11 @@ credits_by entries bill Ended = []
 credits_by entries bill Small = []
 credits_by entries bill (Pays paid) = credits_among bill.applicant.scheme (paid.collected - paid.fee) entries
 
--- ---- the entries that are added: a joiner's, then the first of a scheme that opens
+-- ---- the entries that are added: a joiner's, then the first of a scheme that opens; zeros past them
+pub record Added : Type 0 where
+  pub parties : List Party
+  pub count : ℕ
+
 abbrev pub none_added : Added
 none_added = record { parties = replicate 2 no_party; count = 0 }
 
@@ -88,13 +83,13 @@ opener_added number bill opens added = cond opens (entry_added (new_party number
 -- ---- the plan
 abbrev pub refused_plan : Ledger → Refusal → Plan
 refused_plan ledger r =
-    record { answer = NotAccepted r; ledger = ledger; credits = padded []; added = none_added.parties; added_count = none_added.count }
+    record { answer = Err r; ledger = ledger; credits = padded []; added = none_added.parties; added_count = none_added.count }
 
 abbrev pub course_plan : Ledger → List Party → ℕ → Bill → Course → Plan
 course_plan ledger parties room bill course =
     let added = opener_added (ledger.count + 1) bill course.opens (joiner_added bill course.joining) in
     record {
-      answer = Accepted (acceptance_of (snapshot_books ledger parties room) bill course);
+      answer = Ok (acceptance_of (snapshot_books ledger parties room) bill course);
       ledger = opened_ledger course.opens bill (joined_ledger course.joining bill (booked_ledger bill ledger));
       credits = padded (credits_by (take ledger.entries parties) bill course.joining);
       added = added.parties;
@@ -102,15 +97,15 @@ course_plan ledger parties room bill course =
     }
 
 abbrev pub verdict_plan : Ledger → List Party → ℕ → Bill → Verdict → Plan
-verdict_plan ledger parties room bill (Accepts course) = course_plan ledger parties room bill course
-verdict_plan ledger parties room bill (Refuses number) = refused_plan ledger (refusal number 0 0)
+verdict_plan ledger parties room bill (Ok course) = course_plan ledger parties room bill course
+verdict_plan ledger parties room bill (Err number) = refused_plan ledger (refusal number 0 0)
 
 unfoldable pub bill_plan : Ledger → List Party → ℕ → Bill → Plan
 bill_plan ledger parties room bill = verdict_plan ledger parties room bill (verdict (snapshot_books ledger parties room) bill)
 
 abbrev pub priced_plan : Ledger → List Party → ℕ → Pricing → Plan
-priced_plan ledger parties room (Priced bill) = bill_plan ledger parties room bill
-priced_plan ledger parties room (NotPriced r) = refused_plan ledger r
+priced_plan ledger parties room (Ok bill) = bill_plan ledger parties room bill
+priced_plan ledger parties room (Err r) = refused_plan ledger r
 
 unfoldable pub plan_of : Ledger → List Party → ℕ → Pricing → Plan
 plan_of ledger parties room pricing =
@@ -121,5 +116,5 @@ abbrev pub plan_table : Ledger → List Party → Plan → List Party
 plan_table ledger table plan = by_answer plan.answer
   where
     by_answer : AcceptAnswer → List Party
-    by_answer (Accepted acceptance) = plan_carried_out ledger.entries table plan
-    by_answer (NotAccepted r) = table
+    by_answer (Ok acceptance) = plan_carried_out ledger.entries table plan
+    by_answer (Err r) = table

@@ -1,11 +1,10 @@
 -- A plan that can be carried out on a table: each entry takes its credit, and those that are added have their places.
-use Rattle.std.specs.Prelude.{ℕ, ◌+◌, ◌≤◌, ◌≡◌, List}
+use Rattle.std.specs.Prelude.{ℕ, ◌+◌, ◌≤◌, ◌≡◌, List, Ok}
 use Rattle.ledger.specs.Limits.{most_entries}
 use Rattle.ledger.specs.Table.{CreditsFit}
 use Rattle.ledger.specs.declared.records.Party.{Party}
 use Rattle.calls.specs.declared.answers.Acceptance.{Acceptance}
-use Rattle.calls.specs.declared.answers.AcceptAnswer.TheVariants.{Accepted}
-use Rattle.acceptance.specs.declared.accept.Plan.{Plan}
+use Rattle.acceptance.specs.PlanCarried.{Plan}
 
 -- a plan that can be carried out on a table of `room` records
 pub record PlanFits (entries room : ℕ) (parties : List Party) (plan : Plan) : Type 0 where
@@ -15,4 +14,4 @@ pub record PlanFits (entries room : ℕ) (parties : List Party) (plan : Plan) : 
   pub credits : CreditsFit entries parties plan.credits
 
 abbrev pub FitsIfAccepted : ℕ → ℕ → List Party → Plan → Type 0
-FitsIfAccepted entries room parties plan = (acceptance : Acceptance) → plan.answer ≡ Accepted acceptance → PlanFits entries room parties plan
+FitsIfAccepted entries room parties plan = (acceptance : Acceptance) → plan.answer ≡ Ok acceptance → PlanFits entries room parties plan

@@ -1,5 +1,5 @@
 -- What the booking needs, so that no sum passes its width and no place is missed.
-use Rattle.std.specs.Prelude.{ℕ, ◌+◌, ◌*◌, ◌-◌, ◌<◌, ◌≤◌, ◌≡◌, List, true, take, get_or}
+use Rattle.std.specs.Prelude.{ℕ, ◌+◌, ◌*◌, ◌-◌, ◌<◌, ◌≤◌, ◌≡◌, List, true, take, get_or, Some}
 use Rattle.charge.specs.BillLimits.{BillWithin}
 use Rattle.field_values.specs.Limits.{highest_minimum, highest_capacity}
 use Rattle.charge.specs.declared.Bill.{Bill}
@@ -10,7 +10,6 @@ use Rattle.ledger.specs.Columns.{scheme_column, capacity_column, sum_over}
 use Rattle.ledger.specs.declared.records.Scheme.{Scheme}
 use Rattle.ledger.specs.declared.records.Party.{Party}
 use Rattle.ledger.specs.declared.records.Ledger.{Ledger}
-use Rattle.ledger.specs.declared.lookup.SchemeAt.TheVariants.{Place}
 use Rattle.calls.specs.Verdict.{entries_needed}
 use Rattle.calls.specs.declared.courses.Contribution.{Contribution}
 use Rattle.calls.specs.declared.courses.Joining.{Joining}
@@ -30,7 +29,7 @@ pub record FeeDue (many : ℕ) (schemes : List Scheme) (at : ℕ) : Type 0 where
 
 abbrev pub FeesDue : Ledger → Bill → Joining → Type 0
 FeesDue ledger bill joining =
-    (paid : Contribution) (at : ℕ) → joining ≡ Pays paid → scheme_place ledger.count bill.applicant.scheme ≡ Place at →
+    (paid : Contribution) (at : ℕ) → joining ≡ Pays paid → scheme_place ledger.count bill.applicant.scheme ≡ Some at →
     FeeDue ledger.entries ledger.schemes at
 
 -- G less the fee, to be credited to the scheme's entries, whose capacity is K

@@ -1,223 +1,159 @@
 // Accept: what it answers, and what it makes of the ledger and the table, in three steps: the connection is booked, the joining
 // that is paid comes next, and a scheme that opens last. Deciding is the crate `verdict`; nothing is refused here once a verdict accepts.
-ghost use Rattle.std.specs.Prelude.{◌≡◌, true, cond, ℕ, ◌+◌, ◌*◌, ◌<◌, ◌≤◌, take};
+ghost use Rattle.std.specs.Prelude.{◌≡◌, true, cond, ℕ, ◌+◌, ◌*◌, ◌<◌, ◌≤◌, List, length, take, set, get_or, Ok, Some, None};
+ghost use Rattle.std.proofs.lemmas.List.Edits.{sets};
 ghost use Rattle.charge.specs.Price.{price_of};
 ghost use Rattle.charge.specs.BillLimits.{BillWithin};
 ghost use Rattle.field_values.specs.Limits.{highest_capacity};
-ghost use Rattle.ledger.specs.Limits.{most_schemes, most_entries};
+ghost use Rattle.ledger.specs.declared.records.Party.{Party};
+ghost use Rattle.ledger.specs.Limits.{most_schemes, most_entries, highest_credited};
+ghost use Rattle.ledger.specs.Records.{no_party};
 ghost use Rattle.ledger.specs.Books.{Books};
 ghost use Rattle.ledger.specs.Columns.{scheme_column, capacity_column, sum_over};
 ghost use Rattle.ledger.specs.Sound.{sound};
+ghost use Rattle.ledger.specs.Table.{credit_each};
 ghost use Rattle.calls.specs.ByPlace.{credits_among};
 ghost use Rattle.calls.specs.Carried.{new_party};
-ghost use Rattle.calls.specs.Decision.{joining_answer};
-ghost use Rattle.acceptance.specs.Plan.{padded, booked_ledger, fee_taken, joined_ledger, opened_ledger, credits_by, none_added, entry_added, joiner_added, opener_added, refused_plan, course_plan, bill_plan, plan_of};
-ghost use Rattle.acceptance.specs.PlanNeeds.{Bookable, FeeDue, FeesDue, CreditsDue, CourseDue};
+ghost use Rattle.calls.specs.Calls.{state_of, Promised};
+ghost use Rattle.calls.specs.Decision.{joining_answer, acceptance_of, of_accept};
+ghost use Rattle.calls.specs.Decision as Call;
+ghost use Rattle.calls.specs.Verdict.{verdict};
+ghost use Rattle.verdict.specs.Snapshot.{snapshot_books};
+ghost use Rattle.acceptance.specs.Plan.{booked_ledger, fee_taken, joined_ledger, opened_ledger, credits_by, joiner_added, course_plan, bill_plan, plan_of, plan_table};
+ghost use Rattle.acceptance.specs.PlanNeeds.{Bookable, FeeDue, FeesDue, CreditsDue};
 
-use calls::answers::{AcceptAnswer, Acceptance, Collected, JoiningAnswer, OpeningAnswer};
-use calls::courses::{Course, Joining, Verdict};
-use charge::{Bill, Pricing};
-use ledger::limits::{Credits, MOST_ENTRIES, Parties};
-use ledger::lookup::SchemeAt;
+use calls::answers::{AcceptAnswer, Acceptance, Collected, JoiningAnswer};
+use calls::courses::{Course, Joining};
+use charge::Bill;
+use ledger::lookup::scheme_at;
 use ledger::records::{Ledger, Party, Scheme};
+use ledger::sound::is_sound;
+use party_table::{credit_one, put_one};
 use tagged::file::Refusal;
 use tagged::refusals::LEDGER_UNSOUND;
 
-// What an accept comes to: the answer, the ledger after it, what each entry is credited, and the entries that are added in
-// order. Where none is credited or added, these hold zeros.
-#[derive(Clone, Copy)]
-pub struct Plan {
-    pub answer: AcceptAnswer,
-    pub ledger: Ledger,
-    pub credits: Credits,
-    pub added: [Party; 2],
-    pub added_count: u32,
-}
+// ---- booked
 
-// Entries to be added, in order; zeros past them.
-#[derive(Clone, Copy)]
-struct Added {
-    pub parties: [Party; 2],
-    pub count: u32,
-}
-
-// ---- the ledger
-
-fn booked(ledger: Ledger, bill: Bill) -> Ledger
-    requires { Bookable ledger × BillWithin bill }
-    ensures { result ≡ booked_ledger bill ledger }
+// Here and below ledger and bill are lent apart, since a call changes the one and only reads the other.
+// That a bill is within the limits is a clause: the slip's text takes any bill, and a type would take fewer.
+fn book(ledger: &mut Ledger, bill: &Bill)
+    requires { Bookable ledger.old × BillWithin bill.now }
+    ensures { ledger.new ≡ booked_ledger bill.now ledger.old }
 {
-    let mut after = ledger;
-    after.month = bill.applicant.month;
-    after.connections = ledger.connections + 1;
-    after.charged = ledger.charged + bill.reconciliation.cc;
-    after.borne = ledger.borne + bill.reconciliation.borne;
-    after
+    ledger.month = bill.applicant.month;
+    ledger.connections += 1;
+    ledger.charged += bill.reconciliation.cc;
+    ledger.borne += bill.reconciliation.borne;
 }
+
+// ---- joined
 
 // The fee taken at a scheme's place, and the joiner's entry counted.
-fn fee_taken(ledger: Ledger, at: usize, fee: u32) -> Ledger
-    requires { FeeDue ledger.entries ledger.schemes at }
-    ensures { result ≡ fee_taken at fee ledger }
+fn take_fee(ledger: &mut Ledger, at: usize, fee: u32)
+    requires { FeeDue ledger.old.entries ledger.old.schemes at }
+    ensures { ledger.new ≡ fee_taken at fee ledger.old }
 {
-    let mut schemes = ledger.schemes;
-    let mut scheme = schemes[at];
-    scheme.fees = scheme.fees + fee as u64;
-    schemes[at] = scheme;
-    let mut after = ledger;
-    after.entries = ledger.entries + 1;
-    after.schemes = schemes;
-    after
+    ledger.schemes[at].fees += u64::from(fee);
+    ledger.entries += 1;
 }
 
-fn joined(ledger: Ledger, bill: Bill, joining: Joining) -> Ledger
-    requires { FeesDue ledger bill joining }
-    ensures { result ≡ joined_ledger joining bill ledger }
+// An amount is credited to the entries of a scheme: each gets what the quotient by the running capacity grows by.
+fn credit_scheme(entries: &mut [Party], scheme: u16, amount: u64, total: u64)
+    requires few { length entries.old ≤ most_entries }
+    requires divided { (amount < 4294967296) × (1 ≤ total) × (total ≤ highest_capacity * most_entries) }
+    requires capacity { total ≡ sum_over scheme (scheme_column entries.old) (capacity_column entries.old) }
+    requires fits { (i : ℕ) → i < length entries.old → (get_or entries.old i no_party).credited ≤ highest_credited }
+    ensures { entries.new ≡ credit_each entries.old (credits_among scheme amount entries.old) }
 {
-    match joining {
-        Joining::NotAsked => ledger,
-        Joining::Ended => ledger,
-        Joining::Small => ledger,
-        Joining::Pays(paid) => {
-            match ledger::lookup::scheme_at(ledger.count, bill.applicant.scheme) {
-                SchemeAt::NeverOpened => ledger,
-                SchemeAt::Place(at) => fee_taken(ledger, at, paid.fee),
-            }
-        }
-    }
-}
-
-// The scheme that opens, and its first entry counted.
-fn opened(ledger: Ledger, bill: Bill, opens: bool) -> Ledger
-    requires { (opens ≡ true → (ledger.count < most_schemes) × (ledger.entries < most_entries)) × BillWithin bill }
-    ensures { result ≡ opened_ledger opens bill ledger }
-{
-    if !opens {
-        return ledger;
-    }
-    let at = ledger.count as usize;
-    let mut schemes = ledger.schemes;
-    schemes[at] = Scheme {
-        cost: bill.reconciliation.x as u32,
-        fee: bill.terms.fee,
-        minimum: bill.terms.minimum,
-        opening: bill.applicant.month,
-        term: bill.terms.term,
-        fees: 0,
-    };
-    let mut after = ledger;
-    after.count = ledger.count + 1;
-    after.entries = ledger.entries + 1;
-    after.schemes = schemes;
-    after
-}
-
-// ---- what each entry is credited
-
-// Each entry of a scheme, of an amount: what the quotient by the running capacity grows by.
-fn credits_of(parties: Parties, entries: u32, scheme: u16, amount: u64, total: u64) -> Credits
-    requires { (entries ≤ most_entries) × (amount < 4294967296) × (1 ≤ total) × (total ≤ highest_capacity * most_entries) × (total ≡ sum_over scheme (scheme_column (take entries parties)) (capacity_column (take entries parties))) }
-    ensures { result ≡ padded (credits_among scheme amount (take entries parties)) }
-{
-    let mut credits = [0u64; MOST_ENTRIES];
-    let mut before: u64 = 0;
-    let mut told: u64 = 0;
-    let mut i = 0;
-    while i < entries as usize {
-        let party = parties[i];
+    let mut capacity: u64 = 0;
+    let mut credited: u64 = 0;
+    // By place, since the function that credits one entry writes there.
+    for i in 0..entries.len() {
+        let party = entries[i];
         if party.scheme == scheme {
-            before = before + party.capacity as u64;
-            let grown = amount * before / total;
-            credits[i] = grown - told;
-            told = grown;
-        }
-        i += 1;
-    }
-    credits
-}
-
-fn credits_by(parties: Parties, entries: u32, bill: Bill, joining: Joining) -> Credits
-    requires { (entries ≤ most_entries) × CreditsDue (take entries parties) bill joining }
-    ensures { result ≡ padded (credits_by (take entries parties) bill joining) }
-{
-    let none = [0u64; MOST_ENTRIES];
-    match joining {
-        Joining::NotAsked => none,
-        Joining::Ended => none,
-        Joining::Small => none,
-        Joining::Pays(paid) => {
-            let number = bill.applicant.scheme;
-            let amount = (paid.collected - paid.fee) as u64;
-            credits_of(parties, entries, number, amount, paid.capacity)
+            capacity += u64::from(party.capacity);
+            let due = amount * capacity / total;
+            credit_one(entries, i, due - credited);
+            credited = due;
         }
     }
 }
 
-// ---- the entries that are added
-
-fn none_added() -> Added
-    ensures { result ≡ none_added }
-{
-    let none = ledger::records::no_party();
-    let parties = [none; 2];
-    Added { parties, count: 0 }
-}
-
-fn entry_added(added: Added, party: Party) -> Added
-    requires { added.count < 2 }
-    ensures { result ≡ entry_added party added }
-{
-    let at = added.count as usize;
-    let mut after = added;
-    let mut parties = added.parties;
-    parties[at] = party;
-    after.parties = parties;
-    after.count = added.count + 1;
-    after
-}
-
-fn new_party(scheme: u16, bill: Bill, put_in: u32) -> Party
-    ensures { result ≡ new_party scheme bill put_in }
+fn new_party(scheme: u16, bill: &Bill, put_in: u32) -> Party
+    ensures { result ≡ new_party scheme bill.now put_in }
 {
     Party {
         scheme,
         person: bill.applicant.person,
         capacity: bill.applicant.capacity,
         put_in,
-        credited: 0,
-        paid_out: 0,
+        ..Party::default()
     }
 }
 
-fn joiner_added(bill: Bill, joining: Joining) -> Added
-    ensures { result ≡ joiner_added bill joining }
+// The scheme's entries get their credits of G less the fee, and the joiner its entry.
+#[tactic(auto, using(ledger::proofs::Theorems::Table::credit_none))]
+fn join(ledger: &mut Ledger, table: &mut [Party], bill: &Bill, joining: Joining)
+    requires fees { FeesDue ledger.old bill.now joining }
+    requires credits { CreditsDue (take ledger.old.entries table.old) bill.now joining }
+    requires places { (ledger.old.entries ≤ most_entries) × (ledger.old.entries + (joiner_added bill.now joining).count ≤ length table.old) }
+    requires fits { (i : ℕ) → i < length (take ledger.old.entries table.old) → (get_or (take ledger.old.entries table.old) i no_party).credited ≤ highest_credited }
+    ensures ledger { ledger.new ≡ joined_ledger joining bill.now ledger.old }
+    ensures table { table.new ≡ sets (credit_each table.old (credits_by (take ledger.old.entries table.old) bill.now joining)) ledger.old.entries (take (joiner_added bill.now joining).count (joiner_added bill.now joining).parties) }
 {
-    let none = none_added();
     match joining {
-        Joining::NotAsked => none,
-        Joining::Ended => none,
-        Joining::Small => none,
+        Joining::NotAsked => {}
+        Joining::Ended => {}
+        Joining::Small => {}
         Joining::Pays(paid) => {
-            entry_added(none, new_party(bill.applicant.scheme, bill, paid.collected))
+            let number = bill.applicant.scheme;
+            let entries = ledger.entries as usize;
+            let amount = u64::from(paid.collected - paid.fee);
+            credit_scheme(&mut table[..entries], number, amount, paid.capacity);
+            put_one(table, entries, new_party(number, bill, paid.collected));
+            if let Some(at) = scheme_at(ledger.count, number) {
+                take_fee(ledger, at, paid.fee);
+            }
         }
     }
 }
 
-fn opener_added(added: Added, number: u16, bill: Bill, opens: bool) -> Added
-    requires { (added.count < 2) × BillWithin bill }
-    ensures { result ≡ opener_added number bill opens added }
+// ---- opened
+
+// The scheme that opens, with its first entry.
+fn open(ledger: &mut Ledger, table: &mut [Party], bill: &Bill, opens: bool)
+    requires places { opens ≡ true → (ledger.old.count < most_schemes) × (ledger.old.entries < most_entries) × (ledger.old.entries < length table.old) }
+    requires within { BillWithin bill.now }
+    ensures ledger { ledger.new ≡ opened_ledger opens bill.now ledger.old }
+    ensures table { table.new ≡ cond opens (set table.old ledger.old.entries (new_party (ledger.old.count + 1) bill.now bill.now.reconciliation.x)) table.old }
 {
     if !opens {
-        return added;
+        return;
     }
-    entry_added(added, new_party(number, bill, bill.reconciliation.x as u32))
+    let cost = bill.reconciliation.x as u32;
+    let at = ledger.count as usize;
+    put_one(
+        table,
+        ledger.entries as usize,
+        new_party((ledger.count + 1) as u16, bill, cost),
+    );
+    ledger.schemes[at] = Scheme {
+        cost,
+        fee: bill.terms.fee,
+        minimum: bill.terms.minimum,
+        opening: bill.applicant.month,
+        term: bill.terms.term,
+        fees: 0,
+    };
+    ledger.count += 1;
+    ledger.entries += 1;
 }
 
 // ---- the answer
 
-fn joining_answer(entries: u32, joining: Joining) -> JoiningAnswer
+fn joining_answer(entries: u32, joining: &Joining) -> JoiningAnswer
     requires { entries ≤ most_entries }
-    ensures { (books : Books) → books.next_entry ≡ entries + 1 → result ≡ joining_answer books joining }
+    ensures { (books : Books) → books.next_entry ≡ entries + 1 → result ≡ joining_answer books joining.now }
 {
     match joining {
         Joining::NotAsked => JoiningAnswer::NotAsked,
@@ -230,108 +166,79 @@ fn joining_answer(entries: u32, joining: Joining) -> JoiningAnswer
     }
 }
 
-fn opening_answer(number: u16, opens: bool) -> OpeningAnswer
-    ensures { result ≡ cond opens (OpeningAnswer.Opened number) OpeningAnswer.NotOpened }
+fn opening_answer(number: u16, opens: bool) -> Option<u16>
+    ensures { result ≡ cond opens (Some number) None }
 {
-    if opens {
-        return OpeningAnswer::Opened(number);
-    }
-    OpeningAnswer::NotOpened
+    if opens { Some(number) } else { None }
 }
 
-// ---- the plan
-
-fn refused_plan(ledger: Ledger, refusal: Refusal) -> Plan
-    ensures { result ≡ refused_plan ledger refusal }
+fn acceptance_of(ledger: &Ledger, bill: &Bill, course: &Course) -> Acceptance
+    requires { (ledger.now.count ≤ most_schemes) × (ledger.now.entries ≤ most_entries) }
+    ensures { (table : List Party) (room : ℕ) → result ≡ acceptance_of (snapshot_books ledger.now table room) bill.now course.now }
 {
-    let added = none_added();
-    let parties = added.parties;
-    Plan {
-        answer: AcceptAnswer::NotAccepted(refusal),
-        ledger,
-        credits: [0u64; MOST_ENTRIES],
-        added: parties,
-        added_count: added.count,
+    Acceptance {
+        reconciliation: bill.reconciliation,
+        joining: joining_answer(ledger.entries, &course.joining),
+        opening: opening_answer((ledger.count + 1) as u16, course.opens),
     }
 }
 
-fn course_plan(ledger: Ledger, parties: Parties, bill: Bill, course: Course) -> Plan
-    requires { CourseDue ledger parties bill course }
-    ensures { (room : ℕ) → result ≡ course_plan ledger parties room bill course }
+// ---- the call
+
+// What a verdict that accepts makes of the ledger and the table.
+#[tactic(auto, using(ledger::proofs::Theorems::Sound::sound_means))]
+fn carry_out(ledger: &mut Ledger, table: &mut [Party], bill: &Bill, course: &Course) -> Acceptance
+    requires stands { sound ledger.old table.old (length table.old) ≡ true }
+    requires within { BillWithin bill.now }
+    requires places { length ledger.old.schemes ≡ most_schemes }
+    requires accepts { verdict (snapshot_books ledger.old table.old (length table.old)) bill.now ≡ Ok course.now }
+    ensures answer { Ok result ≡ (course_plan ledger.old table.old (length table.old) bill.now course.now).answer }
+    ensures ledger { ledger.new ≡ (course_plan ledger.old table.old (length table.old) bill.now course.now).ledger }
+    ensures table { table.new ≡ plan_table ledger.old table.old (course_plan ledger.old table.old (length table.old) bill.now course.now) }
 {
-    let joining = course.joining;
-    let number = (ledger.count + 1) as u16;
-    let reconciliation = bill.reconciliation;
-    let answer = AcceptAnswer::Accepted(Acceptance {
-        reconciliation,
-        joining: joining_answer(ledger.entries, joining),
-        opening: opening_answer(number, course.opens),
-    });
-    let after = opened(
-        joined(booked(ledger, bill), bill, joining),
-        bill,
-        course.opens,
-    );
-    let credits = credits_by(parties, ledger.entries, bill, joining);
-    let added = opener_added(joiner_added(bill, joining), number, bill, course.opens);
-    let entries = added.parties;
-    Plan {
-        answer,
-        ledger: after,
-        credits,
-        added: entries,
-        added_count: added.count,
+    let acceptance = acceptance_of(ledger, bill, course);
+    book(ledger, bill);
+    join(ledger, table, bill, course.joining);
+    open(ledger, table, bill, course.opens);
+    acceptance
+}
+
+fn accept_bill(ledger: &mut Ledger, table: &mut [Party], bill: &Bill) -> AcceptAnswer
+    requires stands { sound ledger.old table.old (length table.old) ≡ true }
+    requires within { BillWithin bill.now }
+    ensures answer { result ≡ (bill_plan ledger.old table.old (length table.old) bill.now).answer }
+    ensures ledger { ledger.new ≡ (bill_plan ledger.old table.old (length table.old) bill.now).ledger }
+    ensures table { table.new ≡ plan_table ledger.old table.old (bill_plan ledger.old table.old (length table.old) bill.now) }
+{
+    match verdict::verdict_of(ledger, table, bill) {
+        Ok(course) => Ok(carry_out(ledger, table, bill, &course)),
+        Err(number) => Err(Refusal::of_call(number)),
     }
 }
 
-fn bill_plan(ledger: Ledger, parties: Parties, room: usize, bill: Bill) -> Plan
-    requires { (sound ledger parties room ≡ true) × BillWithin bill }
-    ensures { result ≡ bill_plan ledger parties room bill }
-{
-    match verdict::verdict_of(ledger, parties, room, bill) {
-        Verdict::Refuses(number) => refused_plan(
-            ledger,
-            Refusal {
-                number,
-                file: 0,
-                place: 0,
-            },
-        ),
-        Verdict::Accepts(course) => course_plan(ledger, parties, bill, course),
-    }
-}
-
-// Accept over the snapshot of a table that has `room` records, on a ledger that is known to be sound: the book, the request, 4, 5, and
-// then by the verdict.
+// Accept on a ledger that is known to be sound: the book, the request, 4, 5, and then by the verdict.
+// Apart from `accept`, so that a ledger that was just read, and found sound, isn't tested twice.
 pub fn accept_sound(
-    ledger: Ledger,
-    parties: Parties,
-    room: usize,
+    ledger: &mut Ledger,
+    table: &mut [Party],
     book: &[u8],
     request: &[u8],
-) -> Plan
-    requires { sound ledger parties room ≡ true }
-    ensures { result ≡ plan_of ledger parties room (price_of book.now request.now) }
+) -> AcceptAnswer
+    requires { sound ledger.old table.old (length table.old) ≡ true }
+    ensures answer { result ≡ (plan_of ledger.old table.old (length table.old) (price_of book.now request.now)).answer }
+    ensures ledger { ledger.new ≡ (plan_of ledger.old table.old (length table.old) (price_of book.now request.now)).ledger }
+    ensures table { table.new ≡ plan_table ledger.old table.old (plan_of ledger.old table.old (length table.old) (price_of book.now request.now)) }
 {
-    match charge::price(book, request) {
-        Pricing::NotPriced(refusal) => refused_plan(ledger, refusal),
-        Pricing::Priced(bill) => bill_plan(ledger, parties, room, bill),
-    }
+    let bill = charge::price(book, request)?;
+    accept_bill(ledger, table, &bill)
 }
 
 // The same on any ledger: 13 first.
-pub fn accept(ledger: Ledger, parties: Parties, room: usize, book: &[u8], request: &[u8]) -> Plan
-    ensures { result ≡ plan_of ledger parties room (price_of book.now request.now) }
+pub fn accept(ledger: &mut Ledger, table: &mut [Party], book: &[u8], request: &[u8]) -> AcceptAnswer
+    ensures { Promised (state_of ledger.old table.old) (Call.accept book.now request.now) (of_accept result) (state_of ledger.new table.new) }
 {
-    if !ledger::sound::sound(ledger, parties, room) {
-        return refused_plan(
-            ledger,
-            Refusal {
-                number: LEDGER_UNSOUND,
-                file: 0,
-                place: 0,
-            },
-        );
+    if !is_sound(ledger, table) {
+        return Err(Refusal::of_call(LEDGER_UNSOUND));
     }
-    accept_sound(ledger, parties, room, book, request)
+    accept_sound(ledger, table, book, request)
 }

@@ -1,5 +1,4 @@
-// Accept over the ledger's records: document 01, 'Accept'. The entries are a by-value snapshot of the
-// party table, with the table's length beside it.
+// Accept over a ledger and its lent party table: document 01, 'Accept'.
 #![tactic(auto)]
 
 pub mod accept;

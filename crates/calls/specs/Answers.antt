@@ -1,12 +1,11 @@
 -- Accept's answers by their parts.
-use Rattle.std.specs.Prelude.{ℕ}
+use Rattle.std.specs.Prelude.{ℕ, Option}
 use Rattle.charge.specs.declared.Bill.{Bill}
 use Rattle.calls.specs.Decision.{CallAnswer, is_accepted}
 use Rattle.calls.specs.declared.answers.JoiningAnswer.{JoiningAnswer}
-use Rattle.calls.specs.declared.answers.OpeningAnswer.{OpeningAnswer}
 
 -- an answer in its two parts
-abbrev pub accepted_as : Bill → JoiningAnswer → OpeningAnswer → CallAnswer
+abbrev pub accepted_as : Bill → JoiningAnswer → Option ℕ → CallAnswer
 accepted_as bill joining opening = is_accepted (record { reconciliation = bill.reconciliation; joining = joining; opening = opening })
 
 -- the joiner's entry number, and G

@@ -1,15 +1,11 @@
 -- How each call ends, by document 01's number and values. Done, plain, opened, joined, small and ended all have number 0; the values tell them apart.
-use Rattle.std.specs.Prelude.{◌≤◌, List, [], ◌∷◌, ◌++◌, Bool, true, false, ℤ, pos}
+use Rattle.std.specs.Prelude.{ℕ, ◌≤◌, List, [], ◌∷◌, ◌++◌, Bool, true, false, ℤ, pos, None, Option, Some}
 use Rattle.tagged.specs.Ending.{Ending, ends_refused, ends_done}
 use Rattle.reconciliation.specs.Figures.{figure_values}
-use Rattle.calls.specs.Decision.{CallAnswer, is_accepted, is_done, is_refused, of_accept, of_entry_call}
+use Rattle.calls.specs.Decision.{CallAnswer, is_accepted, is_done, is_refused, of_accept, of_entry_call, AcceptAnswer, Answer}
 use Rattle.calls.specs.declared.answers.Acceptance.{Acceptance}
 use Rattle.calls.specs.declared.answers.JoiningAnswer.{JoiningAnswer}
 use Rattle.calls.specs.declared.answers.JoiningAnswer.TheVariants.{NotAsked, Ended, Small, Joined}
-use Rattle.calls.specs.declared.answers.OpeningAnswer.{OpeningAnswer}
-use Rattle.calls.specs.declared.answers.OpeningAnswer.TheVariants.{NotOpened, Opened}
-use Rattle.calls.specs.declared.answers.AcceptAnswer.{AcceptAnswer}
-use Rattle.calls.specs.declared.answers.Answer.{Answer}
 
 -- 0 none asked for, 1 joined, 2 small, 3 ended; then the joiner's entry and G, 0 where there is none
 abbrev pub joining_values : JoiningAnswer → List ℤ
@@ -19,9 +15,9 @@ joining_values Small = pos 2 ∷ pos 0 ∷ pos 0 ∷ []
 joining_values Ended = pos 3 ∷ pos 0 ∷ pos 0 ∷ []
 
 -- the scheme's number, from 1 on, or 0 where none opened
-abbrev pub opening_value : OpeningAnswer → ℤ
-opening_value NotOpened = pos 0
-opening_value (Opened scheme) = pos scheme
+abbrev pub opening_value : Option ℕ → ℤ
+opening_value None = pos 0
+opening_value (Some scheme) = pos scheme
 
 -- "plain" is 0 in all four
 abbrev pub acceptance_values : Acceptance → List ℤ
@@ -41,9 +37,9 @@ abbrev pub entry_call_ending : Answer → Ending
 entry_call_ending answer = call_ending (of_entry_call answer)
 
 -- ---- refusals and schemes are numbered from 1, so that 0 is neither
-abbrev pub SchemeNumbered : OpeningAnswer → Type 0
-SchemeNumbered NotOpened = Unit {0}
-SchemeNumbered (Opened scheme) = 1 ≤ scheme
+abbrev pub SchemeNumbered : Option ℕ → Type 0
+SchemeNumbered None = Unit {0}
+SchemeNumbered (Some scheme) = 1 ≤ scheme
 
 abbrev pub Numbered : CallAnswer → Type 0
 Numbered (is_accepted acceptance) = SchemeNumbered acceptance.opening

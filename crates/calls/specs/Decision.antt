@@ -1,26 +1,19 @@
 -- The one decision on a call, read off the books alone. The ledger carries it out, and the history of the calls records it.
-use Rattle.std.specs.Prelude.{ℕ, ◌+◌, ◌-◌, List, [], cond, leb}
+use Rattle.std.specs.Prelude.{ℕ, ◌+◌, ◌-◌, List, [], cond, leb, Err, None, Ok, Option, Some, Result}
 use Rattle.tagged.specs.File.{refusal}
 use Rattle.tagged.specs.Refusals.{no_such_entry, pay_out_above_credit}
 use Rattle.tagged.specs.declared.file.Refusal.{Refusal}
-use Rattle.charge.specs.Price.{price_of}
+use Rattle.charge.specs.Price.{price_of, Pricing}
 use Rattle.charge.specs.declared.Bill.{Bill}
-use Rattle.charge.specs.declared.Pricing.{Pricing}
-use Rattle.charge.specs.declared.Pricing.TheVariants.{Priced, NotPriced}
 use Rattle.ledger.specs.Lists.{Found, none, found}
 use Rattle.ledger.specs.Books.{EntryParticulars, Books, entry_at}
 use Rattle.calls.specs.Rules.{Credit, parties_of, shared}
-use Rattle.calls.specs.Verdict.{verdict}
+use Rattle.calls.specs.Verdict.{verdict, Verdict}
 use Rattle.calls.specs.declared.courses.Joining.{Joining}
 use Rattle.calls.specs.declared.courses.Joining.TheVariants.{NotAsked, Ended, Small, Pays}
 use Rattle.calls.specs.declared.courses.Course.{Course}
-use Rattle.calls.specs.declared.courses.Verdict.{Verdict}
-use Rattle.calls.specs.declared.courses.Verdict.TheVariants.{Accepts, Refuses}
 use Rattle.calls.specs.declared.answers.Acceptance.{Acceptance}
 use Rattle.calls.specs.declared.answers.JoiningAnswer.{JoiningAnswer}
-use Rattle.calls.specs.declared.answers.OpeningAnswer.{OpeningAnswer}
-use Rattle.calls.specs.declared.answers.AcceptAnswer.{AcceptAnswer}
-use Rattle.calls.specs.declared.answers.Answer.{Answer}
 
 -- Demand 3's calls.
 pub data Call : Type 0 where
@@ -50,13 +43,13 @@ credits_by books bill Small = []
 credits_by books bill (Pays paid) = shared (paid.collected - paid.fee) (parties_of bill.applicant.scheme books)
 
 abbrev pub decided_by : Books → Bill → Verdict → Decision
-decided_by books bill (Accepts course) = accepted bill course (credits_by books bill course.joining)
-decided_by books bill (Refuses number) = refused (refusal number 0 0)
+decided_by books bill (Ok course) = accepted bill course (credits_by books bill course.joining)
+decided_by books bill (Err number) = refused (refusal number 0 0)
 
 -- book, request, 4, 5, and then by the verdict
 abbrev pub accept_by : Books → Pricing → Decision
-accept_by books (Priced bill) = decided_by books bill (verdict books bill)
-accept_by books (NotPriced r) = refused r
+accept_by books (Ok bill) = decided_by books bill (verdict books bill)
+accept_by books (Err r) = refused r
 
 -- ---- pay-out and hand-over
 
@@ -84,13 +77,20 @@ pub data CallAnswer : Type 0 where
   is_done : CallAnswer
   is_refused : Refusal → CallAnswer
 
+-- accept's own answer, and pay-out's and hand-over's
+abbrev pub AcceptAnswer : Type 0
+AcceptAnswer = Result Acceptance Refusal
+
+abbrev pub Answer : Type 0
+Answer = Result (Unit {0}) Refusal
+
 abbrev pub of_accept : AcceptAnswer → CallAnswer
-of_accept (AcceptAnswer.Accepted acceptance) = is_accepted acceptance
-of_accept (AcceptAnswer.NotAccepted r) = is_refused r
+of_accept (Ok acceptance) = is_accepted acceptance
+of_accept (Err r) = is_refused r
 
 abbrev pub of_entry_call : Answer → CallAnswer
-of_entry_call Answer.Done = is_done
-of_entry_call (Answer.Refused r) = is_refused r
+of_entry_call (Ok _) = is_done
+of_entry_call (Err r) = is_refused r
 
 -- "joined (entry number and G)"
 abbrev pub joining_answer : Books → Joining → JoiningAnswer
@@ -100,8 +100,8 @@ joining_answer books Small = JoiningAnswer.Small
 joining_answer books (Pays paid) = JoiningAnswer.Joined (record { entry = books.next_entry; contribution = paid.collected })
 
 -- "opened (scheme number)"
-abbrev pub opening_answer : Books → Course → OpeningAnswer
-opening_answer books course = cond course.opens (OpeningAnswer.Opened books.next_scheme) OpeningAnswer.NotOpened
+abbrev pub opening_answer : Books → Course → Option ℕ
+opening_answer books course = cond course.opens (Some books.next_scheme) None
 
 abbrev pub acceptance_of : Books → Bill → Course → Acceptance
 acceptance_of books bill course =

@@ -18,30 +18,14 @@ pub enum JoiningAnswer {
     Joined(Collected),
 }
 
-#[derive(Clone, Copy)]
-pub enum OpeningAnswer {
-    NotOpened,
-    // the scheme's number
-    Opened(u16),
-}
-
 // "Plain" is neither joined nor opened where no joining was asked for.
 #[derive(Clone, Copy)]
 pub struct Acceptance {
     pub reconciliation: Reconciliation,
     pub joining: JoiningAnswer,
-    pub opening: OpeningAnswer,
+    pub opening: Option<u16>,
 }
 
-#[derive(Clone, Copy)]
-pub enum AcceptAnswer {
-    Accepted(Acceptance),
-    NotAccepted(Refusal),
-}
+pub type AcceptAnswer = Result<Acceptance, Refusal>;
 
-// Pay-out's and hand-over's.
-#[derive(Clone, Copy)]
-pub enum Answer {
-    Done,
-    Refused(Refusal),
-}
+pub type Answer = Result<(), Refusal>;

@@ -22,9 +22,6 @@ pub struct Course {
     pub opens: bool,
 }
 
-#[derive(Clone, Copy)]
-pub enum Verdict {
-    Accepts(Course),
-    // with the refusal's number; file and place are 0
-    Refuses(u8),
-}
+// The course of a request that is accepted, or the refusal's number; file and place are 0.
+// A number, since document 01 numbers the refusals and a verdict knows nothing else of them.
+pub type Verdict = Result<Course, u8>;

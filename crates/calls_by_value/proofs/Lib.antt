@@ -1,1 +1,2 @@
+pub mod ByRoom
 pub mod Theorems

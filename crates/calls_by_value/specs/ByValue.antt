@@ -1,15 +1,13 @@
 -- The calls on the first records of an array: what they promise, what carrying out a decision makes of the array, and what it needs.
-use Rattle.std.specs.Prelude.{ℕ, ◌<◌, ◌≡◌, List, true, length, take, drop}
+use Rattle.std.specs.Prelude.{ℕ, ◌<◌, ◌≡◌, List, true, length, take, drop, Ok}
 use Rattle.ledger.specs.Sound.{sound}
 use Rattle.ledger.specs.declared.records.Party.{Party}
 use Rattle.ledger.specs.declared.records.Ledger.{Ledger}
 use Rattle.calls.specs.Decision.{Call, CallAnswer}
 use Rattle.calls.specs.Calls.{state_of, Promised}
-use Rattle.calls.specs.declared.answers.Answer.TheVariants.{Done}
 use Rattle.acceptance.specs.Plan.{plan_table}
-use Rattle.acceptance.specs.declared.accept.Plan.{Plan}
-use Rattle.entry_calls.specs.EntryCalls.{changed_table}
-use Rattle.entry_calls.specs.declared.EntryChange.{EntryChange}
+use Rattle.acceptance.specs.PlanCarried.{Plan}
+use Rattle.entry_calls.specs.EntryCalls.{changed_table, EntryChange}
 use Rattle.calls_by_value.specs.declared.AcceptedTable.{AcceptedTable}
 use Rattle.calls_by_value.specs.declared.ChangedTable.{ChangedTable}
 
@@ -28,7 +26,7 @@ accepted_table ledger parties plan = record { answer = plan.answer; ledger = pla
 
 -- ---- pay-out and hand-over
 abbrev pub PlaceIfDone : ℕ → EntryChange → Type 0
-PlaceIfDone records change = change.answer ≡ Done → change.place < records
+PlaceIfDone records change = change.answer ≡ Ok tt → change.place < records
 
 abbrev pub changed_parties : List Party → EntryChange → ChangedTable
 changed_parties parties change = record { answer = change.answer; parties = changed_table parties change }

@@ -1,5 +1,5 @@
--- Pay-out and hand-over on a ledger and a snapshot of its entries: the decision on the call, as a change of one record.
-use Rattle.std.specs.Prelude.{ℕ, ◌+◌, List, cond, length, take, get_or, set}
+-- Pay-out and hand-over on a ledger and its entries: the decision on the call, as a change of one record.
+use Rattle.std.specs.Prelude.{ℕ, ◌+◌, List, cond, length, take, get_or, set, Err, None, Ok, Option, Some}
 use Rattle.tagged.specs.File.{refusal}
 use Rattle.tagged.specs.Refusals.{no_such_entry, ledger_unsound}
 use Rattle.tagged.specs.declared.file.Refusal.{Refusal}
@@ -8,28 +8,29 @@ use Rattle.ledger.specs.Books.{books_of}
 use Rattle.ledger.specs.Lookup.{entry_place}
 use Rattle.ledger.specs.Sound.{sound}
 use Rattle.ledger.specs.Updates.{with_person, with_paid_out}
-use Rattle.ledger.specs.declared.lookup.EntryAt.{EntryAt}
-use Rattle.ledger.specs.declared.lookup.EntryAt.TheVariants.{Place, NoSuchEntry}
 use Rattle.ledger.specs.declared.records.Party.{Party}
 use Rattle.ledger.specs.declared.records.Ledger.{Ledger}
-use Rattle.calls.specs.Decision.{Call, pay_out, hand_over, Decision, accepted, paid_out, handed_over, refused, decided}
-use Rattle.calls.specs.declared.answers.Answer.{Answer}
-use Rattle.calls.specs.declared.answers.Answer.TheVariants.{Done, Refused}
-use Rattle.entry_calls.specs.declared.EntryChange.{EntryChange}
+use Rattle.calls.specs.Decision.{Call, pay_out, hand_over, Decision, accepted, paid_out, handed_over, refused, decided, Answer}
+
+-- the answer, and an entry's new record with its place; where the call is refused, place 0 and a record of zeros
+pub record EntryChange : Type 0 where
+  pub answer : Answer
+  pub place : ℕ
+  pub party : Party
 
 abbrev pub refused_by : Refusal → EntryChange
-refused_by r = record { answer = Refused r; place = 0; party = no_party }
+refused_by r = record { answer = Err r; place = 0; party = no_party }
 
 abbrev pub refused_change : ℕ → EntryChange
 refused_change number = refused_by (refusal number 0 0)
 
 abbrev pub done_change : ℕ → Party → EntryChange
-done_change place party = record { answer = Done; place = place; party = party }
+done_change place party = record { answer = Ok tt; place = place; party = party }
 
 -- the entry's record changed, at its place
-abbrev pub changed_at : List Party → (Party → Party) → EntryAt → EntryChange
-changed_at entries change (Place at) = done_change at (change (get_or entries at no_party))
-changed_at entries change NoSuchEntry = refused_change no_such_entry
+abbrev pub changed_at : List Party → (Party → Party) → Option ℕ → EntryChange
+changed_at entries change (Some at) = done_change at (change (get_or entries at no_party))
+changed_at entries change None = refused_change no_such_entry
 
 -- a pay-out comes on top of earlier ones
 abbrev pub paid_more : ℕ → Party → Party
@@ -50,7 +51,7 @@ change_of entries (refused r) = refused_by r
 unfoldable pub entry_change : Ledger → List Party → Call → EntryChange
 entry_change ledger parties call = change_of (take ledger.entries parties) (decided (books_of ledger parties) call)
 
--- `parties` are the table's records as far as the snapshot goes, `room` is the table's length
+-- `parties` are the table's records, at least as many as there are entries; `room` is the table's length
 unfoldable pub pay_out_change : Ledger → List Party → ℕ → ℕ → ℕ → EntryChange
 pay_out_change ledger parties room entry amount =
     cond (sound ledger parties room) (entry_change ledger parties (pay_out entry amount)) (refused_change ledger_unsound)
@@ -64,5 +65,5 @@ abbrev pub changed_table : List Party → EntryChange → List Party
 changed_table table change = changed_by change.answer
   where
     changed_by : Answer → List Party
-    changed_by Done = set table change.place change.party
-    changed_by (Refused r) = table
+    changed_by (Ok _) = set table change.place change.party
+    changed_by (Err r) = table

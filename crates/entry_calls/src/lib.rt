@@ -1,116 +1,77 @@
-// Pay-out and hand-over over a by-value snapshot of the party table: what a call answers, and the
-// entry's new record with its place. They change no other entry and nothing of the ledger.
+// Pay-out and hand-over over a ledger and its lent party table: document 01, 'Ledger calls'. They change no other entry and nothing
+// of the ledger, and nothing at all where they refuse.
 #![tactic(auto)]
 
-ghost use Rattle.std.specs.Prelude.{◌≡◌, min};
-ghost use Rattle.ledger.specs.Limits.{most_entries};
+ghost use Rattle.std.specs.Prelude.{◌≡◌, length, take, Some, None, MatchResult};
+ghost use Rattle.tagged.specs.File.{refusal};
+ghost use Rattle.tagged.specs.Refusals.{no_such_entry};
 ghost use Rattle.ledger.specs.Lookup.{entry_place};
-ghost use Rattle.calls.specs.Decision.{pay_out, hand_over};
-ghost use Rattle.entry_calls.specs.EntryCalls.{refused_change, entry_change, pay_out_change, hand_over_change};
+ghost use Rattle.calls.specs.Calls.{state_of, Promised};
+ghost use Rattle.calls.specs.Decision.{pay_out, hand_over, of_entry_call};
+ghost use Rattle.entry_calls.specs.EntryCalls.{entry_change, changed_table};
 
 use calls::answers::Answer;
-use ledger::limits::{MOST_ENTRIES_COUNTED, Parties};
-use ledger::lookup::{EntryAt, entry_at};
+use ledger::lookup::entry_at;
 use ledger::records::{Ledger, Party};
+use ledger::sound::is_sound;
+use party_table::{hand_one, pay_one};
 use tagged::file::Refusal;
 use tagged::refusals::{LEDGER_UNSOUND, NO_SUCH_ENTRY, PAY_OUT_ABOVE_CREDIT};
 
-// Where the call is refused, place 0 and a record of zeros.
-#[derive(Clone, Copy)]
-pub struct EntryChange {
-    pub answer: Answer,
-    pub place: usize,
-    pub party: Party,
-}
-
-fn refused(number: u8) -> EntryChange
-    ensures { result ≡ refused_change number }
+// An entry's place among those that the table holds.
+fn place_of(ledger: &Ledger, table: &[Party], entry: u32) -> Result<usize, Refusal>
+    ensures { MatchResult result (λ at. entry_place (length (take ledger.now.entries table.now)) entry ≡ Some at) (λ r. (entry_place (length (take ledger.now.entries table.now)) entry ≡ None) × (r ≡ refusal no_such_entry 0 0)) }
 {
-    EntryChange {
-        answer: Answer::Refused(Refusal {
-            number,
-            file: 0,
-            place: 0,
-        }),
-        place: 0,
-        party: ledger::records::no_party(),
+    let entries = table.len().min(ledger.entries as usize) as u32;
+    match entry_at(entries, entry) {
+        Some(at) => Ok(at),
+        None => Err(Refusal::of_call(NO_SUCH_ENTRY)),
     }
 }
 
-// An entry's place among the records that the snapshot holds.
-fn held_at(entries: u32, entry: u32) -> EntryAt
-    ensures { result ≡ entry_place (min entries most_entries) entry }
-{
-    if MOST_ENTRIES_COUNTED < entries {
-        return entry_at(MOST_ENTRIES_COUNTED, entry);
-    }
-    entry_at(entries, entry)
-}
-
+// Entry and amount, entry and person: two numbers each from the C interface down to here, and no struct.
 // Pay-out on a ledger whose soundness the caller has judged.
-pub fn pay_out_sound(ledger: Ledger, parties: Parties, entry: u32, amount: u64) -> EntryChange
-    ensures { result ≡ entry_change ledger parties (pay_out entry amount) }
+// This and the next stand apart from the calls below, so that a ledger that was just read isn't tested twice.
+#[tactic(auto, using(crate::proofs::Theorems::EntryCalls::kept_below))]
+pub fn pay_out_sound(ledger: &Ledger, table: &mut [Party], entry: u32, amount: u64) -> Answer
+    ensures answer { result ≡ (entry_change ledger.now table.old (pay_out entry amount)).answer }
+    ensures after { table.new ≡ changed_table table.old (entry_change ledger.now table.old (pay_out entry amount)) }
 {
-    let EntryAt::Place(at) = held_at(ledger.entries, entry) else {
-        return refused(NO_SUCH_ENTRY);
-    };
-    let mut party = parties[at];
-    if party.credited < party.paid_out {
-        return refused(PAY_OUT_ABOVE_CREDIT);
+    let at = place_of(ledger, table, entry)?;
+    let party = table[at];
+    if party.credited < party.paid_out || party.credited - party.paid_out < amount {
+        return Err(Refusal::of_call(PAY_OUT_ABOVE_CREDIT));
     }
-    if party.credited - party.paid_out < amount {
-        return refused(PAY_OUT_ABOVE_CREDIT);
-    }
-    party.paid_out = party.paid_out + amount;
-    EntryChange {
-        answer: Answer::Done,
-        place: at,
-        party,
-    }
+    pay_one(table, at, amount);
+    Ok(())
 }
 
 // Hand-over on a ledger whose soundness the caller has judged.
-pub fn hand_over_sound(ledger: Ledger, parties: Parties, entry: u32, person: u32) -> EntryChange
-    ensures { result ≡ entry_change ledger parties (hand_over entry person) }
+#[tactic(auto, using(crate::proofs::Theorems::EntryCalls::kept_below))]
+pub fn hand_over_sound(ledger: &Ledger, table: &mut [Party], entry: u32, person: u32) -> Answer
+    ensures answer { result ≡ (entry_change ledger.now table.old (hand_over entry person)).answer }
+    ensures after { table.new ≡ changed_table table.old (entry_change ledger.now table.old (hand_over entry person)) }
 {
-    let EntryAt::Place(at) = held_at(ledger.entries, entry) else {
-        return refused(NO_SUCH_ENTRY);
-    };
-    let mut party = parties[at];
-    party.person = person;
-    EntryChange {
-        answer: Answer::Done,
-        place: at,
-        party,
-    }
+    let at = place_of(ledger, table, entry)?;
+    hand_one(table, at, person);
+    Ok(())
 }
 
-pub fn pay_out(
-    ledger: Ledger,
-    parties: Parties,
-    room: usize,
-    entry: u32,
-    amount: u64,
-) -> EntryChange
-    ensures { result ≡ pay_out_change ledger parties room entry amount }
+// This and the next are one test and one call each: a function over a closure for the call would be no shorter.
+pub fn pay_out(ledger: &Ledger, table: &mut [Party], entry: u32, amount: u64) -> Answer
+    ensures { Promised (state_of ledger.now table.old) (pay_out entry amount) (of_entry_call result) (state_of ledger.now table.new) }
 {
-    if !ledger::sound::sound(ledger, parties, room) {
-        return refused(LEDGER_UNSOUND);
+    if !is_sound(ledger, table) {
+        return Err(Refusal::of_call(LEDGER_UNSOUND));
     }
-    pay_out_sound(ledger, parties, entry, amount)
+    pay_out_sound(ledger, table, entry, amount)
 }
 
-pub fn hand_over(
-    ledger: Ledger,
-    parties: Parties,
-    room: usize,
-    entry: u32,
-    person: u32,
-) -> EntryChange
-    ensures { result ≡ hand_over_change ledger parties room entry person }
+pub fn hand_over(ledger: &Ledger, table: &mut [Party], entry: u32, person: u32) -> Answer
+    ensures { Promised (state_of ledger.now table.old) (hand_over entry person) (of_entry_call result) (state_of ledger.now table.new) }
 {
-    if !ledger::sound::sound(ledger, parties, room) {
-        return refused(LEDGER_UNSOUND);
+    if !is_sound(ledger, table) {
+        return Err(Refusal::of_call(LEDGER_UNSOUND));
     }
-    hand_over_sound(ledger, parties, entry, person)
+    hand_over_sound(ledger, table, entry, person)
 }

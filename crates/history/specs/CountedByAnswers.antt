@@ -1,10 +1,8 @@
 -- Document 02, E4: an accept is "counted in both schemes by its two answers": what it adds to a scheme's figures, by its bill and its answer alone.
-use Rattle.std.specs.Prelude.{ℕ, ◌+◌, ◌≡◌, cond, eqb}
+use Rattle.std.specs.Prelude.{ℕ, ◌+◌, ◌≡◌, cond, eqb, None, Option, Some}
 use Rattle.charge.specs.declared.Bill.{Bill}
 use Rattle.calls.specs.declared.answers.JoiningAnswer.{JoiningAnswer}
 use Rattle.calls.specs.declared.answers.JoiningAnswer.TheVariants.{NotAsked, Ended, Small, Joined}
-use Rattle.calls.specs.declared.answers.OpeningAnswer.{OpeningAnswer}
-use Rattle.calls.specs.declared.answers.OpeningAnswer.TheVariants.{NotOpened, Opened}
 use Rattle.calls.specs.declared.answers.Acceptance.{Acceptance}
 use Rattle.history.specs.History.{History, account_of, cost, joinings, collected, connections, charged, borne, cost_entered}
 
@@ -22,9 +20,9 @@ collected_by Small = 0
 collected_by (Joined paid) = paid.contribution
 
 -- the opening counts where the scheme has the number that it opened: its cost is X
-abbrev pub cost_by : ℕ → Bill → OpeningAnswer → ℕ
-cost_by s bill NotOpened = 0
-cost_by s bill (Opened number) = cond (eqb number s) bill.reconciliation.x 0
+abbrev pub cost_by : ℕ → Bill → Option ℕ → ℕ
+cost_by s bill None = 0
+cost_by s bill (Some number) = cond (eqb number s) bill.reconciliation.x 0
 
 -- for every scheme number s; the connection, its cost entered, charge and borne sum once
 pub record CountedByAnswers (before : History) (bill : Bill) (acceptance : Acceptance) (after : History) : Type 0 where

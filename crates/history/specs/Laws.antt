@@ -1,5 +1,5 @@
 -- The laws that the functions of src/ are there for, one statement each; the proofs stand in proofs/.
-use Rattle.std.specs.Prelude.{ℕ, ◌≡◌, List, length}
+use Rattle.std.specs.Prelude.{ℕ, ◌≡◌, List, length, Ok}
 use Rattle.ledger.specs.Records.{new_ledger}
 use Rattle.ledger.specs.declared.records.Party.{Party}
 use Rattle.calls.specs.Decision.{Call, CallAnswer, accept, is_accepted}
@@ -9,7 +9,6 @@ use Rattle.history.specs.History.{History, account_of, with_call, answer_by, his
 use Rattle.history.specs.ShownState.{ShownState}
 use Rattle.charge.specs.Price.{price_of}
 use Rattle.charge.specs.declared.Bill.{Bill}
-use Rattle.charge.specs.declared.Pricing.TheVariants.{Priced}
 use Rattle.calls.specs.declared.answers.Acceptance.{Acceptance}
 use Rattle.history.specs.CountedByAnswers.{CountedByAnswers}
 use Rattle.history.specs.AnswersJoined.{AnswersJoined}
@@ -29,7 +28,7 @@ TraceExists =
 abbrev pub EveryAcceptCounted : Type 0
 EveryAcceptCounted =
     (room : ℕ) (history : History) (book request : List ℕ) (bill : Bill) (acceptance : Acceptance) →
-    price_of book request ≡ Priced bill → answer_by room history (accept book request) ≡ is_accepted acceptance →
+    price_of book request ≡ Ok bill → answer_by room history (accept book request) ≡ is_accepted acceptance →
     CountedByAnswers history bill acceptance (with_call room history (accept book request))
 
 -- a call that is not answered "joined" credits no entry of any scheme

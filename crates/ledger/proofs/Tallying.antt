@@ -1,4 +1,5 @@
 -- One more entry at the end of the list: what it adds to its own scheme's tally, and that it leaves every other as it was.
+use Rattle.std.specs.Prelude.{None, Some}
 use Prim.Native.Nat.{ℕ, ◌+◌, ◌<◌, ◌≤◌}
 use mathlib.Core.Path.{◌≡◌, refl, sym, ap, ◌∙◌}
 use mathlib.Core.List.{List, [], ◌∷◌, ◌++◌, map, map-append}
@@ -7,7 +8,7 @@ use native.Mathlib.Omega.{arith}
 use native.Mathlib.Numerals.{add-one}
 use lib.Dec.{eqb}
 use lib.ListN.{length, take, drop, get_or, set, length-set, drop_of_length-le, length-replicate, length-map, get_or-replicate}
-use lib.Seq.{get_or-set_same, get_or-set_other, drop-cons, get_or-take, length-take-le, take-suc}
+use lib.Seq.{get_or-set_same, get_or-set_other, drop-cons, take-suc}
 use borrow.Author.Tests.{leb-true, eqb-true, eqb-false}
 use Rattle.ledger.specs.Columns.{scheme_column, put_in_column, sum_over, first_put_in}
 use Rattle.ledger.proofs.Theorems.Columns as columns
@@ -18,7 +19,6 @@ use Rattle.ledger.proofs.Theorems.Lookup.{scheme_placed, one_scheme}
 use Rattle.ledger.specs.Sound.{all_hold, figures_within, party_sound, parties_sound, tally_of}
 use Rattle.ledger.proofs.Theorems.Sound.{held}
 use Rattle.ledger.specs.Tallied.{no_tally, no_tallies, tally_with, Tallied, TallyWithin, TalliesWithin}
-use Rattle.ledger.specs.declared.lookup.SchemeAt.TheVariants as SchemeAt
 use Rattle.ledger.specs.declared.records.Party.{Party}
 use Rattle.ledger.specs.declared.sound.Tally.{Tally}
 
@@ -85,8 +85,8 @@ module _ (s : ℕ) (party : Party) (parties : List Party) where
 -- ---- the tallies, each at its scheme's place
 
 module _ (count : ℕ) (few : count ≤ most_schemes) (tallies : List Tally) (sized : length tallies ≡ most_schemes) (party : Party) (j : ℕ)
-    (here : scheme_place count party.scheme ≡ SchemeAt.Place j) where
-  within : (s k : ℕ) → scheme_place count s ≡ SchemeAt.Place k → k < length tallies
+    (here : scheme_place count party.scheme ≡ Some j) where
+  within : (s k : ℕ) → scheme_place count s ≡ Some k → k < length tallies
   within s k place = let placed = scheme_placed count s k place in omega (arith, placed.kept, placed.next)
 
   pub tallied_more : (parties : List Party) → Tallied count tallies parties →
@@ -97,7 +97,7 @@ module _ (count : ℕ) (few : count ≤ most_schemes) (tallies : List Tally) (si
           get_or (set tallies j (tally_with (get_or tallies j no_tally) party)) k no_tally ≡ tally_of s (parties ++ (party ∷ []))
       by true own =
           let same : party.scheme ≡ s = eqb-true party.scheme s own in
-          let both : SchemeAt.Place j ≡ SchemeAt.Place k = sym here ∙ ap (scheme_place count) same ∙ place in
+          let both : Some j ≡ Some k = sym here ∙ ap (scheme_place count) same ∙ place in
           let at : j ≡ k = cc in
           rw at
           (get_or-set_same tallies k (tally_with (get_or tallies k no_tally) party) no_tally (within s k place)
@@ -117,6 +117,9 @@ within_more n tally party p q w = record { many = omega (arith, w.many); credits
 within_le : (m n : ℕ) (tally : Tally) → m ≤ n → TallyWithin m tally → TallyWithin n tally
 within_le m n tally l w = record { many = omega (arith, w.many); credits = omega (arith, w.credits); put = omega (arith, w.put) }
 
+pub within_le_all : (m n : ℕ) (tallies : List Tally) → m ≤ n → TalliesWithin m tallies → TalliesWithin n tallies
+within_le_all m n tallies l w k h = within_le m n (get_or tallies k no_tally) l (w k h)
+
 bounded_more : (n : ℕ) (tallies : List Tally) (j : ℕ) (party : Party) → length tallies ≡ most_schemes → party.put_in ≤ highest_put_in →
     party.credited ≤ highest_credited → TalliesWithin n tallies → TalliesWithin (n + 1) (set tallies j (tally_with (get_or tallies j no_tally) party))
 bounded_more n tallies j party sized p q b k h = by (eqb j k) refl
@@ -132,26 +135,20 @@ bounded_more n tallies j party sized p q b k h = by (eqb j k) refl
 
 -- ---- the loop
 
-pub parties_from : (count : ℕ) (parties : List Party) (entries i : ℕ) (none : Party) → i < entries → entries ≤ length parties →
-    parties_sound count (drop i (take entries parties)) ≡
-    cond (party_sound count (get_or parties i none)) (parties_sound count (drop (i + 1) (take entries parties))) false
+pub parties_from : (count : ℕ) (parties : List Party) (i : ℕ) (none : Party) → i < length parties →
+    parties_sound count (drop i parties) ≡ cond (party_sound count (get_or parties i none)) (parties_sound count (drop (i + 1) parties)) false
 unfolding parties_sound
-parties_from count parties entries i none h l =
-    let within : i < length (take entries parties) = omega (arith, length-take-le entries parties l) in
-    rw (add-one, drop-cons (take entries parties) i none within, get_or-take entries parties i none h)
+parties_from count parties i none h = rw (add-one, drop-cons parties i none h)
 
-pub parties_end : (count : ℕ) (parties : List Party) (entries i : ℕ) → entries ≤ i → entries ≤ length parties →
-    parties_sound count (drop i (take entries parties)) ≡ true
+pub parties_end : (count : ℕ) (parties : List Party) (i : ℕ) → length parties ≤ i → parties_sound count (drop i parties) ≡ true
 unfolding parties_sound
-parties_end count parties entries i h l =
-    let past : length (take entries parties) ≤ i = omega (arith, length-take-le entries parties l) in
-    rw (drop_of_length-le (take entries parties) past)
+parties_end count parties i past = rw (drop_of_length-le parties past)
 
 -- an entry whose scheme was never opened; one whose scheme has a place is judged by its figures
-pub never_opened : (count : ℕ) (party : Party) → scheme_place count party.scheme ≡ SchemeAt.NeverOpened → party_sound count party ≡ false
+pub never_opened : (count : ℕ) (party : Party) → scheme_place count party.scheme ≡ None → party_sound count party ≡ false
 never_opened count party none = rw none
 
-pub by_figures : (count k : ℕ) (party : Party) → scheme_place count party.scheme ≡ SchemeAt.Place k → all_hold (figures_within party) ≡ party_sound count party
+pub by_figures : (count k : ℕ) (party : Party) → scheme_place count party.scheme ≡ Some k → all_hold (figures_within party) ≡ party_sound count party
 by_figures count k party here = rw here
 
 -- what the loop keeps when the first i entries are passed
@@ -170,7 +167,7 @@ kept_start count few parties =
     }
 
 pub kept_more : (tallies : List Tally) (parties : List Party) (i count j : ℕ) (none : Party) → count ≤ most_schemes →
-    scheme_place count (get_or parties i none).scheme ≡ SchemeAt.Place j → all_hold (figures_within (get_or parties i none)) ≡ true → i < length parties →
+    scheme_place count (get_or parties i none).scheme ≡ Some j → all_hold (figures_within (get_or parties i none)) ≡ true → i < length parties →
     Kept count tallies parties i → Kept count (set tallies j (tally_with (get_or tallies j no_tally) (get_or parties i none))) parties (i + 1)
 kept_more tallies parties i count j none few here sound h kept =
     let party : Party = get_or parties i none in

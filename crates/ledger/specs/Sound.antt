@@ -3,17 +3,15 @@
 -- after the last month; places past the last scheme hold zeros; each entry's scheme exists, each scheme has an entry and its first put in its cost; paid
 -- out is at most credited, fees = fee × (entries − 1), and cost + fees = the sum of put in less credited." 13 also where the table is shorter than its entries.
 -- "as in 0C" of a request: capacity 1 to 1,000,000; "as in 06" of a rate book: fee at most the minimum, minimum at most 1,000,000,000, term at least 84.
-use Rattle.std.specs.Prelude.{ℕ, suc, ◌+◌, ◌*◌, ◌-◌, List, [], ◌∷◌, Bool, true, false, cond, take, drop, leb, eqb}
+use Rattle.std.specs.Prelude.{ℕ, suc, ◌+◌, ◌*◌, ◌-◌, List, [], ◌∷◌, Bool, true, false, cond, take, drop, leb, eqb, None, Option, Some}
 use Rattle.field_values.specs.Limits.{highest_minimum, lowest_term, lowest_capacity, highest_capacity}
 use Rattle.ledger.specs.Limits.{most_schemes, most_entries, most_connections, highest_put_in, highest_credited, highest_sum}
 use Rattle.ledger.specs.Columns.{scheme_column, put_in_column, credited_column, sum_over, entries_of, first_put_in}
 use Rattle.ledger.specs.Lookup.{scheme_place}
-use Rattle.ledger.specs.declared.lookup.SchemeAt.{SchemeAt}
 use Rattle.ledger.specs.declared.records.Scheme.{Scheme}
 use Rattle.ledger.specs.declared.records.Party.{Party}
 use Rattle.ledger.specs.declared.records.Ledger.{Ledger}
 use Rattle.ledger.specs.declared.sound.Tally.{Tally}
-use Rattle.ledger.specs.declared.lookup.SchemeAt.TheVariants as SchemeAt
 
 -- every condition holds
 abbrev pub all_hold : List Bool → Bool
@@ -38,9 +36,9 @@ abbrev pub sums_sound : Ledger → Bool
 sums_sound ledger = all_hold (sums_within ledger)
 
 -- "each entry's scheme exists"
-abbrev pub has_place : SchemeAt → Bool
-has_place (SchemeAt.Place k) = true
-has_place SchemeAt.NeverOpened = false
+abbrev pub has_place : Option ℕ → Bool
+has_place (Some k) = true
+has_place None = false
 
 -- an entry's capacity and amounts
 abbrev pub figures_within : Party → List Bool
@@ -120,6 +118,6 @@ records_sound ledger entries =
     all_zero (drop ledger.count ledger.schemes) ∷
     []
 
--- `parties` are the table's records as far as the snapshot goes, `room` is the table's length
+-- `parties` are the table's records, at least as many as there are entries; `room` is the table's length
 unfoldable pub sound : Ledger → List Party → ℕ → Bool
 sound ledger parties room = cond (counts_sound ledger room) (all_hold (records_sound ledger (take ledger.entries parties))) false

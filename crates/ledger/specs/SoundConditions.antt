@@ -1,5 +1,5 @@
 -- What a sound ledger has, condition by condition, each by its name.
-use Rattle.std.specs.Prelude.{ℕ, ◌+◌, ◌*◌, ◌-◌, ◌<◌, ◌≤◌, ◌≡◌, List, length, take, get_or}
+use Rattle.std.specs.Prelude.{ℕ, ◌+◌, ◌*◌, ◌-◌, ◌<◌, ◌≤◌, ◌≡◌, List, length, take, get_or, Some}
 use Rattle.field_values.specs.Limits.{highest_minimum, lowest_term, lowest_capacity, highest_capacity}
 use Rattle.ledger.specs.Limits.{most_schemes, most_entries, most_connections, highest_put_in, highest_credited, highest_sum}
 use Rattle.ledger.specs.Records.{no_scheme, no_party}
@@ -8,7 +8,6 @@ use Rattle.ledger.specs.Lookup.{scheme_place}
 use Rattle.ledger.specs.declared.records.Scheme.{Scheme}
 use Rattle.ledger.specs.declared.records.Party.{Party}
 use Rattle.ledger.specs.declared.records.Ledger.{Ledger}
-use Rattle.ledger.specs.declared.lookup.SchemeAt.TheVariants as SchemeAt
 
 pub record SoundParty (count : ℕ) (party : Party) : Type 0 where
   pub numbered : 1 ≤ party.scheme
@@ -38,6 +37,6 @@ pub record SoundLedger (ledger : Ledger) (parties : List Party) (room : ℕ) : T
   pub charged : ledger.charged ≤ highest_sum * ledger.connections
   pub borne : ledger.borne ≤ highest_sum * ledger.connections
   pub each_party : (i : ℕ) → i < length (take ledger.entries parties) → SoundParty ledger.count (get_or (take ledger.entries parties) i no_party)
-  pub each_scheme : (s k : ℕ) → scheme_place ledger.count s ≡ SchemeAt.Place k → k < length ledger.schemes →
+  pub each_scheme : (s k : ℕ) → scheme_place ledger.count s ≡ Some k → k < length ledger.schemes →
       SoundScheme ledger.month (take ledger.entries parties) s (get_or ledger.schemes k no_scheme)
   pub rest_zero : (i : ℕ) → ledger.count ≤ i → get_or ledger.schemes i no_scheme ≡ no_scheme

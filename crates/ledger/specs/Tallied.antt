@@ -1,11 +1,10 @@
 -- The tallies of the entries passed so far, which the soundness test keeps for each scheme.
-use Rattle.std.specs.Prelude.{ℕ, ◌+◌, ◌*◌, ◌<◌, ◌≤◌, ◌≡◌, List, cond, replicate, get_or, eqb}
+use Rattle.std.specs.Prelude.{ℕ, ◌+◌, ◌*◌, ◌<◌, ◌≤◌, ◌≡◌, List, cond, replicate, get_or, eqb, Some}
 use Rattle.ledger.specs.Limits.{most_schemes, highest_put_in, highest_credited}
 use Rattle.ledger.specs.Lookup.{scheme_place}
 use Rattle.ledger.specs.Sound.{tally_of}
 use Rattle.ledger.specs.declared.records.Party.{Party}
 use Rattle.ledger.specs.declared.sound.Tally.{Tally}
-use Rattle.ledger.specs.declared.lookup.SchemeAt.TheVariants as SchemeAt
 
 abbrev pub no_tally : Tally
 no_tally = record { entries = 0; first = 0; credited = 0; put_in = 0 }
@@ -25,7 +24,7 @@ tally_with tally party =
 
 -- a scheme has its tally at its place, where there are so many schemes
 abbrev pub Tallied : ℕ → List Tally → List Party → Type 0
-Tallied count tallies parties = (s k : ℕ) → scheme_place count s ≡ SchemeAt.Place k → get_or tallies k no_tally ≡ tally_of s parties
+Tallied count tallies parties = (s k : ℕ) → scheme_place count s ≡ Some k → get_or tallies k no_tally ≡ tally_of s parties
 
 -- what n entries can come to
 pub record TallyWithin (n : ℕ) (tally : Tally) : Type 0 where

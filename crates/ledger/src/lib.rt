@@ -1,6 +1,5 @@
 // The pioneer ledger's records, the places of its schemes and entries, and whether it is sound:
-// document 01, 'Ledger calls'. The entries are a by-value snapshot of the party table, with the
-// table's length beside it.
+// document 01, 'Ledger calls'. The entries are the first records of the lent party table.
 #![tactic(auto)]
 
 pub mod limits;

@@ -5,7 +5,7 @@ pub const MOST_SCHEMES: usize = 64;
 
 pub const MOST_ENTRIES: usize = 512;
 
-// The same two in the width that a ledger counts them in.
+// The same two in the width that a ledger counts them in, so that no function casts them.
 pub const MOST_SCHEMES_COUNTED: u32 = MOST_SCHEMES as u32;
 
 pub const MOST_ENTRIES_COUNTED: u32 = MOST_ENTRIES as u32;
@@ -22,6 +22,7 @@ pub const HIGHEST_SUM: u64 = 1_100_000_000_000;
 
 pub type Schemes = [Scheme; MOST_SCHEMES];
 
+// A fixed array, of which the ledger says how many entries it holds: the firmware has no heap.
 pub type Parties = [Party; MOST_ENTRIES];
 
 // What each entry is credited.

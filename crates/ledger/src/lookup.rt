@@ -1,39 +1,26 @@
 // A scheme's and an entry's place, by its number. Nothing else turns a number into a place.
+// A place is an index, since schemes and entries stand in fixed arrays by number: the firmware has no map.
+// Two functions, since schemes and entries are numbered apart and in two widths: neither stands for the other.
 ghost use Rattle.std.specs.Prelude.{◌≡◌};
 ghost use Rattle.ledger.specs.Lookup.{scheme_place, entry_place};
 
-#[derive(Clone, Copy)]
-pub enum SchemeAt {
-    Place(usize),
-    NeverOpened,
-}
-
-#[derive(Clone, Copy)]
-pub enum EntryAt {
-    Place(usize),
-    NoSuchEntry,
-}
-
-pub fn scheme_at(count: u32, number: u16) -> SchemeAt
+#[tactic(auto, unfolding(crate::specs::Lookup::scheme_place))]
+pub fn scheme_at(count: u32, number: u16) -> Option<usize>
     ensures { result ≡ scheme_place count number }
 {
-    if number < 1 {
-        return SchemeAt::NeverOpened;
+    let number = usize::from(number);
+    if number < 1 || (count as usize) < number {
+        return None;
     }
-    if count < number as u32 {
-        return SchemeAt::NeverOpened;
-    }
-    SchemeAt::Place(number as usize - 1)
+    Some(number - 1)
 }
 
-pub fn entry_at(entries: u32, entry: u32) -> EntryAt
+#[tactic(auto, unfolding(crate::specs::Lookup::entry_place))]
+pub fn entry_at(entries: u32, entry: u32) -> Option<usize>
     ensures { result ≡ entry_place entries entry }
 {
-    if entry < 1 {
-        return EntryAt::NoSuchEntry;
+    if entry < 1 || entries < entry {
+        return None;
     }
-    if entries < entry {
-        return EntryAt::NoSuchEntry;
-    }
-    EntryAt::Place(entry as usize - 1)
+    Some(entry as usize - 1)
 }

@@ -1,11 +1,11 @@
 // What a ledger and its table hold, in the stored form's widths: every value of these types can be
 // handed over, sound or not.
 ghost use Rattle.std.specs.Prelude.{◌≡◌};
-ghost use Rattle.ledger.specs.Records.{no_party, no_parties, new_ledger};
+ghost use Rattle.ledger.specs.Records.{no_parties, new_ledger};
 
 use crate::limits::{MOST_ENTRIES, MOST_SCHEMES, Parties, Schemes};
 
-#[derive(Clone, Copy)]
+#[derive(Clone, Copy, Default, PartialEq)]
 pub struct Scheme {
     pub cost: u32,
     pub fee: u32,
@@ -18,7 +18,7 @@ pub struct Scheme {
 }
 
 // An entry of the party table. Schemes are numbered from 1.
-#[derive(Clone, Copy)]
+#[derive(Clone, Copy, Default)]
 pub struct Party {
     pub scheme: u16,
     pub person: u32,
@@ -28,6 +28,8 @@ pub struct Party {
     pub paid_out: u64,
 }
 
+// The schemes are a fixed array, of which the first `count` were opened: the firmware has no heap.
+// The counts have no limit here, as a ledger is handed over sound or not: where it was tested, clauses say it.
 #[derive(Clone, Copy)]
 pub struct Ledger {
     // the last accepted month
@@ -41,37 +43,17 @@ pub struct Ledger {
     pub schemes: Schemes,
 }
 
-pub fn no_party() -> Party
-    ensures { result ≡ no_party }
-{
-    Party {
-        scheme: 0,
-        person: 0,
-        capacity: 0,
-        put_in: 0,
-        credited: 0,
-        paid_out: 0,
-    }
-}
-
+// This and the new ledger are functions: arrays of so many records have no Default.
+#[tactic(auto, unfolding(crate::specs::Records::no_parties))]
 pub fn no_parties() -> Parties
     ensures { result ≡ no_parties }
 {
-    let none = no_party();
-    [none; MOST_ENTRIES]
+    [Party::default(); MOST_ENTRIES]
 }
 
 pub fn new_ledger() -> Ledger
     ensures { result ≡ new_ledger }
 {
-    let none = Scheme {
-        cost: 0,
-        fee: 0,
-        minimum: 0,
-        opening: 0,
-        term: 0,
-        fees: 0,
-    };
     Ledger {
         month: 0,
         connections: 0,
@@ -79,6 +61,6 @@ pub fn new_ledger() -> Ledger
         borne: 0,
         entries: 0,
         count: 0,
-        schemes: [none; MOST_SCHEMES],
+        schemes: [Scheme::default(); MOST_SCHEMES],
     }
 }

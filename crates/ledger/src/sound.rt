@@ -1,5 +1,5 @@
 // Whether a ledger is sound: one pass over the entries, with sums for each scheme.
-ghost use Rattle.std.specs.Prelude.{◌≡◌, true, false, cond, List, ◌≤◌, ◌-◌, eqb, take, drop};
+ghost use Rattle.std.specs.Prelude.{◌≡◌, ◌↔◌, true, false, List, [], ◌∷◌, length, take, drop, ◌≤◌, ◌-◌, MatchOption, IsTrue, All};
 ghost use Rattle.ledger.specs.declared.records.Party.{Party};
 ghost use Rattle.ledger.specs.Limits.{most_schemes, most_entries, highest_credited};
 ghost use Rattle.ledger.specs.Sound.{all_hold, counts_sound, sums_sound, figures_within, parties_sound, accounts_sound, schemes_sound, is_zero, all_zero, sound};
@@ -7,14 +7,14 @@ ghost use Rattle.ledger.specs.Tallied.{no_tallies, tally_with, Tallied, TallyWit
 
 use crate::limits::{
     HIGHEST_CREDITED, HIGHEST_PUT_IN, HIGHEST_SUM, MOST_CONNECTIONS, MOST_ENTRIES_COUNTED,
-    MOST_SCHEMES, MOST_SCHEMES_COUNTED, Parties, Schemes,
+    MOST_SCHEMES, MOST_SCHEMES_COUNTED, Parties,
 };
-use crate::lookup::{SchemeAt, scheme_at};
+use crate::lookup::scheme_at;
 use crate::records::{Ledger, Party, Scheme};
 use field_values::limits::{HIGHEST_CAPACITY, HIGHEST_MINIMUM, LOWEST_CAPACITY, LOWEST_TERM};
 
 // What a scheme's entries come to: how many, what the first put in, what all were credited and put in.
-#[derive(Clone, Copy)]
+#[derive(Clone, Copy, Default)]
 pub struct Tally {
     pub entries: u64,
     pub first: u64,
@@ -22,222 +22,153 @@ pub struct Tally {
     pub put_in: u64,
 }
 
+// A tally for each scheme, beside the schemes: the test only looks at the ledger, and the tallies are its own.
 pub type Tallies = [Tally; MOST_SCHEMES];
 
-#[derive(Clone, Copy)]
-pub struct EntriesTally {
-    pub sound: bool,
-    pub tallies: Tallies,
-}
-
-fn counts_sound(ledger: Ledger, room: usize) -> bool
-    ensures { result ≡ counts_sound ledger room }
+fn counts_sound(ledger: &Ledger, room: usize) -> bool
+    ensures { result ≡ counts_sound ledger.now room }
 {
-    if MOST_SCHEMES_COUNTED < ledger.count {
-        return false;
-    }
-    if MOST_ENTRIES_COUNTED < ledger.entries {
-        return false;
-    }
-    ledger.entries as usize <= room
+    ledger.count <= MOST_SCHEMES_COUNTED
+        && ledger.entries <= MOST_ENTRIES_COUNTED
+        && ledger.entries as usize <= room
 }
 
-fn sums_sound(ledger: Ledger) -> bool
-    ensures { result ≡ sums_sound ledger }
+fn sums_sound(ledger: &Ledger) -> bool
+    ensures { result ≡ sums_sound ledger.now }
 {
     if MOST_CONNECTIONS < ledger.connections {
         return false;
     }
-    let most = HIGHEST_SUM * ledger.connections as u64;
-    if most < ledger.charged {
-        return false;
-    }
-    ledger.borne <= most
+    let most = HIGHEST_SUM * u64::from(ledger.connections);
+    ledger.charged <= most && ledger.borne <= most
 }
 
-fn figures_sound(party: Party) -> bool
-    ensures { result ≡ all_hold (figures_within party) }
+fn figures_sound(party: &Party) -> bool
+    ensures { result ≡ all_hold (figures_within party.now) }
 {
-    if party.capacity < LOWEST_CAPACITY {
-        return false;
-    }
-    if HIGHEST_CAPACITY < party.capacity {
-        return false;
-    }
-    if HIGHEST_PUT_IN < party.put_in {
-        return false;
-    }
-    if HIGHEST_CREDITED < party.credited {
-        return false;
-    }
-    party.paid_out <= party.credited
+    LOWEST_CAPACITY <= party.capacity
+        && party.capacity <= HIGHEST_CAPACITY
+        && party.put_in <= HIGHEST_PUT_IN
+        && party.credited <= HIGHEST_CREDITED
+        && party.paid_out <= party.credited
 }
 
-fn is_zero(scheme: Scheme) -> bool
-    ensures { result ≡ is_zero scheme }
+fn is_zero(scheme: &Scheme) -> bool
+    ensures { result ≡ is_zero scheme.now }
 {
-    if scheme.cost != 0 {
-        return false;
-    }
-    if scheme.fee != 0 {
-        return false;
-    }
-    if scheme.minimum != 0 {
-        return false;
-    }
-    if scheme.opening != 0 {
-        return false;
-    }
-    if scheme.term != 0 {
-        return false;
-    }
-    scheme.fees == 0
-}
-
-fn no_tallies() -> Tallies
-    ensures { result ≡ no_tallies }
-{
-    let none = Tally {
-        entries: 0,
-        first: 0,
-        credited: 0,
-        put_in: 0,
-    };
-    [none; MOST_SCHEMES]
-}
-
-fn first_of(entries: u64, first: u64, put_in: u64) -> u64
-    ensures { result ≡ cond (eqb entries 0) put_in first }
-{
-    if entries == 0 {
-        return put_in;
-    }
-    first
+    *scheme == Scheme::default()
 }
 
 // With one entry more.
-fn tally_with(tally: Tally, party: Party) -> Tally
-    requires { TallyWithin (most_entries - 1) tally × (party.credited ≤ highest_credited) }
-    ensures { result ≡ tally_with tally party }
+fn tally_with(tally: &Tally, party: &Party) -> Tally
+    requires { TallyWithin (most_entries - 1) tally.now × (party.now.credited ≤ highest_credited) }
+    ensures { result ≡ tally_with tally.now party.now }
 {
+    let put_in = u64::from(party.put_in);
     Tally {
         entries: tally.entries + 1,
-        first: first_of(tally.entries, tally.first, party.put_in as u64),
+        first: if tally.entries == 0 {
+            put_in
+        } else {
+            tally.first
+        },
         credited: tally.credited + party.credited,
-        put_in: tally.put_in + party.put_in as u64,
+        put_in: tally.put_in + put_in,
     }
 }
 
-fn unsound_entries() -> EntriesTally
-    ensures { result.sound ≡ false }
+// A function, as an array of so many has no Default.
+#[tactic(auto, unfolding(crate::specs::Tallied::no_tallies))]
+fn no_tallies() -> Tallies
+    ensures { result ≡ no_tallies }
 {
-    EntriesTally {
-        sound: false,
-        tallies: no_tallies(),
-    }
+    [Tally::default(); MOST_SCHEMES]
 }
 
-fn tally_entries(parties: Parties, entries: u32, count: u32) -> EntriesTally
-    requires { (entries ≤ most_entries) × (count ≤ most_schemes) }
-    ensures sound_value { result.sound ≡ parties_sound count (take entries parties) }
-    ensures tallied { result.sound ≡ true → Tallied count result.tallies (take entries parties) × TalliesWithin most_entries result.tallies }
+// What each scheme's entries come to, if every entry is sound.
+fn tally_entries(parties: &[Party], count: u32) -> Option<Tallies>
+    requires { (length parties.now ≤ most_entries) × (count ≤ most_schemes) }
+    ensures { MatchOption result (parties_sound count parties.now ≡ false) (λ tallies. (parties_sound count parties.now ≡ true) × Tallied count tallies parties.now × TalliesWithin most_entries tallies) }
 {
     let mut tallies = no_tallies();
-    let mut i = 0;
-    while i < entries as usize {
-        let party = parties[i];
-        let SchemeAt::Place(k) = scheme_at(count, party.scheme) else {
-            return unsound_entries();
-        };
+    for party in parties {
+        let k = scheme_at(count, party.scheme)?;
         if !figures_sound(party) {
-            return unsound_entries();
+            return None;
         }
-        tallies[k] = tally_with(tallies[k], party);
-        i += 1;
+        tallies[k] = tally_with(&tallies[k], party);
     }
-    EntriesTally {
-        sound: true,
-        tallies,
-    }
+    Some(tallies)
 }
 
 // A scheme's terms and accounts, by what its entries come to.
-fn scheme_sound(month: u16, scheme: Scheme, tally: Tally) -> bool
-    requires { TallyWithin most_entries tally }
-    ensures { result ≡ accounts_sound month scheme tally }
+fn scheme_sound(month: u16, scheme: &Scheme, tally: &Tally) -> bool
+    requires { TallyWithin most_entries tally.now }
+    ensures { result ≡ accounts_sound month scheme.now tally.now }
 {
-    if scheme.minimum < scheme.fee {
-        return false;
-    }
-    if HIGHEST_MINIMUM < scheme.minimum {
-        return false;
-    }
-    if scheme.term < LOWEST_TERM {
-        return false;
-    }
-    if month < scheme.opening {
-        return false;
-    }
     if tally.entries < 1 {
         return false;
     }
-    if tally.first != scheme.cost as u64 {
-        return false;
-    }
-    let fees = scheme.fee as u64 * (tally.entries - 1);
-    if scheme.fees != fees {
-        return false;
-    }
-    let told = scheme.cost as u64 + scheme.fees + tally.credited;
-    told == tally.put_in
+    let fees = u64::from(scheme.fee) * (tally.entries - 1);
+    scheme.fee <= scheme.minimum
+        && scheme.minimum <= HIGHEST_MINIMUM
+        && LOWEST_TERM <= scheme.term
+        && scheme.opening <= month
+        && tally.first == u64::from(scheme.cost)
+        && scheme.fees == fees
+        && u64::from(scheme.cost) + scheme.fees + tally.credited == tally.put_in
 }
 
-fn schemes_sound(month: u16, schemes: Schemes, count: u32, tallies: Tallies) -> bool
-    requires { (count ≤ most_schemes) × TalliesWithin most_entries tallies }
-    ensures { (parties : List Party) → Tallied count tallies parties → result ≡ schemes_sound month parties 1 (take count schemes) }
+fn schemes_sound(month: u16, schemes: &[Scheme], tallies: &Tallies) -> bool
+    requires { (length schemes.now ≤ most_schemes) × TalliesWithin most_entries tallies.now }
+    ensures { (parties : List Party) → Tallied (length schemes.now) tallies.now parties → result ≡ schemes_sound month parties 1 schemes.now }
 {
-    let mut i = 0;
-    while i < count as usize {
-        if !scheme_sound(month, schemes[i], tallies[i]) {
+    for (scheme, tally) in schemes.iter().zip(tallies) {
+        if !scheme_sound(month, scheme, tally) {
             return false;
         }
-        i += 1;
     }
     true
 }
 
-fn rest_zero(schemes: Schemes, count: u32) -> bool
-    requires { count ≤ most_schemes }
-    ensures { result ≡ all_zero (drop count schemes) }
+fn all_zero(schemes: &[Scheme]) -> bool
+    ensures { IsTrue result ↔ All (λ scheme. is_zero scheme ≡ true) schemes.now }
 {
-    let mut i = count as usize;
-    while i < MOST_SCHEMES {
-        if !is_zero(schemes[i]) {
-            return false;
-        }
-        i += 1;
-    }
-    true
+    schemes.iter().all(is_zero)
 }
 
-// Whether a ledger is sound with these entries, where the table has `room` records.
-pub fn sound(ledger: Ledger, parties: Parties, room: usize) -> bool
-    ensures { result ≡ sound ledger parties room }
+// Whether every record is sound, where these are the entries and neither they nor the schemes are too many.
+#[tactic(auto, using(crate::proofs::Rest::by_each))]
+fn records_sound(ledger: &Ledger, entries: &[Party]) -> bool
+    requires { (ledger.now.count ≤ most_schemes) × (length entries.now ≤ most_entries) }
+    ensures holds { result ≡ all_hold (parties_sound ledger.now.count entries.now ∷ schemes_sound ledger.now.month entries.now 1 (take ledger.now.count ledger.now.schemes) ∷ all_zero (drop ledger.now.count ledger.now.schemes) ∷ []) }
+    ensures places { length ledger.now.schemes ≡ most_schemes }
 {
-    if !counts_sound(ledger, room) {
-        return false;
+    let (schemes, places_left) = ledger.schemes.split_at(ledger.count as usize);
+    match tally_entries(entries, ledger.count) {
+        Some(tallies) => { schemes_sound(ledger.month, schemes, &tallies) && all_zero(places_left) }
+        None => false,
     }
-    if !sums_sound(ledger) {
-        return false;
-    }
-    let schemes = ledger.schemes;
-    let entries = tally_entries(parties, ledger.entries, ledger.count);
-    if !entries.sound {
-        return false;
-    }
-    let tallies = entries.tallies;
-    if !schemes_sound(ledger.month, schemes, ledger.count, tallies) {
-        return false;
-    }
-    rest_zero(schemes, ledger.count)
+}
+
+// Whether a ledger is sound with the party table that these are the records of. In this and in the calls the table is
+// lent beside the ledger, a slice as document 01 names it, and is no part of a struct with it.
+#[tactic(auto, unfolding(crate::specs::Sound::sound))]
+pub fn is_sound(ledger: &Ledger, table: &[Party]) -> bool
+    ensures holds { result ≡ sound ledger.now table.now (length table.now) }
+    ensures places { result ≡ true → length ledger.now.schemes ≡ most_schemes }
+{
+    counts_sound(ledger, table.len())
+        && sums_sound(ledger)
+        && records_sound(ledger, &table[..ledger.entries as usize])
+}
+
+// The same of an array whose first `room` records are the table, or all of them: a table read from a file has no other length yet.
+#[tactic(auto, unfolding(crate::specs::Sound::sound))]
+pub fn sound(ledger: &Ledger, parties: &Parties, room: usize) -> bool
+    ensures { result ≡ sound ledger.now parties.now room }
+{
+    counts_sound(ledger, room)
+        && sums_sound(ledger)
+        && records_sound(ledger, &parties[..ledger.entries as usize])
 }

@@ -1,1 +1,2 @@
 pub mod PartyTable
+pub mod Snapshots

@@ -1,4 +1,4 @@
--- What the functions over a lent party table ask and leave, beside the ledger's own definitions (Table, Updates).
+-- The entries of a lent party table as an array of records, beside the ledger's own definitions (Table, Updates).
 use Rattle.std.specs.Prelude.{ℕ, ◌-◌, min, List, ◌++◌, length, take, replicate}
 use Rattle.ledger.specs.Limits.{most_entries}
 use Rattle.ledger.specs.Records.{no_party}

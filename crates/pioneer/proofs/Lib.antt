@@ -1,3 +1,1 @@
-pub mod Changes
-pub mod Readings
-pub mod Writings
+mod Readings

@@ -1,13 +1,9 @@
--- What a reading leaves of the table, by its answer.
-use Prim.Native.Nat.{ℕ, ◌≤◌}
-use mathlib.Core.Path.{◌≡◌, refl, ap}
-use mathlib.Core.List.{List, ◌++◌}
-use mathlib.Core.Bool.{not}
-use lib.ListN.{length, take, drop}
-use lib.Dec.{T}
-use Rattle.tagged.specs.File.{fields_part}
-use Rattle.tagged.specs.declared.file.FileAnswer.{FileAnswer}
-use Rattle.tagged.specs.declared.file.FileAnswer.TheVariants.{Stands, Refused}
+-- What a reading leaves of the ledger and the table, by its answer.
+use Rattle.std.specs.Prelude.{ℕ, ◌≤◌, ◌≡◌, refl, List, ◌++◌, length, take, drop, Err, Ok}
+use Rattle.std.proofs.Common.{sym, ap, ◌∙◌}
+use Rattle.tagged.proofs.Theorems.Impossible.{impossible}
+use Rattle.tagged.specs.File.{fields_part, FileAnswer}
+use Rattle.tagged.specs.declared.file.Refusal.{Refusal}
 use Rattle.ledger.specs.Limits.{most_entries}
 use Rattle.ledger.specs.Lists.{at_start}
 use Rattle.ledger.specs.Records.{no_parties}
@@ -17,52 +13,54 @@ use Rattle.ledger.specs.declared.records.Party.{Party}
 use Rattle.ledger.specs.declared.records.Ledger.{Ledger}
 use Rattle.stored.proofs.Theorems.Layout.{take_at_start}
 use Rattle.stored.specs.Form.{stored_entries, stored_ledger}
-use Rattle.stored.specs.Reading.{read_answer, read_by, read_back, table_by, read_of}
+use Rattle.stored.specs.Reading.{read_answer, ReadBack, refused_read, read_by, read_back, ReadEnd, table_by, read_of}
 use Rattle.stored.proofs.Theorems.StoredAccepted.{accepted_means}
 use Rattle.stored.proofs.Theorems.ReadLedger.{entries_count}
-use Rattle.pioneer.specs.ReadResult.{read_refused, read_result}
+
+abbrev pub ending : FileAnswer → Ledger → List Party → ReadEnd
+ending answer ledger table = record { answer = answer; ledger = ledger; table = table }
 
 module _ (ledger : Ledger) (table : List Party) (file : List ℕ) where
   abbrev s : List ℕ
   s = fields_part file
 
-  -- the same answer and ledger as with the table
-  pub read_same : read_result (read_back ledger (length table) file).answer (read_back ledger (length table) file).ledger
-      ≡ read_result (read_of ledger table file).answer (read_of ledger table file).ledger
-  read_same = by_answer (read_answer (length table) file)
+  -- a refused reading leaves both
+  pub refused_end : (r : Refusal) (after : Ledger) → refused_read r after ≡ read_back ledger (length table) file → read_of ledger table file ≡ ending (Err r) after table
+  refused_end r after = by (read_answer (length table) file)
     where
-      by_answer : (answer : FileAnswer) → read_result (read_by answer ledger s).answer (read_by answer ledger s).ledger
-          ≡ read_result (table_by answer ledger table s).answer (table_by answer ledger table s).ledger
-      by_answer Stands = refl
-      by_answer (Refused r) = refl
+      by : (answer : FileAnswer) → refused_read r after ≡ read_by answer ledger s → table_by answer ledger table s ≡ ending (Err r) after table
+      by (Ok _) e = let told = ap (λ (b : ReadBack). b.answer) e in impossible cc
+      by (Err q) e =
+          let answers = ap (λ (b : ReadBack). b.answer) e in
+          let ledgers = ap (λ (b : ReadBack). b.ledger) e in
+          ap (λ answer. ending answer ledger table) (sym answers) ∙ ap (λ l. ending (Err r) l table) (sym ledgers)
 
-  pub refused_leaves : T (read_refused (read_back ledger (length table) file).answer) → table ≡ (read_of ledger table file).table
-  refused_leaves = by_answer (read_answer (length table) file)
-    where
-      by_answer : (answer : FileAnswer) → T (read_refused (read_by answer ledger s).answer) → table ≡ (table_by answer ledger table s).table
-      by_answer Stands refused = absurd refused
-      by_answer (Refused r) refused = refl
-
-  stands_means : read_answer (length table) file ≡ Stands → SoundLedger (stored_ledger s) (stored_entries s) (length table)
-  stands_means e = sound_means (stored_ledger s) (stored_entries s) (length table) (accepted_means (length table) file e).holds
-
-  -- what storing the entries needs and leaves
-  pub record Stores (entries : ℕ) (parties : List Party) : Type 0 where
-    pub limit : entries ≤ most_entries
-    pub room : entries ≤ length table
-    pub leaves : take entries parties ++ drop entries table ≡ (read_of ledger table file).table
+  -- one that stands has room for its entries, and puts them into the first records
+  pub record Reads (after : Ledger) (parties : List Party) : Type 0 where
+    pub limit : after.entries ≤ most_entries
+    pub room : after.entries ≤ length table
+    pub ends : read_of ledger table file ≡ ending (Ok tt) after (take after.entries parties ++ drop after.entries table)
 
   entries_stored : (n : ℕ) → n ≡ length (stored_entries s) → take n (at_start (stored_entries s) no_parties) ++ drop n table ≡ at_start (stored_entries s) table
   entries_stored n e = rw e (ap (λ (entries : List Party). entries ++ drop (length (stored_entries s)) table) (take_at_start (stored_entries s) no_parties))
 
-  pub standing_stores : T (not (read_refused (read_back ledger (length table) file).answer)) →
-      Stores (read_back ledger (length table) file).ledger.entries (read_back ledger (length table) file).parties
-  standing_stores h =
-      let e : read_answer (length table) file ≡ Stands = stands (read_answer (length table) file) h in
-      let means : SoundLedger (stored_ledger s) (stored_entries s) (length table) = stands_means e in
-      rw e
-      (record { limit = means.entries; room = means.in_table; leaves = rw e (entries_stored (stored_ledger s).entries (entries_count s)) })
+  pub standing_reads : (after : Ledger) (parties : List Party) →
+      ◌≡◌ {A = ReadBack} (record { answer = Ok tt; ledger = after; parties = parties }) (read_back ledger (length table) file) → Reads after parties
+  standing_reads after parties e = by (read_answer (length table) file) refl e
     where
-      stands : (answer : FileAnswer) → T (not (read_refused (read_by answer ledger s).answer)) → answer ≡ Stands
-      stands Stands h = refl
-      stands (Refused r) h = absurd h
+      by : (answer : FileAnswer) → read_answer (length table) file ≡ answer →
+          ◌≡◌ {A = ReadBack} (record { answer = Ok tt; ledger = after; parties = parties }) (read_by answer ledger s) → Reads after parties
+      by (Ok _) stands back =
+          let means : SoundLedger (stored_ledger s) (stored_entries s) (length table) =
+          sound_means (stored_ledger s) (stored_entries s) (length table) (accepted_means (length table) file stands).holds in
+          let ledgers : after ≡ stored_ledger s = ap (λ (b : ReadBack). b.ledger) back in
+          let records : parties ≡ at_start (stored_entries s) no_parties = ap (λ (b : ReadBack). b.parties) back in
+          rw (ledgers, records)
+          (record {
+            limit = means.entries;
+            room = means.in_table;
+            ends =
+                ap (λ answer. table_by answer ledger table s) stands
+                ∙ ap (ending (Ok tt) (stored_ledger s)) (sym (entries_stored (stored_ledger s).entries (entries_count s)));
+          })
+      by (Err r) stands back = let told = ap (λ (b : ReadBack). b.answer) back in impossible cc

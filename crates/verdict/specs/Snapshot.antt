@@ -1,4 +1,4 @@
--- The books that a by-value snapshot of the party table gives, with the table's length beside it.
+-- The books that the records of a party table give, with the table's length beside them.
 use Rattle.std.specs.Prelude.{ℕ, ◌≡◌, List, length}
 use Rattle.ledger.specs.Books.{Books, books_of}
 use Rattle.ledger.specs.declared.records.Party.{Party}

@@ -2,20 +2,20 @@
 // here, and nothing is changed.
 #![tactic(auto)]
 
-ghost use Rattle.std.specs.Prelude.{◌≡◌, true, ℕ, ◌*◌, ◌≤◌, take};
+ghost use Rattle.std.specs.Prelude.{◌≡◌, true, ℕ, ◌*◌, ◌≤◌, List, length, OnOk};
+ghost use Rattle.ledger.specs.declared.records.Party.{Party};
 ghost use Rattle.ledger.specs.Limits.{most_schemes, most_entries};
 ghost use Rattle.ledger.specs.Books.{Books, scheme_particulars};
 ghost use Rattle.ledger.specs.Columns.{scheme_column, capacity_column, sum_over};
 ghost use Rattle.ledger.specs.Sound.{sound};
 ghost use Rattle.calls.specs.Rules.{parties_of, capacity_of, contribution};
-ghost use Rattle.calls.specs.Verdict.{joining_of, joining_part, opens_scheme, entries_of_joining, entries_needed, schemes_lacking, entries_lacking, course_verdict, verdict};
-ghost use Rattle.verdict.specs.Snapshot.{snapshot_books, Counted};
+ghost use Rattle.calls.specs.Verdict.{joining_of, joining_part, opens_scheme, entries_needed, schemes_lacking, entries_lacking, course_verdict, verdict};
+ghost use Rattle.verdict.specs.Snapshot.{snapshot_books};
 
 use calls::courses::{Contribution, Course, Joining, Verdict};
 use charge::Bill;
-use ledger::limits::{MOST_CONNECTIONS, MOST_ENTRIES_COUNTED, MOST_SCHEMES_COUNTED, Parties};
-use ledger::lookup::SchemeAt;
-use ledger::records::{Ledger, Scheme};
+use ledger::limits::{MOST_CONNECTIONS, MOST_ENTRIES_COUNTED, Schemes};
+use ledger::records::{Ledger, Party, Scheme};
 use tagged::refusals::{
     MONTH_BEFORE_LAST, NO_CONNECTION_LEFT, NO_ENTRY_LEFT, NO_SCHEME_LEFT, SCHEME_NEVER_OPENED,
 };
@@ -25,37 +25,27 @@ fn entries_lacking(entries: u32, room: usize, needed: u32) -> bool
     requires { (entries ≤ most_entries) × (needed ≤ 2) }
     ensures { result ≡ entries_lacking entries room needed }
 {
-    if needed == 0 {
-        return false;
-    }
-    if MOST_ENTRIES_COUNTED < entries + needed {
-        return true;
-    }
-    room < (entries + needed) as usize
+    let entries_then = entries + needed;
+    needed != 0 && (MOST_ENTRIES_COUNTED < entries_then || room < entries_then as usize)
 }
 
-fn opens_scheme(bill: Bill) -> bool
-    ensures { result ≡ opens_scheme bill }
+// Mark and scheme are the file's numbers, 0 for none: a bill holds them so, and the slip's text takes any bill.
+fn opens_scheme(bill: &Bill) -> bool
+    ensures { result ≡ opens_scheme bill.now }
 {
-    if bill.applicant.mark != 0 {
-        return false;
-    }
-    (bill.terms.threshold as u64) < bill.reconciliation.x
+    bill.applicant.mark == 0 && u64::from(bill.terms.threshold) < bill.reconciliation.x
 }
 
 // K: the capacity of all parties of a scheme.
-fn capacity_of(parties: Parties, entries: u32, scheme: u16) -> u64
-    requires { entries ≤ most_entries }
-    ensures { (result ≡ sum_over scheme (scheme_column (take entries parties)) (capacity_column (take entries parties))) × (result ≤ 4294967295 * entries) }
+fn capacity_of(entries: &[Party], scheme: u16) -> u64
+    requires { length entries.now ≤ most_entries }
+    ensures { (result ≡ sum_over scheme (scheme_column entries.now) (capacity_column entries.now)) × (result ≤ 4294967295 * length entries.now) }
 {
-    let mut total: u64 = 0;
-    let mut i = 0;
-    while i < entries as usize {
-        let party = parties[i];
+    let mut total = 0;
+    for party in entries {
         if party.scheme == scheme {
-            total = total + party.capacity as u64;
+            total += u64::from(party.capacity);
         }
-        i += 1;
     }
     total
 }
@@ -65,106 +55,95 @@ fn contribution(cost: u32, k: u32, total: u64) -> u32
     requires { (1 ≤ k) × (total ≤ 4294967295 * most_entries) }
     ensures { result ≡ contribution cost k total }
 {
-    (cost as u64 * k as u64 / (total + k as u64)) as u32
+    let k = u64::from(k);
+    (u64::from(cost) * k / (total + k)) as u32
 }
 
+// That the capacity isn't 0 is a clause, here and below: the slip's text takes any bill, and a type would take fewer.
 // The joining of this scheme, by its own terms.
-fn joining_of(parties: Parties, entries: u32, scheme: Scheme, bill: Bill) -> Joining
-    requires { (entries ≤ most_entries) × (1 ≤ bill.applicant.capacity) }
-    ensures { (books : Books) (number : ℕ) → capacity_of (parties_of bill.applicant.scheme books) ≡ sum_over bill.applicant.scheme (scheme_column (take entries parties)) (capacity_column (take entries parties)) → result ≡ joining_of books bill (scheme_particulars number scheme) }
+fn joining_of(entries: &[Party], scheme: &Scheme, bill: &Bill) -> Joining
+    requires { (length entries.now ≤ most_entries) × (1 ≤ bill.now.applicant.capacity) }
+    ensures { (books : Books) (number : ℕ) → capacity_of (parties_of bill.now.applicant.scheme books) ≡ sum_over bill.now.applicant.scheme (scheme_column entries.now) (capacity_column entries.now) → result ≡ joining_of books bill.now (scheme_particulars number scheme.now) }
 {
-    if scheme.opening as u32 + scheme.term as u32 <= bill.applicant.month as u32 {
+    if u32::from(scheme.opening) + u32::from(scheme.term) <= u32::from(bill.applicant.month) {
         return Joining::Ended;
     }
-    let total = capacity_of(parties, entries, bill.applicant.scheme);
-    let due = contribution(scheme.cost, bill.applicant.capacity, total);
-    if due < scheme.minimum {
+    let capacity = capacity_of(entries, bill.applicant.scheme);
+    let collected = contribution(scheme.cost, bill.applicant.capacity, capacity);
+    if collected < scheme.minimum {
         return Joining::Small;
     }
     Joining::Pays(Contribution {
-        collected: due,
+        collected,
         fee: scheme.fee,
-        capacity: total,
+        capacity,
     })
 }
 
-fn joining_part(ledger: Ledger, parties: Parties, bill: Bill) -> Joining
-    requires { (ledger.count ≤ most_schemes) × (ledger.entries ≤ most_entries) × (1 ≤ bill.applicant.capacity) }
-    ensures { (room : ℕ) → result ≡ joining_part (snapshot_books ledger parties room) bill }
+#[tactic(auto, using(ledger::proofs::Theorems::Lookup::scheme_placed))]
+fn joining_part(ledger: &Ledger, table: &[Party], bill: &Bill) -> Joining
+    requires { (ledger.now.count ≤ most_schemes) × (ledger.now.entries ≤ most_entries) × (ledger.now.entries ≤ length table.now) × (1 ≤ bill.now.applicant.capacity) }
+    ensures { (room : ℕ) → result ≡ joining_part (snapshot_books ledger.now table.now room) bill.now }
 {
     if bill.applicant.scheme == 0 {
         return Joining::NotAsked;
     }
     match ledger::lookup::scheme_at(ledger.count, bill.applicant.scheme) {
-        SchemeAt::NeverOpened => Joining::Ended,
-        SchemeAt::Place(at) => {
-            let schemes = ledger.schemes;
-            joining_of(parties, ledger.entries, schemes[at], bill)
-        }
+        None => Joining::Ended,
+        Some(at) => joining_of(&table[..ledger.entries as usize], &ledger.schemes[at], bill),
     }
 }
 
-fn entries_of_joining(joining: Joining) -> u32
-    ensures { (result ≡ entries_of_joining joining) × (result ≤ 1) }
+fn entries_needed(course: &Course) -> u32
+    ensures { (result ≡ entries_needed course.now) × (result ≤ 2) }
 {
-    match joining {
-        Joining::NotAsked => 0,
-        Joining::Ended => 0,
-        Joining::Small => 0,
-        Joining::Pays(paid) => 1,
-    }
+    let joins = match course.joining {
+        Joining::Pays(_) => 1,
+        Joining::NotAsked | Joining::Ended | Joining::Small => 0,
+    };
+    joins + u32::from(course.opens)
 }
 
-fn entries_needed(course: Course) -> u32
-    ensures { (result ≡ entries_needed course) × (result ≤ 2) }
+fn schemes_lacking(schemes: &Schemes, count: u32, opens: bool) -> bool
+    ensures lacking { result ≡ schemes_lacking count opens }
+    ensures places { length schemes.now ≡ most_schemes }
 {
-    let joining = course.joining;
-    let entries = entries_of_joining(joining);
-    if course.opens {
-        return entries + 1;
-    }
-    entries
+    opens && schemes.len() <= count as usize
 }
 
-fn schemes_lacking(count: u32, opens: bool) -> bool
-    ensures { result ≡ schemes_lacking count opens }
+// 8 and 9, where the table has `room` records.
+fn course_verdict(ledger: &Ledger, room: usize, course: Course) -> Verdict
+    requires { (ledger.now.count ≤ most_schemes) × (ledger.now.entries ≤ most_entries) }
+    ensures decided { (table : List Party) → ledger.now.entries ≤ length table → result ≡ course_verdict (snapshot_books ledger.now table room) course }
+    ensures places { length ledger.now.schemes ≡ most_schemes }
 {
-    if !opens {
-        return false;
+    if schemes_lacking(&ledger.schemes, ledger.count, course.opens) {
+        return Err(NO_SCHEME_LEFT);
     }
-    MOST_SCHEMES_COUNTED <= count
+    if entries_lacking(ledger.entries, room, entries_needed(&course)) {
+        return Err(NO_ENTRY_LEFT);
+    }
+    Ok(course)
 }
 
-// 8 and 9, where there are so many schemes and entries.
-fn course_verdict(count: u32, entries: u32, room: usize, course: Course) -> Verdict
-    requires { entries ≤ most_entries }
-    ensures { (books : Books) → Counted books count entries room → result ≡ course_verdict books course }
-{
-    if schemes_lacking(count, course.opens) {
-        return Verdict::Refuses(NO_SCHEME_LEFT);
-    }
-    if entries_lacking(entries, room, entries_needed(course)) {
-        return Verdict::Refuses(NO_ENTRY_LEFT);
-    }
-    Verdict::Accepts(course)
-}
-
-pub fn verdict_of(ledger: Ledger, parties: Parties, room: usize, bill: Bill) -> Verdict
-    requires { (sound ledger parties room ≡ true) × (1 ≤ bill.applicant.capacity) }
-    ensures { result ≡ verdict (snapshot_books ledger parties room) bill }
+#[tactic(auto, using(ledger::proofs::Theorems::Sound::sound_means, calls::proofs::Theorems::Verdict::verdict_refused_10, calls::proofs::Theorems::Verdict::verdict_refused_7, calls::proofs::Theorems::Verdict::verdict_refused_6))]
+pub fn verdict_of(ledger: &Ledger, table: &[Party], bill: &Bill) -> Verdict
+    requires { (sound ledger.now table.now (length table.now) ≡ true) × (1 ≤ bill.now.applicant.capacity) }
+    ensures decided { result ≡ verdict (snapshot_books ledger.now table.now (length table.now)) bill.now }
+    ensures places { OnOk result (length ledger.now.schemes ≡ most_schemes) }
 {
     if MOST_CONNECTIONS <= ledger.connections {
-        return Verdict::Refuses(NO_CONNECTION_LEFT);
+        return Err(NO_CONNECTION_LEFT);
     }
     if bill.applicant.month < ledger.month {
-        return Verdict::Refuses(MONTH_BEFORE_LAST);
+        return Err(MONTH_BEFORE_LAST);
     }
-    if ledger.count < bill.applicant.scheme as u32 {
-        return Verdict::Refuses(SCHEME_NEVER_OPENED);
+    if ledger.count < u32::from(bill.applicant.scheme) {
+        return Err(SCHEME_NEVER_OPENED);
     }
     let course = Course {
-        joining: joining_part(ledger, parties, bill),
+        joining: joining_part(ledger, table, bill),
         opens: opens_scheme(bill),
     };
-    course_verdict(ledger.count, ledger.entries, room, course)
+    course_verdict(ledger, table.len(), course)
 }

@@ -1,10 +1,9 @@
 -- Document 02, E4: a joiner who builds on, on a table with two records, of which the scheme's first entry has one; by its own book of fee 7, minimum 9 and term
 -- 100. "(8 and 9 are judged for joining and opening together, before either is booked.)" Every expected side is a literal.
-use Rattle.std.specs.Prelude.{ℕ, ◌≡◌, refl, List, [], ◌∷◌, map, replicate}
+use Rattle.std.specs.Prelude.{ℕ, ◌≡◌, refl, List, [], ◌∷◌, map, replicate, None, Ok, Some}
 use Rattle.tagged.specs.File.{refusal}
 use Rattle.reconciliation.specs.Reconciliation.{reconciliation_of}
 use Rattle.charge.specs.declared.Bill.{Bill}
-use Rattle.charge.specs.declared.Pricing.TheVariants.{Priced}
 use Rattle.ledger.specs.Records.{scheme_of, no_scheme}
 use Rattle.ledger.specs.Lookup.{scheme_place}
 use Rattle.ledger.specs.Columns.{sum_over, first_put_in}
@@ -18,7 +17,6 @@ use Rattle.calls.specs.Calls.{state_of}
 use Rattle.calls.specs.Cases.Verdict.{party, ledger, past}
 use Rattle.calls.specs.Answers.{accepted_as, joined_as}
 use Rattle.calls.specs.declared.answers.JoiningAnswer.TheVariants.{Ended, Small}
-use Rattle.calls.specs.declared.answers.OpeningAnswer.TheVariants.{NotOpened, Opened}
 use Rattle.accept_rules.specs.Theorems.AcceptByPricing.{answered_by, leaves_by}
 
 -- person 9 joins scheme 1, with this ME, which is X; month and capacity
@@ -52,20 +50,20 @@ short_table_cases =
     (bill 5000001 24315 5000, is_refused (refusal 9 0 0), opened) ∷
     (let joiner = bill 5000000 24315 5000 in (
       joiner,
-      accepted_as joiner (joined_as 2 2000000) NotOpened,
+      accepted_as joiner (joined_as 2 2000000) None,
       state_of (ledger 24315 2 11000000 0 2 1 (first 20000 ∷ replicate 63 no_scheme)) (opener 1980000 ∷ party 1 9 5000 2000000 0 0 ∷ []),
     )) ∷
     -- G 19,734 is small, and the one entry goes to the opening; 20,330 isn't
     (let joiner = bill 5000001 24315 33 in (
       joiner,
-      accepted_as joiner Small (Opened 2),
+      accepted_as joiner Small (Some 2),
       state_of (ledger 24315 2 11000001 0 2 2 (first 0 ∷ second 24315 ∷ replicate 62 no_scheme)) (opener 0 ∷ party 2 9 33 5000001 0 0 ∷ []),
     )) ∷
     (bill 5000001 24315 34, is_refused (refusal 9 0 0), opened) ∷
     -- ended, and the last month in force
     (let joiner = bill 5000001 24399 5000 in (
       joiner,
-      accepted_as joiner Ended (Opened 2),
+      accepted_as joiner Ended (Some 2),
       state_of (ledger 24399 2 11000001 0 2 2 (first 0 ∷ second 24399 ∷ replicate 62 no_scheme)) (opener 0 ∷ party 2 9 5000 5000001 0 0 ∷ []),
     )) ∷
     (bill 5000001 24398 5000, is_refused (refusal 9 0 0), opened) ∷
@@ -73,7 +71,7 @@ short_table_cases =
 
 abbrev pub ShortTableCasesHold : Type 0
 ShortTableCasesHold =
-    map {B = CallAnswer × State} (λ row. (answered_by opened (Priced row.0), leaves_by opened (Priced row.0))) short_table_cases
+    map {B = CallAnswer × State} (λ row. (answered_by opened (Ok row.0), leaves_by opened (Ok row.0))) short_table_cases
     ≡ map (λ row. (row.1, row.2)) short_table_cases
 
 pub short_table_cases_hold : ShortTableCasesHold

@@ -1,9 +1,9 @@
 -- Document 01, 'Marked figures': M1 to M9 over the definitions, as one result. M6 to M8 are told by accept, from the bytes of book and requests. The
 -- slip's book has threshold 5,000,000, fee and minimum 20,000 and a term of 84 months.
-use Rattle.std.specs.Prelude.{ℕ, ◌≡◌, List, [], ◌∷◌, map, replicate}
+use Rattle.std.specs.Prelude.{ℕ, ◌≡◌, List, [], ◌∷◌, map, replicate, None, Option, Some}
 use Rattle.std.proofs.Common.{ap, ap₂}
 use Rattle.charge.specs.Cases.MarkedFigures.{slip_book, scheme_request, scheme_bills, MarkedFigures as PricingFigures, marked_figures as pricing_figures}
-use Rattle.charge.specs.declared.Pricing.{Pricing}
+use Rattle.charge.specs.Price.{Pricing}
 use Rattle.ledger.specs.Records.{no_party, new_ledger}
 use Rattle.ledger.specs.Lookup.{scheme_place}
 use Rattle.ledger.specs.Columns.{sum_over, first_put_in}
@@ -17,13 +17,11 @@ use Rattle.calls.specs.Cases.Verdict.{party}
 use Rattle.calls.specs.Answers.{joined_as}
 use Rattle.calls.specs.declared.answers.JoiningAnswer.{JoiningAnswer}
 use Rattle.calls.specs.declared.answers.JoiningAnswer.TheVariants.{NotAsked, Ended, Small}
-use Rattle.calls.specs.declared.answers.OpeningAnswer.{OpeningAnswer}
-use Rattle.calls.specs.declared.answers.OpeningAnswer.TheVariants.{NotOpened, Opened}
 use Rattle.accept_rules.specs.Theorems.AcceptByPricing.{answered_by, leaves_by}
 
 -- what accept answers of joining and opening; nothing where it refuses
 abbrev pub AnswerParts : Type 0
-AnswerParts = List (JoiningAnswer × OpeningAnswer)
+AnswerParts = List (JoiningAnswer × Option ℕ)
 
 abbrev pub parts_of : CallAnswer → AnswerParts
 parts_of (is_accepted acceptance) = (acceptance.joining, acceptance.opening) ∷ []
@@ -48,19 +46,19 @@ abbrev pub answers_to : List Call → List AnswerParts
 answers_to calls = map (λ after. after.0) (in_turn start calls)
 
 abbrev pub plain : AnswerParts
-plain = (NotAsked, NotOpened) ∷ []
+plain = (NotAsked, None) ∷ []
 
 abbrev pub opened : ℕ → AnswerParts
-opened number = (NotAsked, Opened number) ∷ []
+opened number = (NotAsked, Some number) ∷ []
 
 abbrev pub joined : ℕ → ℕ → AnswerParts
-joined entry G = (joined_as entry G, NotOpened) ∷ []
+joined entry G = (joined_as entry G, None) ∷ []
 
 abbrev pub small : AnswerParts
-small = (Small, NotOpened) ∷ []
+small = (Small, None) ∷ []
 
 abbrev pub ended : AnswerParts
-ended = (Ended, NotOpened) ∷ []
+ended = (Ended, None) ∷ []
 
 pub record MarkedFigures : Type 0 where
   -- M1 to M5 and M9

@@ -1,16 +1,14 @@
 -- Exactly when accept answers what, in document 01's order of refusals: 13, pricing's own, 10, 7, 6, 8, 9; what it leaves as it was, and the numbers that it
 -- refuses with. Each case has the tests that lead to it, and every test goes one way or the other.
-use Rattle.std.specs.Prelude.{ℕ, ◌+◌, ◌<◌, ◌≤◌, ◌≡◌, refl, List, [], ◌∷◌, ◌++◌, Bool, true, false, cond, ◌⊎◌, length, ltb, eqb}
+use Rattle.std.specs.Prelude.{ℕ, ◌+◌, ◌<◌, ◌≤◌, ◌≡◌, refl, List, [], ◌∷◌, ◌++◌, Bool, true, false, cond, ◌⊎◌, length, ltb, eqb, Err, None, Ok, Option, Some}
 use Rattle.std.proofs.Common.{sym, ap, ap₂, subst, ◌∙◌, inl, inr, ⊎_elim, arith, ltb-true, ltb-false, le-leb, lt-ltb, le-ltb, eq-eqb, ne_eqb}
 use mathlib.Mathlib.Data.Bool.Basic.{dichotomy}
 use Rattle.std.proofs.lemmas.Bool.{lt-leb}
 use Rattle.tagged.specs.File.{refusal}
 use Rattle.tagged.specs.Refusals.{scheme_never_opened, month_before_last, no_scheme_left, no_entry_left, no_connection_left, ledger_unsound}
 use Rattle.tagged.specs.declared.file.Refusal.{Refusal}
-use Rattle.charge.specs.Price.{price_of}
+use Rattle.charge.specs.Price.{price_of, Pricing}
 use Rattle.charge.specs.declared.Bill.{Bill}
-use Rattle.charge.specs.declared.Pricing.{Pricing}
-use Rattle.charge.specs.declared.Pricing.TheVariants.{Priced, NotPriced}
 use Rattle.ledger.specs.Limits.{most_schemes, most_entries, most_connections}
 use Rattle.ledger.specs.Books.{SchemeParticulars, Books}
 use Rattle.ledger.specs.Sound.{sound}
@@ -18,7 +16,7 @@ use Rattle.ledger.specs.SoundConditions.{SoundLedger}
 use Rattle.ledger.proofs.Theorems.Sound.{not_both, sound_means}
 use Rattle.ledger.specs.RefusalNumbers.{one_of}
 use Rattle.calls.proofs.Theorems.Lists.{by_cond}
-use Rattle.calls.specs.Verdict.{joining_of, joining_part, opens_scheme, entries_of_joining, entries_needed, schemes_lacking, entries_lacking, course_verdict, verdict}
+use Rattle.calls.specs.Verdict.{joining_of, joining_part, opens_scheme, entries_of_joining, entries_needed, schemes_lacking, entries_lacking, course_verdict, verdict, Verdict}
 use Rattle.calls.specs.VerdictConditions.{verdict_numbers}
 use Rattle.calls.proofs.Theorems.Verdict.{joining_ended, joining_small, joining_pays, verdict_refused_10, verdict_refused_7, verdict_refused_6, verdict_course, course_refused_8, course_refused_9, course_accepted}
 use Rattle.calls.specs.Decision.{accept, Decision, refused, credits_by, accept_by, decided_by as decided_of, CallAnswer, is_accepted, is_done, is_refused, joining_answer, answer_to}
@@ -30,10 +28,7 @@ use Rattle.calls.proofs.Theorems.ByPlace.{schemes_shown, entries_shown, scheme_o
 use Rattle.calls.specs.Answers.{accepted_as, joined_as}
 use Rattle.calls.specs.declared.courses.Joining.{Joining}
 use Rattle.calls.specs.declared.courses.Course.{Course}
-use Rattle.calls.specs.declared.courses.Verdict.{Verdict}
-use Rattle.calls.specs.declared.courses.Verdict.TheVariants.{Accepts, Refuses}
 use Rattle.calls.specs.declared.answers.JoiningAnswer.{JoiningAnswer}
-use Rattle.calls.specs.declared.answers.OpeningAnswer.{OpeningAnswer}
 use Rattle.accept_rules.specs.Theorems.AcceptByPricing.{decided_by, answered_by, leaves_by}
 use Rattle.accept_rules.specs.AcceptAnswers.{earlier_capacity, contribution_of, joined_with, EntriesLeft, EntriesLacking, Billed, MayConnect, MayJoin, InForce, JoiningAnswers, not_asked, ended, small, joins, OpeningAnswers, opens_none, opens, Answers, refused_13, refused_by_pricing, refused_10, refused_7, refused_6, refused_8, refused_9, accepts}
 
@@ -136,14 +131,14 @@ module _ (state : State) (pricing : Pricing) (places : length state.ledger.schem
           leaving = ap (joined_with state bill scheme) e;
         }
 
-    record OpeningIs (between : State) (opening : OpeningAnswer) (new : ℕ) (after : State) : Type 0 where
+    record OpeningIs (between : State) (opening : Option ℕ) (new : ℕ) (after : State) : Type 0 where
       part : Bool
       is : opens_scheme bill ≡ part
-      answer : opening ≡ cond part (OpeningAnswer.Opened (state.ledger.count + 1)) OpeningAnswer.NotOpened
+      answer : opening ≡ cond part (Some (state.ledger.count + 1)) None
       needs : new ≡ cond part 1 0
       leaving : after ≡ opened part bill between
 
-    opening_is : {between after : State} {opening : OpeningAnswer} {new : ℕ} → OpeningAnswers state bill between opening new after →
+    opening_is : {between after : State} {opening : Option ℕ} {new : ℕ} → OpeningAnswers state bill between opening new after →
         OpeningIs between opening new after
     opening_is (opens_none why) = record { part = false; is = opens_nothing bill why; answer = refl; needs = refl; leaving = refl }
     opening_is (opens unmarked above) =
@@ -151,7 +146,7 @@ module _ (state : State) (pricing : Pricing) (places : length state.ledger.schem
 
     -- ---- the verdict on both together
     module _
-        {joining : JoiningAnswer} {opening : OpeningAnswer} {entries new : ℕ} {between after : State} (h : MayConnect state pricing bill)
+        {joining : JoiningAnswer} {opening : Option ℕ} {entries new : ℕ} {between after : State} (h : MayConnect state pricing bill)
         (joins : JoiningIs joining entries between) (opens : OpeningIs between opening new after) where
       abbrev course : Course
       course = record { joining = joins.part; opens = opens.part }
@@ -178,7 +173,7 @@ module _ (state : State) (pricing : Pricing) (places : length state.ledger.schem
 
       full : most_schemes < state.ledger.count + new → Accepts-as (is_refused (refusal no_scheme_left 0 0)) state
       full lacks =
-          by_course (Refuses no_scheme_left)
+          by_course (Err no_scheme_left)
           (course_refused_8 (books_on state) course (rw schemes (schemes_lacking_lem opens.part state.ledger.count opens.needs stands.schemes lacks)))
 
       module _ (some : state.ledger.count + new ≤ most_schemes) where
@@ -187,12 +182,12 @@ module _ (state : State) (pricing : Pricing) (places : length state.ledger.schem
 
         no_entries : EntriesLacking state (entries + new) → Accepts-as (is_refused (refusal no_entry_left 0 0)) state
         no_entries lacks =
-            by_course (Refuses no_entry_left)
+            by_course (Err no_entry_left)
             (course_refused_9 (books_on state) course few (rw (entered, ← needed) (entries_lacking_lem state h.billed.stands (entries + new) lacks)))
 
         both : EntriesLeft state (entries + new) → Accepts-as (accepted_as bill joining opening) after
         both left =
-            let same = by_course (Accepts course) (course_accepted (books_on state) course few (rw (entered, ← needed) (entries_left state h.billed.stands (entries + new) left))) in
+            let same = by_course (Ok course) (course_accepted (books_on state) course few (rw (entered, ← needed) (entries_left state h.billed.stands (entries + new) left))) in
             record {
               is_answer = ap₂ (accepted_as bill) joins.answer opens.answer ∙ same.is_answer;
               is_after = opens.leaving ∙ ap (opened opens.part bill) joins.leaving ∙ same.is_after;
@@ -201,10 +196,10 @@ module _ (state : State) (pricing : Pricing) (places : length state.ledger.schem
   accepts_as : {answer : CallAnswer} {after : State} → Answers state pricing answer after → Accepts-as answer after
   accepts_as (refused_13 unsound) = by_decision (refused (refusal ledger_unsound 0 0)) (rw unsound)
   accepts_as (refused_by_pricing {r} stands e) = by_decision (refused r) (rw (stands, e))
-  accepts_as (refused_10 {bill} h taken) = by_verdict bill (Refuses no_connection_left) h (verdict_refused_10 (books_on state) bill taken)
-  accepts_as (refused_7 {bill} h connections before) = by_verdict bill (Refuses month_before_last) h (verdict_refused_7 (books_on state) bill connections before)
+  accepts_as (refused_10 {bill} h taken) = by_verdict bill (Err no_connection_left) h (verdict_refused_10 (books_on state) bill taken)
+  accepts_as (refused_7 {bill} h connections before) = by_verdict bill (Err month_before_last) h (verdict_refused_7 (books_on state) bill connections before)
   accepts_as (refused_6 {bill} h never) =
-      by_verdict bill (Refuses scheme_never_opened) h.billed (verdict_refused_6 (books_on state) bill h.connections h.month (omega arith))
+      by_verdict bill (Err scheme_never_opened) h.billed (verdict_refused_6 (books_on state) bill h.connections h.month (omega arith))
   accepts_as (refused_8 {bill} h joining opening lacks) = full bill h (joining_is bill joining) (opening_is bill opening) lacks
   accepts_as (refused_9 {bill} h joining opening some lacks) = no_entries bill h (joining_is bill joining) (opening_is bill opening) some lacks
   accepts_as (accepts {bill} h joining opening some left) = both bill h (joining_is bill joining) (opening_is bill opening) some left
@@ -228,7 +223,7 @@ module _ (state : State) (pricing : Pricing) (places : length state.ledger.schem
       (lt_or_le most_entries (state.ledger.entries + needed))
 
   module _ {bill : Bill} (h : MayConnect state pricing bill) where
-    judged_answers : {joining : JoiningAnswer} {opening : OpeningAnswer} {entries new : ℕ} {between after : State} →
+    judged_answers : {joining : JoiningAnswer} {opening : Option ℕ} {entries new : ℕ} {between after : State} →
         JoiningAnswers state bill joining entries between → OpeningAnswers state bill between opening new after → Answered
     judged_answers {entries} {new} joining opening =
         ⊎_elim (λ lacks. told (refused_8 h joining opening lacks))
@@ -288,8 +283,8 @@ module _ (state : State) (pricing : Pricing) (places : length state.ledger.schem
       (dichotomy (sound state.ledger state.table (length state.table)))
     where
       priced : sound state.ledger state.table (length state.table) ≡ true → (p : Pricing) → pricing ≡ p → Answered
-      priced stands (Priced bill) e = billed_answers (record { stands = stands; priced = e })
-      priced stands (NotPriced r) e = told (refused_by_pricing stands e)
+      priced stands (Ok bill) e = billed_answers (record { stands = stands; priced = e })
+      priced stands (Err r) e = told (refused_by_pricing stands e)
 
 -- ---- the theorems, over the call
 module _ (state : State) (book request : List ℕ) (places : length state.ledger.schemes ≡ most_schemes) where
@@ -318,7 +313,7 @@ ledger_numbers = verdict_numbers ++ (ledger_unsound ∷ [])
 abbrev pub AcceptRefuses : Pricing → CallAnswer → Type 0
 AcceptRefuses pricing (is_accepted acceptance) = Unit {0}
 AcceptRefuses pricing is_done = Unit {0}
-AcceptRefuses pricing (is_refused r) = (pricing ≡ NotPriced r) ⊎ (one_of ledger_numbers r.number ≡ true)
+AcceptRefuses pricing (is_refused r) = (pricing ≡ Err r) ⊎ (one_of ledger_numbers r.number ≡ true)
 
 pub accept_refusal_numbers : (state : State) (book request : List ℕ) → AcceptRefuses (price_of book request) (answered state (accept book request))
 unfolding answered
@@ -335,5 +330,5 @@ accept_refusal_numbers state book request =
     by_answer (is_refused r) told = inr told
 
     by_pricing : (pricing : Pricing) → price_of book request ≡ pricing → AcceptRefuses (price_of book request) (answer_to books (accept_by books pricing))
-    by_pricing (Priced bill) e = by_answer (answer_to books (accept_by books (Priced bill))) (verdict_refuses books bill ledger_numbers refl)
-    by_pricing (NotPriced r) e = inl e
+    by_pricing (Ok bill) e = by_answer (answer_to books (accept_by books (Ok bill))) (verdict_refuses books bill ledger_numbers refl)
+    by_pricing (Err r) e = inl e

@@ -3,8 +3,7 @@ use Rattle.std.specs.Prelude.{ℕ, ◌≡◌, List, cond, length}
 use Rattle.std.proofs.Math.Path.{refl}
 use Rattle.tagged.specs.File.{refusal}
 use Rattle.tagged.specs.Refusals.{ledger_unsound}
-use Rattle.charge.specs.Price.{price_of}
-use Rattle.charge.specs.declared.Pricing.{Pricing}
+use Rattle.charge.specs.Price.{price_of, Pricing}
 use Rattle.ledger.specs.Sound.{sound}
 use Rattle.calls.specs.Decision.{accept, Decision, refused, accept_by, CallAnswer, answer_to}
 use Rattle.calls.specs.Carried.{State, books_on, carried_out}

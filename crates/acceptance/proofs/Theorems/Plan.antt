@@ -1,21 +1,18 @@
 -- The plan by what it goes by, and what its steps leave of the counts.
-use Rattle.std.specs.Prelude.{ℕ, ◌+◌, ◌≤◌, ◌≡◌, refl, List, true, false}
+use Rattle.std.specs.Prelude.{ℕ, ◌+◌, ◌≤◌, ◌≡◌, refl, List, true, false, None, Option, Some}
 use Rattle.std.proofs.Math.Path.{ap}
 use Rattle.std.proofs.Common.{arith}
 use Rattle.tagged.specs.File.{refusal}
 use Rattle.tagged.specs.Refusals.{ledger_unsound}
 use Rattle.charge.specs.declared.Bill.{Bill}
-use Rattle.charge.specs.declared.Pricing.{Pricing}
+use Rattle.charge.specs.Price.{Pricing}
 use Rattle.ledger.specs.Lookup.{scheme_place}
 use Rattle.ledger.specs.Sound.{sound}
 use Rattle.ledger.specs.declared.records.Party.{Party}
 use Rattle.ledger.specs.declared.records.Ledger.{Ledger}
-use Rattle.ledger.specs.declared.lookup.SchemeAt.{SchemeAt}
-use Rattle.ledger.specs.declared.lookup.SchemeAt.TheVariants.{Place, NeverOpened}
-use Rattle.calls.specs.Verdict.{entries_of_joining, verdict}
+use Rattle.calls.specs.Verdict.{entries_of_joining, verdict, Verdict}
 use Rattle.calls.specs.declared.courses.Joining.{Joining}
 use Rattle.calls.specs.declared.courses.Joining.TheVariants.{NotAsked, Ended, Small, Pays}
-use Rattle.calls.specs.declared.courses.Verdict.{Verdict}
 use Rattle.verdict.specs.Snapshot.{snapshot_books}
 use Rattle.acceptance.specs.Plan.{fee_at_place, joined_ledger, joiner_added, refused_plan, verdict_plan, bill_plan, priced_plan, plan_of}
 
@@ -35,13 +32,13 @@ module _ (ledger : Ledger) (parties : List Party) (room : ℕ) where
   bill_planned bill e = ap (verdict_plan ledger parties room bill) e
 
 -- a joining leaves the number of schemes, and counts the entry that it needs
-fee_count : (at : SchemeAt) (fee : ℕ) (ledger : Ledger) → (fee_at_place at fee ledger).count ≡ ledger.count
-fee_count (Place at) fee ledger = refl
-fee_count NeverOpened fee ledger = refl
+fee_count : (at : Option ℕ) (fee : ℕ) (ledger : Ledger) → (fee_at_place at fee ledger).count ≡ ledger.count
+fee_count (Some at) fee ledger = refl
+fee_count None fee ledger = refl
 
-fee_entries : (at : SchemeAt) (fee : ℕ) (ledger : Ledger) → (fee_at_place at fee ledger).entries ≤ ledger.entries + 1
-fee_entries (Place at) fee ledger = omega arith
-fee_entries NeverOpened fee ledger = omega arith
+fee_entries : (at : Option ℕ) (fee : ℕ) (ledger : Ledger) → (fee_at_place at fee ledger).entries ≤ ledger.entries + 1
+fee_entries (Some at) fee ledger = omega arith
+fee_entries None fee ledger = omega arith
 
 pub joined_count : (joining : Joining) (bill : Bill) (ledger : Ledger) → (joined_ledger joining bill ledger).count ≡ ledger.count
 joined_count NotAsked bill ledger = refl

@@ -1,10 +1,9 @@
 -- A plan that accepts can be carried out.
-use Rattle.std.specs.Prelude.{ℕ, zero, suc, ◌+◌, ◌-◌, ◌<◌, ◌≤◌, ◌≡◌, refl, List, [], ◌∷◌, ◌++◌, Bool, true, false, length, take, get_or, replicate}
+use Rattle.std.specs.Prelude.{ℕ, zero, suc, ◌+◌, ◌-◌, ◌<◌, ◌≤◌, ◌≡◌, refl, List, [], ◌∷◌, ◌++◌, Bool, true, false, length, take, get_or, replicate, Err, Ok}
 use Rattle.std.proofs.Common.{sym, ap, subst, ◌∙◌, arith, get_or-take, length-take-le}
 use Rattle.tagged.proofs.Theorems.Impossible.{impossible}
 use Rattle.charge.specs.declared.Bill.{Bill}
-use Rattle.charge.specs.declared.Pricing.{Pricing}
-use Rattle.charge.specs.declared.Pricing.TheVariants.{Priced, NotPriced}
+use Rattle.charge.specs.Price.{Pricing}
 use Rattle.ledger.specs.Limits.{most_schemes, most_entries, highest_put_in, highest_credited}
 use Rattle.ledger.specs.Records.{no_party}
 use Rattle.ledger.proofs.Theorems.Lookup.{placed_scheme}
@@ -17,24 +16,22 @@ use Rattle.ledger.specs.declared.records.Ledger.{Ledger}
 use Rattle.calls.proofs.Theorems.Lists.{by_test}
 use Rattle.calls.specs.CreditColumns.{credits}
 use Rattle.calls.proofs.Theorems.CreditColumns.{get_or_le_sum, credits_sum}
-use Rattle.calls.specs.Verdict.{entries_needed, verdict}
+use Rattle.calls.specs.Verdict.{entries_needed, verdict, Verdict}
 use Rattle.calls.proofs.Theorems.VerdictConditions.{CourseConditions, course_conditions, pays_at}
 use Rattle.calls.specs.VerdictConditions.{PaysAt}
 use Rattle.calls.specs.declared.courses.Joining.{Joining}
 use Rattle.calls.specs.declared.courses.Joining.TheVariants.{NotAsked, Ended, Small, Pays}
 use Rattle.calls.specs.declared.courses.Course.{Course}
-use Rattle.calls.specs.declared.courses.Verdict.{Verdict}
-use Rattle.calls.specs.declared.courses.Verdict.TheVariants.{Accepts, Refuses}
 use Rattle.verdict.specs.Snapshot.{snapshot_books}
 use Rattle.verdict.proofs.Theorems.Snapshot.{snapshot_counted}
 use Rattle.acceptance.specs.Plan.{credits_by, joiner_added, opener_added, course_plan, verdict_plan, priced_plan, plan_of}
 use Rattle.acceptance.proofs.Theorems.Plan.{plan_refused_13, plan_priced, bill_planned}
 use Rattle.acceptance.proofs.Theorems.PlanNeeds.{where_needed, course_pays}
 use Rattle.acceptance.specs.PlanFits.{PlanFits, FitsIfAccepted}
-use Rattle.acceptance.specs.declared.accept.Plan.{Plan}
+use Rattle.acceptance.specs.PlanCarried.{Plan}
 
 -- ---- the entries that are added are those that the course needs
-added_count : (number : ℕ) (bill : Bill) (joining : Joining) (opens : Bool) →
+pub added_count : (number : ℕ) (bill : Bill) (joining : Joining) (opens : Bool) →
     (opener_added number bill opens (joiner_added bill joining)).count ≡ entries_needed (record { joining = joining; opens = opens })
 added_count number bill NotAsked true = refl
 added_count number bill NotAsked false = refl
@@ -66,14 +63,14 @@ padded_at [] n i = zeros_at n i
 padded_at (figure ∷ figures) n zero = refl
 padded_at (figure ∷ figures) n (suc i) = padded_at figures n i
 
-module _ (ledger : Ledger) (parties : List Party) (room : ℕ) (places : length ledger.schemes ≡ most_schemes) (records : length parties ≡ most_entries) where
+module _ (ledger : Ledger) (parties : List Party) (room : ℕ) (places : length ledger.schemes ≡ most_schemes) (records : sound ledger parties room ≡ true → ledger.entries ≤ length parties) where
   module _ (stands : sound ledger parties room ≡ true) where
     means : SoundLedger ledger parties room
     means = sound_means ledger parties room stands
 
     credited_at_most : (i : ℕ) → i < ledger.entries → (get_or parties i no_party).credited ≤ highest_credited
     credited_at_most i within =
-        let all : length (take ledger.entries parties) ≡ ledger.entries = length-take-le ledger.entries parties (omega (arith, means.entries)) in
+        let all : length (take ledger.entries parties) ≡ ledger.entries = length-take-le ledger.entries parties (records stands) in
         subst (λ (party : Party). party.credited ≤ highest_credited) (get_or-take ledger.entries parties i no_party within)
         (means.each_party i (omega arith)).credited
 
@@ -102,9 +99,9 @@ module _ (ledger : Ledger) (parties : List Party) (room : ℕ) (places : length 
             cost_at_most ledger parties room means s (s - 1) place kept,
           )
 
-      course_fits : PlanFits ledger.entries room parties (course_plan ledger parties room bill course)
+      pub course_fits : PlanFits ledger.entries room parties (course_plan ledger parties room bill course)
       course_fits =
-          let counted = snapshot_counted ledger parties room (omega (arith, means.schemes)) (omega (arith, means.entries)) in
+          let counted = snapshot_counted ledger parties room (omega (arith, means.schemes)) (records stands) in
           let added = added_count (ledger.count + 1) bill course.joining course.opens in
           let figures = credits_by (take ledger.entries parties) bill course.joining in
           record {
@@ -118,15 +115,15 @@ module _ (ledger : Ledger) (parties : List Party) (room : ℕ) (places : length 
 
     bill_fits : (bill : Bill) (v : Verdict) → verdict (snapshot_books ledger parties room) bill ≡ v →
         FitsIfAccepted ledger.entries room parties (verdict_plan ledger parties room bill v)
-    bill_fits bill (Accepts course) accepts acceptance e =
+    bill_fits bill (Ok course) accepts acceptance e =
         course_fits bill course (course_conditions (snapshot_books ledger parties room) bill course accepts)
-    bill_fits bill (Refuses number) refuses acceptance e = impossible cc
+    bill_fits bill (Err number) refuses acceptance e = impossible cc
 
     priced_fits : (pricing : Pricing) → FitsIfAccepted ledger.entries room parties (priced_plan ledger parties room pricing)
-    priced_fits (Priced bill) =
+    priced_fits (Ok bill) =
         subst (FitsIfAccepted ledger.entries room parties) (sym (bill_planned ledger parties room bill refl))
         (bill_fits bill (verdict (snapshot_books ledger parties room) bill) refl)
-    priced_fits (NotPriced r) = λ acceptance e. impossible cc
+    priced_fits (Err r) = λ acceptance e. impossible cc
 
   pub plan_fits : (pricing : Pricing) → FitsIfAccepted ledger.entries room parties (plan_of ledger parties room pricing)
   plan_fits pricing =

@@ -1,15 +1,13 @@
 -- A plan over a snapshot of the table comes to what the call answers and leaves: booked, joined and opened, each by place.
-use Rattle.std.specs.Prelude.{ℕ, zero, suc, ◌+◌, ◌-◌, ◌<◌, ◌≤◌, ◌≡◌, List, [], ◌∷◌, ◌++◌, Bool, true, false, cond, length, take, set, replicate}
+use Rattle.std.specs.Prelude.{ℕ, zero, suc, ◌+◌, ◌-◌, ◌<◌, ◌≤◌, ◌≡◌, List, [], ◌∷◌, ◌++◌, Bool, true, false, cond, length, take, set, replicate, Err, Ok}
 use Rattle.std.proofs.Math.Path.{refl, subst}
 use Rattle.std.proofs.Common.{sym, ap, ap₂, ◌∙◌, add-zero, arith, length-set, length-take-le, take_at}
 use Rattle.std.proofs.lemmas.List.Edits.{sets}
 use Rattle.std.proofs.Math.Seq.{length-sets}
 use Rattle.tagged.specs.File.{refusal}
 use Rattle.tagged.specs.Refusals.{ledger_unsound}
-use Rattle.charge.specs.Price.{price_of}
+use Rattle.charge.specs.Price.{price_of, Pricing}
 use Rattle.charge.specs.declared.Bill.{Bill}
-use Rattle.charge.specs.declared.Pricing.{Pricing}
-use Rattle.charge.specs.declared.Pricing.TheVariants.{Priced, NotPriced}
 use Rattle.ledger.specs.Limits.{most_schemes, most_entries}
 use Rattle.ledger.specs.Books.{books_of}
 use Rattle.ledger.proofs.Theorems.Lookup.{placed_scheme}
@@ -21,7 +19,7 @@ use Rattle.ledger.specs.Table.{credit_each}
 use Rattle.ledger.proofs.Theorems.Table.{length_credit_each, credit_none}
 use Rattle.ledger.specs.declared.records.Party.{Party}
 use Rattle.ledger.specs.declared.records.Ledger.{Ledger}
-use Rattle.calls.specs.Verdict.{entries_of_joining, entries_needed, verdict}
+use Rattle.calls.specs.Verdict.{entries_of_joining, entries_needed, verdict, Verdict}
 use Rattle.calls.proofs.Theorems.VerdictConditions.{CourseConditions, course_conditions}
 use Rattle.calls.specs.Decision.{accept, Decision, refused, decided_by, accept_by, credits_by as credits_in, acceptance_of, answer_to, is_accepted, of_accept}
 use Rattle.calls.specs.Carried.{State, booked, joined, opened, new_party, carried_out}
@@ -32,16 +30,14 @@ use Rattle.calls.specs.declared.courses.Contribution.{Contribution}
 use Rattle.calls.specs.declared.courses.Joining.{Joining}
 use Rattle.calls.specs.declared.courses.Joining.TheVariants.{NotAsked, Ended, Small, Pays}
 use Rattle.calls.specs.declared.courses.Course.{Course}
-use Rattle.calls.specs.declared.courses.Verdict.{Verdict}
-use Rattle.calls.specs.declared.courses.Verdict.TheVariants.{Accepts, Refuses}
 use Rattle.verdict.proofs.Theorems.Snapshot.{snapshot_books_lem, snapshot_counted}
 use Rattle.verdict.specs.Snapshot.{Counted}
 use Rattle.acceptance.specs.Plan.{booked_ledger, joined_ledger, opened_ledger, padded, credits_by, joiner_added, opener_added, course_plan, verdict_plan, bill_plan, priced_plan, refused_plan, plan_of, plan_table}
 use Rattle.acceptance.proofs.Theorems.PlanNeeds.{where_needed, course_pays}
-use Rattle.acceptance.specs.declared.accept.Plan.{Plan}
+use Rattle.acceptance.specs.PlanCarried.{Plan}
 
 -- ---- entries that are stored one after the other
-set_each_more : (table : List Party) (at : ℕ) (parties others : List Party) →
+pub set_each_more : (table : List Party) (at : ℕ) (parties others : List Party) →
     sets table at (parties ++ others) ≡ sets (sets table at parties) (at + length parties) others
 set_each_more table at [] others = rw add-zero
 set_each_more table at (party ∷ parties) others =
@@ -49,7 +45,7 @@ set_each_more table at (party ∷ parties) others =
     set_each_more (set table at party) (suc at) parties others ∙ ap (λ place. sets (sets (set table at party) (suc at) parties) place others) next
 
 -- ---- credits of nothing change nothing
-credit_nothing : (parties : List Party) (n many : ℕ) → credit_each parties (take n (replicate many 0)) ≡ parties
+pub credit_nothing : (parties : List Party) (n many : ℕ) → credit_each parties (take n (replicate many 0)) ≡ parties
 unfolding credit_each
 credit_nothing parties zero many = credit_none parties
 credit_nothing parties (suc n) zero = credit_none parties
@@ -57,16 +53,16 @@ credit_nothing [] (suc n) (suc many) = refl
 credit_nothing (party ∷ parties) (suc n) (suc many) = rw (add-zero, credit_nothing parties n many)
 
 -- ---- the entries that a plan adds, as a list
-abbrev joiner_parties : Bill → Joining → List Party
+abbrev pub joiner_parties : Bill → Joining → List Party
 joiner_parties bill NotAsked = []
 joiner_parties bill Ended = []
 joiner_parties bill Small = []
 joiner_parties bill (Pays paid) = new_party bill.applicant.scheme bill paid.collected ∷ []
 
-abbrev opener_parties : ℕ → Bill → Bool → List Party
+abbrev pub opener_parties : ℕ → Bill → Bool → List Party
 opener_parties number bill opens = cond opens (new_party number bill bill.reconciliation.x ∷ []) []
 
-added_in_order : (number : ℕ) (bill : Bill) (joining : Joining) (opens : Bool) →
+pub added_in_order : (number : ℕ) (bill : Bill) (joining : Joining) (opens : Bool) →
     let added = opener_added number bill opens (joiner_added bill joining) in
     take added.count added.parties ≡ joiner_parties bill joining ++ opener_parties number bill opens
 added_in_order number bill NotAsked true = refl
@@ -78,36 +74,36 @@ added_in_order number bill Small false = refl
 added_in_order number bill (Pays paid) true = refl
 added_in_order number bill (Pays paid) false = refl
 
-one_entry : (bill : Bill) (joining : Joining) → length (joiner_parties bill joining) ≡ entries_of_joining joining
+pub one_entry : (bill : Bill) (joining : Joining) → length (joiner_parties bill joining) ≡ entries_of_joining joining
 one_entry bill NotAsked = refl
 one_entry bill Ended = refl
 one_entry bill Small = refl
 one_entry bill (Pays paid) = refl
 
 -- ---- booked, and joined
-abbrev ledger_joined : Ledger → Bill → Joining → Ledger
+abbrev pub ledger_joined : Ledger → Bill → Joining → Ledger
 ledger_joined ledger bill joining = joined_ledger joining bill (booked_ledger bill ledger)
 
-abbrev table_joined : Ledger → List Party → Bill → Joining → List Party
+abbrev pub table_joined : Ledger → List Party → Bill → Joining → List Party
 table_joined ledger table bill joining =
     sets (credit_each table (take ledger.entries (padded (credits_by (take ledger.entries table) bill joining)))) ledger.entries
     (joiner_parties bill joining)
 
-abbrev state_joined : Ledger → List Party → Bill → Joining → State
+abbrev pub state_joined : Ledger → List Party → Bill → Joining → State
 state_joined ledger table bill joining = state_of (ledger_joined ledger bill joining) (table_joined ledger table bill joining)
 
-record Step (ledger : Ledger) (table : List Party) (bill : Bill) (joining : Joining) : Type 0 where
-  is : state_joined ledger table bill joining ≡ joined joining (credits_in (books_of ledger table) bill joining) bill (booked bill (state_of ledger table))
-  count : (ledger_joined ledger bill joining).count ≡ ledger.count
-  entries : (ledger_joined ledger bill joining).entries ≡ ledger.entries + length (joiner_parties bill joining)
-  places : length (ledger_joined ledger bill joining).schemes ≡ length ledger.schemes
+pub record Step (ledger : Ledger) (table : List Party) (bill : Bill) (joining : Joining) : Type 0 where
+  pub is : state_joined ledger table bill joining ≡ joined joining (credits_in (books_of ledger table) bill joining) bill (booked bill (state_of ledger table))
+  pub count : (ledger_joined ledger bill joining).count ≡ ledger.count
+  pub entries : (ledger_joined ledger bill joining).entries ≡ ledger.entries + length (joiner_parties bill joining)
+  pub places : length (ledger_joined ledger bill joining).schemes ≡ length ledger.schemes
 
 -- a joiner that pays has its scheme and its place in the table
-record Joinable (ledger : Ledger) (table : List Party) (bill : Bill) (joining : Joining) : Type 0 where
-  numbered : (paid : Contribution) → joining ≡ Pays paid → 1 ≤ bill.applicant.scheme
-  opened : bill.applicant.scheme ≤ ledger.count
-  places : ledger.count ≤ length ledger.schemes
-  left : ledger.entries + length (joiner_parties bill joining) ≤ length table
+pub record Joinable (ledger : Ledger) (table : List Party) (bill : Bill) (joining : Joining) : Type 0 where
+  pub numbered : (paid : Contribution) → joining ≡ Pays paid → 1 ≤ bill.applicant.scheme
+  pub opened : bill.applicant.scheme ≤ ledger.count
+  pub places : ledger.count ≤ length ledger.schemes
+  pub left : ledger.entries + length (joiner_parties bill joining) ≤ length table
 
 module _ (ledger : Ledger) (table : List Party) (bill : Bill) where
   unjoined : state_of (booked_ledger bill ledger) (credit_each table (take ledger.entries (padded []))) ≡ booked bill (state_of ledger table)
@@ -133,7 +129,7 @@ module _ (ledger : Ledger) (table : List Party) (bill : Bill) where
         places = rw place (simp length-set);
       }
 
-  joined_step : (joining : Joining) → Joinable ledger table bill joining → Step ledger table bill joining
+  pub joined_step : (joining : Joining) → Joinable ledger table bill joining → Step ledger table bill joining
   joined_step NotAsked may = record { is = unjoined; count = refl; entries = sym (add-zero _); places = refl }
   joined_step Ended may = record { is = unjoined; count = refl; entries = sym (add-zero _); places = refl }
   joined_step Small may = record { is = unjoined; count = refl; entries = sym (add-zero _); places = refl }
@@ -168,8 +164,8 @@ record IsCall (ledger : Ledger) (table : List Party) (plan : Plan) (decision : D
 
 module _ (ledger : Ledger) (table parties : List Party) (snapshot : take ledger.entries parties ≡ take ledger.entries table)
     (places : length ledger.schemes ≡ most_schemes) where
-  course_is_call : (bill : Bill) (course : Course) → sound ledger table (length table) ≡ true → verdict (books_of ledger table) bill ≡ Accepts course →
-      IsCall ledger table (course_plan ledger parties (length table) bill course) (decided_by (books_of ledger table) bill (Accepts course))
+  course_is_call : (bill : Bill) (course : Course) → sound ledger table (length table) ≡ true → verdict (books_of ledger table) bill ≡ Ok course →
+      IsCall ledger table (course_plan ledger parties (length table) bill course) (decided_by (books_of ledger table) bill (Ok course))
   course_is_call bill course stands accepts =
       let joining = course.joining in
       let plan = course_plan ledger parties (length table) bill course in
@@ -207,19 +203,19 @@ module _ (ledger : Ledger) (table parties : List Party) (snapshot : take ledger.
 
   verdict_is_call : (bill : Bill) (v : Verdict) → sound ledger table (length table) ≡ true → verdict (books_of ledger table) bill ≡ v →
       IsCall ledger table (verdict_plan ledger parties (length table) bill v) (decided_by (books_of ledger table) bill v)
-  verdict_is_call bill (Accepts course) stands accepts = course_is_call bill course stands accepts
-  verdict_is_call bill (Refuses number) stands refuses = record { answers = refl; leaving = refl }
+  verdict_is_call bill (Ok course) stands accepts = course_is_call bill course stands accepts
+  verdict_is_call bill (Err number) stands refuses = record { answers = refl; leaving = refl }
 
   priced_is_call : (pricing : Pricing) → sound ledger table (length table) ≡ true →
       IsCall ledger table (priced_plan ledger parties (length table) pricing) (accept_by (books_of ledger table) pricing)
   unfolding bill_plan
-  priced_is_call (Priced bill) stands =
+  priced_is_call (Ok bill) stands =
       subst
       (λ books.
       IsCall ledger table (verdict_plan ledger parties (length table) bill (verdict books bill))
       (decided_by (books_of ledger table) bill (verdict (books_of ledger table) bill)))
       (sym (snapshot_books_lem ledger table parties snapshot)) (verdict_is_call bill (verdict (books_of ledger table) bill) stands refl)
-  priced_is_call (NotPriced r) stands = record { answers = refl; leaving = refl }
+  priced_is_call (Err r) stands = record { answers = refl; leaving = refl }
 
   plan_by_sound : (pricing : Pricing) (t : Bool) → sound ledger table (length table) ≡ t →
       IsCall ledger table (cond t (priced_plan ledger parties (length table) pricing) (refused_plan ledger (refusal ledger_unsound 0 0)))

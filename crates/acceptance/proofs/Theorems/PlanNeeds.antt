@@ -1,9 +1,9 @@
 -- A sound ledger and a verdict that accepts give what the booking needs.
-use Rattle.std.specs.Prelude.{ℕ, zero, suc, ◌+◌, ◌-◌, ◌<◌, ◌≤◌, ◌≡◌, refl, List, true, cond, eqb, length, take}
+use Rattle.std.specs.Prelude.{ℕ, zero, suc, ◌+◌, ◌-◌, ◌<◌, ◌≤◌, ◌≡◌, refl, List, true, cond, eqb, length, take, Ok}
 use Rattle.std.proofs.Common.{sym, ap, subst, ◌∙◌, arith}
 use Rattle.charge.specs.BillLimits.{BillWithin}
 use Rattle.charge.specs.declared.Bill.{Bill}
-use Rattle.ledger.specs.Limits.{most_schemes, most_entries}
+use Rattle.ledger.specs.Limits.{most_schemes}
 use Rattle.ledger.specs.Lists.{Found, none, found}
 use Rattle.ledger.specs.Books.{SchemeParticulars, books_of, scheme_at}
 use Rattle.ledger.specs.Lookup.{Placed}
@@ -20,7 +20,6 @@ use Rattle.calls.proofs.Theorems.ByPlace.{capacity_by_place}
 use Rattle.calls.specs.declared.courses.Contribution.{Contribution}
 use Rattle.calls.specs.declared.courses.Joining.TheVariants.{NotAsked, Pays}
 use Rattle.calls.specs.declared.courses.Course.{Course}
-use Rattle.calls.specs.declared.courses.Verdict.TheVariants.{Accepts}
 use Rattle.verdict.specs.Snapshot.{snapshot_books, Counted}
 use Rattle.verdict.proofs.Theorems.Snapshot.{snapshot_counted}
 use Rattle.acceptance.specs.PlanNeeds.{FeesDue, CreditsDue, CourseDue}
@@ -55,8 +54,8 @@ course_pays ledger parties room bill course has paid pays =
     subst (JoiningConditions books bill) (part ∙ sym (ap (λ (c : Course). c.joining) has.is) ∙ pays) (joining_conditions books bill)
 
 module _ (ledger : Ledger) (parties : List Party) (room : ℕ) (bill : Bill) (course : Course) where
-  module _ (stands : sound ledger parties room ≡ true) (places : length ledger.schemes ≡ most_schemes) (records : length parties ≡ most_entries)
-      (accepts : verdict (snapshot_books ledger parties room) bill ≡ Accepts course) where
+  module _ (stands : sound ledger parties room ≡ true) (places : length ledger.schemes ≡ most_schemes) (records : ledger.entries ≤ length parties)
+      (accepts : verdict (snapshot_books ledger parties room) bill ≡ Ok course) where
     abbrev number : ℕ
     number = bill.applicant.scheme
 
@@ -67,7 +66,7 @@ module _ (ledger : Ledger) (parties : List Party) (room : ℕ) (bill : Bill) (co
     has = course_conditions (snapshot_books ledger parties room) bill course accepts
 
     counted : Counted (snapshot_books ledger parties room) ledger.count ledger.entries room
-    counted = snapshot_counted ledger parties room (omega (arith, sound_ledger.schemes)) (omega (arith, sound_ledger.entries))
+    counted = snapshot_counted ledger parties room (omega (arith, sound_ledger.schemes)) records
 
     fees_due : FeesDue ledger bill course.joining
     fees_due paid at pays place =

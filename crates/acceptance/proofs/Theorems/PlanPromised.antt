@@ -15,7 +15,7 @@ use Rattle.calls.specs.Calls.{state_of, Promised}
 use Rattle.acceptance.specs.Plan.{plan_of, plan_table}
 use Rattle.acceptance.proofs.Theorems.Plan.{plan_refused_13}
 use Rattle.acceptance.proofs.Theorems.PlanIsCall.{plan_is_call}
-use Rattle.acceptance.specs.declared.accept.Plan.{Plan}
+use Rattle.acceptance.specs.PlanCarried.{Plan}
 
 module _ {ledger : Ledger} {parties table : List Party} (same : SameEntries ledger parties table (length table) (length table))
     (places : length ledger.schemes ≡ most_schemes) (book request : List ℕ) where

@@ -1,9 +1,8 @@
 -- Accept on a literal ledger and its entries: what it answers, the ledger after it, what each entry is credited, and the entries that are added. Every
 -- expected side is a literal.
-use Rattle.std.specs.Prelude.{ℕ, ◌≡◌, refl, List, [], ◌∷◌, ◌++◌, map, replicate}
+use Rattle.std.specs.Prelude.{ℕ, ◌≡◌, refl, List, [], ◌∷◌, ◌++◌, map, replicate, Err, None, Ok, Option, Some}
 use Rattle.tagged.specs.File.{refusal}
 use Rattle.charge.specs.declared.Bill.{Bill}
-use Rattle.charge.specs.declared.Pricing.TheVariants.{Priced}
 use Rattle.ledger.specs.Records.{scheme_of}
 use Rattle.ledger.specs.Columns.{sum_over, first_put_in}
 use Rattle.ledger.specs.Lookup.{scheme_place}
@@ -14,17 +13,14 @@ use Rattle.calls.specs.CreditColumns.{weights, shares}
 use Rattle.calls.specs.Verdict.{verdict}
 use Rattle.calls.specs.Cases.Verdict.{book, other_book, bill_of, with_month, with_capacity, in_scheme, scheme, party, ledger, places, past, three, first_three}
 use Rattle.calls.specs.Answers.{joined_as}
+use Rattle.calls.specs.Decision.{AcceptAnswer}
 use Rattle.calls.specs.declared.answers.JoiningAnswer.{JoiningAnswer}
 use Rattle.calls.specs.declared.answers.JoiningAnswer.TheVariants.{NotAsked, Ended, Small}
-use Rattle.calls.specs.declared.answers.OpeningAnswer.{OpeningAnswer}
-use Rattle.calls.specs.declared.answers.OpeningAnswer.TheVariants.{NotOpened, Opened}
-use Rattle.calls.specs.declared.answers.AcceptAnswer.{AcceptAnswer}
-use Rattle.calls.specs.declared.answers.AcceptAnswer.TheVariants.{Accepted, NotAccepted}
 use Rattle.acceptance.specs.Plan.{bill_plan, plan_of}
-use Rattle.acceptance.specs.declared.accept.Plan.{Plan}
+use Rattle.acceptance.specs.PlanCarried.{Plan}
 
-abbrev accepted_as : Bill → JoiningAnswer → OpeningAnswer → AcceptAnswer
-accepted_as bill joining opening = Accepted (record { reconciliation = bill.reconciliation; joining = joining; opening = opening })
+abbrev accepted_as : Bill → JoiningAnswer → Option ℕ → AcceptAnswer
+accepted_as bill joining opening = Ok (record { reconciliation = bill.reconciliation; joining = joining; opening = opening })
 
 abbrev none : Party
 none = party 0 0 0 0 0 0
@@ -54,26 +50,26 @@ accepted_cases =
         3,
         bill,
       ),
-      adding (accepted_as bill (joined_as 3 1000) NotOpened) (ledger 24317 3 16005 470 3 2 (scheme 3000 100 ∷ scheme 1800 0 ∷ places 62)) 900 0 0
+      adding (accepted_as bill (joined_as 3 1000) None) (ledger 24317 3 16005 470 3 2 (scheme 3000 100 ∷ scheme 1800 0 ∷ places 62)) 900 0 0
           (party 1 9 10 1000 0 0),
     )) ∷
     -- the second: G 500, of which 400 are credited to its two entries by their capacities 20 and 10; G is no part of what is charged
     (let bill = with_month 24317 (in_scheme 1 (bill_of other_book 0)) in (
       (three, first_three ++ (past ∷ past ∷ []), 5, bill),
-      adding (accepted_as bill (joined_as 4 500) NotOpened) (ledger 24317 4 9005 470 4 2 (scheme 3000 200 ∷ scheme 1800 0 ∷ places 62)) 266 0 134
+      adding (accepted_as bill (joined_as 4 500) None) (ledger 24317 4 9005 470 4 2 (scheme 3000 200 ∷ scheme 1800 0 ∷ places 62)) 266 0 134
           (party 1 9 6 500 0 0),
     )) ∷
     -- opened by the book's fee, minimum and term
     (let bill = with_month 24317 (bill_of other_book 7001) in (
       (three, first_three ++ (past ∷ past ∷ []), 5, bill),
-      adding (accepted_as bill NotAsked (Opened 3))
+      adding (accepted_as bill NotAsked (Some 3))
           (ledger 24317 4 16006 470 4 3 (scheme 3000 100 ∷ scheme 1800 0 ∷ scheme_of 7001 400 2000 24317 120 0 ∷ places 61)) 0 0 0 (party 3 9 6 7001 0 0),
     )) ∷
     -- joined and opened: the joiner's record comes first, the new scheme's after it; the new scheme has its own book's fee, and one connection is counted
     (let bill = with_month 24317 (in_scheme 1 (bill_of other_book 7001)) in (
       (three, first_three ++ (past ∷ past ∷ []), 5, bill),
       record {
-        answer = accepted_as bill (joined_as 4 500) (Opened 3);
+        answer = accepted_as bill (joined_as 4 500) (Some 3);
         ledger = ledger 24317 4 16006 470 5 3 (scheme 3000 200 ∷ scheme 1800 0 ∷ scheme_of 7001 400 2000 24317 120 0 ∷ places 61);
         credits = 266 ∷ 0 ∷ 134 ∷ replicate 509 0;
         added = party 1 9 6 500 0 0 ∷ party 3 9 6 7001 0 0 ∷ [];
@@ -81,27 +77,27 @@ accepted_cases =
       },
     )) ∷
     -- with one record left that is 9; "small" and "ended" that open need no more
-    ((three, first_three ++ (past ∷ []), 4, with_month 24317 (in_scheme 1 (bill_of other_book 7001))), nothing (NotAccepted (refusal 9 0 0)) three) ∷
+    ((three, first_three ++ (past ∷ []), 4, with_month 24317 (in_scheme 1 (bill_of other_book 7001))), nothing (Err (refusal 9 0 0)) three) ∷
     (let bill = with_month 24317 (with_capacity 5 (in_scheme 1 (bill_of other_book 7001))) in (
       (three, first_three ++ (past ∷ []), 4, bill),
-      adding (accepted_as bill Small (Opened 3))
+      adding (accepted_as bill Small (Some 3))
           (ledger 24317 4 16006 470 4 3 (scheme 3000 100 ∷ scheme 1800 0 ∷ scheme_of 7001 400 2000 24317 120 0 ∷ places 61)) 0 0 0 (party 3 9 5 7001 0 0),
     )) ∷
     (let bill = with_month 24399 (in_scheme 1 (bill_of other_book 7001)) in (
       (three, first_three ++ (past ∷ []), 4, bill),
-      adding (accepted_as bill Ended (Opened 3))
+      adding (accepted_as bill Ended (Some 3))
           (ledger 24399 4 16006 470 4 3 (scheme 3000 100 ∷ scheme 1800 0 ∷ scheme_of 7001 400 2000 24399 120 0 ∷ places 61)) 0 0 0 (party 3 9 6 7001 0 0),
     )) ∷
     -- small; no entry left; a table shorter than its entries
     (let bill = with_month 24317 (with_capacity 5 (in_scheme 1 (bill_of book 0))) in (
       (three, first_three, 3, bill),
-      nothing (accepted_as bill Small NotOpened) (ledger 24317 4 9005 470 3 2 (scheme 3000 100 ∷ scheme 1800 0 ∷ places 62)),
+      nothing (accepted_as bill Small None) (ledger 24317 4 9005 470 3 2 (scheme 3000 100 ∷ scheme 1800 0 ∷ places 62)),
     )) ∷
-    ((three, first_three, 3, with_month 24317 (in_scheme 1 (bill_of book 0))), nothing (NotAccepted (refusal 9 0 0)) three) ∷
-    ((three, first_three, 2, with_month 24317 (bill_of book 0)), nothing (NotAccepted (refusal 13 0 0)) three) ∷
+    ((three, first_three, 3, with_month 24317 (in_scheme 1 (bill_of book 0))), nothing (Err (refusal 9 0 0)) three) ∷
+    ((three, first_three, 2, with_month 24317 (bill_of book 0)), nothing (Err (refusal 13 0 0)) three) ∷
     []
 
 pub accepted_cases_hold :
-    map (λ row. plan_of row.0.0 row.0.1 row.0.2 (Priced row.0.3)) accepted_cases ≡ map (λ row. row.1) accepted_cases
+    map (λ row. plan_of row.0.0 row.0.1 row.0.2 (Ok row.0.3)) accepted_cases ≡ map (λ row. row.1) accepted_cases
 unfolding plan_of bill_plan verdict sound parties_sound schemes_sound all_zero sum_over first_put_in scheme_place weights shares
 accepted_cases_hold = refl

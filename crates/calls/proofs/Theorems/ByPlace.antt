@@ -1,6 +1,6 @@
 -- The definitions as code meets them: a number is a place and one more, a change is a store at a place, and a scheme's parties are a walk over all
 -- entries, with weight 0 for another scheme's. Each law holds one entry after the other, since the numbers go up by one from 1.
-use Rattle.std.specs.Prelude.{ℕ, zero, suc, ◌+◌, ◌-◌, ◌<◌, ◌≤◌, ◌≡◌, List, [], ◌∷◌, ◌++◌, map, Bool, cond, length, get_or, take, set, eqb}
+use Rattle.std.specs.Prelude.{ℕ, zero, suc, ◌+◌, ◌-◌, ◌<◌, ◌≤◌, ◌≡◌, List, [], ◌∷◌, ◌++◌, map, Bool, cond, length, get_or, take, set, eqb, None, Option, Some}
 use Rattle.std.proofs.Math.Path.{refl}
 use Rattle.std.proofs.Common.{sym, ap, ap₂, ◌∙◌, add-zero, le_of_suc-le-suc, not-suc-le-zero, arith, length-take, get_or-take, length-take-le}
 use Rattle.std.proofs.Math.Bool.{true, false}
@@ -16,8 +16,6 @@ use Rattle.ledger.specs.Lookup.{scheme_place, entry_place}
 use Rattle.ledger.specs.Columns.{scheme_column, capacity_column, sum_over}
 use Rattle.ledger.specs.Table.{credited_more, credit_each}
 use Rattle.ledger.proofs.Theorems.Table.{length_credit_each, credit_none}
-use Rattle.ledger.specs.declared.lookup.SchemeAt.{SchemeAt}
-use Rattle.ledger.specs.declared.lookup.EntryAt.{EntryAt}
 use Rattle.ledger.specs.declared.records.Scheme.{Scheme}
 use Rattle.ledger.specs.declared.records.Party.{Party}
 use Rattle.ledger.specs.declared.records.Ledger.{Ledger}
@@ -107,13 +105,13 @@ module _ (ledger : Ledger) (table : List Party) where
 -- ---- what stands at a number
 
 -- by its place
-abbrev pub scheme_found : List Scheme → SchemeAt → Found SchemeParticulars
-scheme_found schemes (SchemeAt.Place place) = found (scheme_particulars (1 + place) (get_or schemes place no_scheme))
-scheme_found schemes SchemeAt.NeverOpened = none
+abbrev pub scheme_found : List Scheme → Option ℕ → Found SchemeParticulars
+scheme_found schemes (Some place) = found (scheme_particulars (1 + place) (get_or schemes place no_scheme))
+scheme_found schemes None = none
 
-abbrev pub entry_found : List Party → EntryAt → Found EntryParticulars
-entry_found table (EntryAt.Place place) = found (entry_particulars (1 + place) (get_or table place no_party))
-entry_found table EntryAt.NoSuchEntry = none
+abbrev pub entry_found : List Party → Option ℕ → Found EntryParticulars
+entry_found table (Some place) = found (entry_particulars (1 + place) (get_or table place no_party))
+entry_found table None = none
 
 module _ (ledger : Ledger) (table : List Party) (s : ℕ) where
   pub scheme_opened : 1 ≤ s → s ≤ ledger.count → ledger.count ≤ length ledger.schemes →
@@ -141,7 +139,7 @@ module _ (ledger : Ledger) (table : List Party) (s : ℕ) where
     where
       by : (below : Bool) → ltb s 1 ≡ below → (past : Bool) → ltb ledger.count s ≡ past →
           scheme_at (books_of ledger table) s ≡
-          scheme_found ledger.schemes (cond below SchemeAt.NeverOpened (cond past SchemeAt.NeverOpened (SchemeAt.Place (s - 1))))
+          scheme_found ledger.schemes (cond below None (cond past None (Some (s - 1))))
       by true b past p = scheme_never_opened (λ numbered opened. omega (arith, ltb-true s 1 b))
       by false b true p = scheme_never_opened (λ numbered opened. omega (arith, ltb-true ledger.count s p))
       by false b false p =
@@ -171,7 +169,7 @@ module _ (ledger : Ledger) (table : List Party) (e : ℕ) where
   entry_by_place places = by (ltb e 1) refl (ltb ledger.entries e) refl
     where
       by : (below : Bool) → ltb e 1 ≡ below → (past : Bool) → ltb ledger.entries e ≡ past →
-          entry_at (books_of ledger table) e ≡ entry_found table (cond below EntryAt.NoSuchEntry (cond past EntryAt.NoSuchEntry (EntryAt.Place (e - 1))))
+          entry_at (books_of ledger table) e ≡ entry_found table (cond below None (cond past None (Some (e - 1))))
       by true b past p = no_such_entry (λ numbered there. omega (arith, ltb-true e 1 b))
       by false b true p = no_such_entry (λ numbered there. omega (arith, ltb-true ledger.entries e p))
       by false b false p =

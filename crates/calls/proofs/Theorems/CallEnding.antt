@@ -1,5 +1,5 @@
 -- What the ending of a call tells: by its number whether the call is done, and by all of it the answer.
-use Rattle.std.specs.Prelude.{◌+◌, ◌≡◌, refl, List, [], ◌∷◌, ◌++◌, Bool, true, false, cond, eqb, ℤ, pos, nat_abs, get_or, drop}
+use Rattle.std.specs.Prelude.{ℕ, ◌+◌, ◌≡◌, refl, List, [], ◌∷◌, ◌++◌, Bool, true, false, cond, eqb, ℤ, pos, nat_abs, get_or, drop, None, Option, Some}
 use Rattle.std.proofs.Common.{sym, ap, ◌∙◌, arith}
 use Rattle.tagged.proofs.Theorems.Impossible.{impossible}
 use Rattle.tagged.specs.Ending.{Ending, number_is_0}
@@ -17,14 +17,12 @@ use Rattle.calls.specs.CallEnding.{joining_values, opening_value, acceptance_val
 use Rattle.calls.specs.declared.answers.Acceptance.{Acceptance}
 use Rattle.calls.specs.declared.answers.JoiningAnswer.{JoiningAnswer}
 use Rattle.calls.specs.declared.answers.JoiningAnswer.TheVariants.{NotAsked, Ended, Small, Joined}
-use Rattle.calls.specs.declared.answers.OpeningAnswer.{OpeningAnswer}
-use Rattle.calls.specs.declared.answers.OpeningAnswer.TheVariants.{NotOpened, Opened}
 
 pub answered_numbered : (state : State) (call : Call) → Numbered (answered state call)
 unfolding answered
 answered_numbered state call = by (decided_on state call) (not_0 call) (refusal_numbers state call)
   where
-    opened : (opens : Bool) → SchemeNumbered (cond opens (Opened (state.ledger.count + 1)) NotOpened)
+    opened : (opens : Bool) → SchemeNumbered (cond opens (Some (state.ledger.count + 1)) None)
     opened true = omega arith
     opened false = tt
 
@@ -68,11 +66,11 @@ after_joining (Joined collected) rest = refl
 after_joining Small rest = refl
 after_joining Ended rest = refl
 
-opening_by_value : (opening other : OpeningAnswer) → SchemeNumbered opening → SchemeNumbered other → opening_value opening ≡ opening_value other → opening ≡ other
-opening_by_value NotOpened NotOpened numbered others e = refl
-opening_by_value NotOpened (Opened scheme) numbered others e = let z : 0 ≡ scheme = cc in absurd (omega arith)
-opening_by_value (Opened scheme) NotOpened numbered others e = let z : scheme ≡ 0 = cc in absurd (omega arith)
-opening_by_value (Opened scheme) (Opened other) numbered others e = ap (λ (value : ℤ). Opened (nat_abs value)) e
+opening_by_value : (opening other : Option ℕ) → SchemeNumbered opening → SchemeNumbered other → opening_value opening ≡ opening_value other → opening ≡ other
+opening_by_value None None numbered others e = refl
+opening_by_value None (Some scheme) numbered others e = let z : 0 ≡ scheme = cc in absurd (omega arith)
+opening_by_value (Some scheme) None numbered others e = let z : scheme ≡ 0 = cc in absurd (omega arith)
+opening_by_value (Some scheme) (Some other) numbered others e = ap (λ (value : ℤ). Some (nat_abs value)) e
 
 -- the opening and the figures
 abbrev later_values : Acceptance → List ℤ

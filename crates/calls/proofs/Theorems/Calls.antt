@@ -1,15 +1,13 @@
 -- What holds of every call alike: a refusal changes nothing and has one of its call's numbers, and a promise can be kept.
-use Rattle.std.specs.Prelude.{ℕ, ◌+◌, ◌≡◌, refl, List, true, false, length, leb}
+use Rattle.std.specs.Prelude.{ℕ, ◌+◌, ◌≡◌, refl, List, true, false, length, leb, Err, Ok}
 use Rattle.std.proofs.Common.{ap}
 use Rattle.tagged.specs.File.{refusal}
 use Rattle.tagged.proofs.Theorems.Impossible.{impossible}
 use Rattle.tagged.specs.Refusals.{ledger_unsound}
 use Rattle.tagged.specs.declared.file.Refusal.{Refusal}
-use Rattle.charge.specs.Price.{price_of}
+use Rattle.charge.specs.Price.{price_of, Pricing}
 use Rattle.charge.proofs.Theorems.PriceRefusals.{pricing_refusal_numbers}
 use Rattle.charge.specs.declared.Bill.{Bill}
-use Rattle.charge.specs.declared.Pricing.{Pricing}
-use Rattle.charge.specs.declared.Pricing.TheVariants.{Priced, NotPriced}
 use Rattle.ledger.specs.Lists.{Found, none, found}
 use Rattle.ledger.specs.Books.{EntryParticulars, Books, entry_at}
 use Rattle.ledger.specs.Sound.{sound}
@@ -20,11 +18,10 @@ use Rattle.calls.specs.Carried.{State, books_on, carried_out}
 use Rattle.calls.specs.CallEnding.{call_ending}
 use Rattle.calls.specs.Calls.{answered, leaves, Promised, decided_on}
 use Rattle.calls.proofs.Theorems.Lists.{by_cond}
-use Rattle.calls.specs.Verdict.{verdict}
+use Rattle.calls.specs.Verdict.{verdict, Verdict}
 use Rattle.calls.specs.VerdictConditions.{verdict_numbers}
 use Rattle.calls.proofs.Theorems.VerdictConditions.{verdict_by}
 use Rattle.calls.specs.CallRefusals.{rule_numbers, call_numbers, Refuses}
-use Rattle.calls.specs.declared.courses.Verdict.{Verdict}
 
 pub promise_from : {before : State} {call : Call} {answer : CallAnswer} {after : State} → answer ≡ answered before call → after ≡ leaves before call →
     Promised before call answer after
@@ -65,8 +62,8 @@ pub decided_refuses : (books : Books) (call : Call) → RefusesAmong books (rule
 decided_refuses books (accept book request) = by_pricing (price_of book request) refl
   where
     by_pricing : (pricing : Pricing) → price_of book request ≡ pricing → RefusesAmong books (rule_numbers (accept book request)) (accept_by books pricing)
-    by_pricing (Priced bill) e = verdict_refuses books bill (rule_numbers (accept book request)) refl
-    by_pricing (NotPriced r) e =
+    by_pricing (Ok bill) e = verdict_refuses books bill (rule_numbers (accept book request)) refl
+    by_pricing (Err r) e =
         let within = pricing_refusal_numbers book request r e in
         one_of_more (one_to 5) (rule_numbers (accept book request)) r.number refl (within_one_to 5 r.number within.0 within.1)
 decided_refuses books (pay_out e amount) = by_entry (entry_at books e)

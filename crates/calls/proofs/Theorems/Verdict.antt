@@ -1,5 +1,5 @@
 -- The joining of a scheme's row by its cases, and the verdict by its own, in document 01's order of refusals: 10, 7, 6, 8, 9.
-use Rattle.std.specs.Prelude.{ℕ, ◌+◌, ◌<◌, ◌≤◌, ◌≡◌, true, false, length}
+use Rattle.std.specs.Prelude.{ℕ, ◌+◌, ◌<◌, ◌≤◌, ◌≡◌, true, false, length, Err, Ok}
 use borrow.Author.Tests.{le-leb, lt-leb, lt-ltb, le-ltb}
 use Rattle.tagged.specs.Refusals.{scheme_never_opened, month_before_last, no_scheme_left, no_entry_left, no_connection_left}
 use Rattle.charge.specs.declared.Bill.{Bill}
@@ -9,7 +9,6 @@ use Rattle.calls.specs.Rules.{parties_of, capacity_of, contribution}
 use Rattle.calls.specs.Verdict.{joining_of, course_of, entries_needed, schemes_lacking, entries_lacking, course_verdict, verdict}
 use Rattle.calls.specs.declared.courses.Joining.TheVariants.{Ended, Small, Pays}
 use Rattle.calls.specs.declared.courses.Course.{Course}
-use Rattle.calls.specs.declared.courses.Verdict.TheVariants.{Accepts, Refuses}
 
 module _ (books : Books) (bill : Bill) (row : SchemeParticulars) where
   pub joining_ended : row.opening + row.term ≤ bill.applicant.month → joining_of books bill row ≡ Ended
@@ -24,17 +23,17 @@ module _ (books : Books) (bill : Bill) (row : SchemeParticulars) where
     joining_pays enough = rw (lt-leb _ _ in_force, earlier, ← due, le-ltb _ _ enough)
 
 module _ (books : Books) (bill : Bill) where
-  pub verdict_refused_10 : most_connections ≤ books.connections → verdict books bill ≡ Refuses no_connection_left
+  pub verdict_refused_10 : most_connections ≤ books.connections → verdict books bill ≡ Err no_connection_left
   unfolding verdict
   verdict_refused_10 taken = rw (le-leb _ _ taken)
 
   module _ (left : books.connections < most_connections) where
-    pub verdict_refused_7 : bill.applicant.month < books.month → verdict books bill ≡ Refuses month_before_last
+    pub verdict_refused_7 : bill.applicant.month < books.month → verdict books bill ≡ Err month_before_last
     unfolding verdict
     verdict_refused_7 earlier = rw (lt-leb _ _ left, lt-ltb _ _ earlier)
 
     module _ (in_order : books.month ≤ bill.applicant.month) where
-      pub verdict_refused_6 : books.next_scheme ≤ bill.applicant.scheme → verdict books bill ≡ Refuses scheme_never_opened
+      pub verdict_refused_6 : books.next_scheme ≤ bill.applicant.scheme → verdict books bill ≡ Err scheme_never_opened
       unfolding verdict
       verdict_refused_6 never = rw (lt-leb _ _ left, le-ltb _ _ in_order, le-leb _ _ never)
 
@@ -43,12 +42,12 @@ module _ (books : Books) (bill : Bill) where
       verdict_course opened = rw (lt-leb _ _ left, le-ltb _ _ in_order, lt-leb _ _ opened)
 
 module _ (books : Books) (course : Course) where
-  pub course_refused_8 : schemes_lacking (length books.schemes) course.opens ≡ true → course_verdict books course ≡ Refuses no_scheme_left
+  pub course_refused_8 : schemes_lacking (length books.schemes) course.opens ≡ true → course_verdict books course ≡ Err no_scheme_left
   course_refused_8 all = rw all
 
   module _ (some : schemes_lacking (length books.schemes) course.opens ≡ false) where
-    pub course_refused_9 : entries_lacking (length books.entries) books.room (entries_needed course) ≡ true → course_verdict books course ≡ Refuses no_entry_left
+    pub course_refused_9 : entries_lacking (length books.entries) books.room (entries_needed course) ≡ true → course_verdict books course ≡ Err no_entry_left
     course_refused_9 lacking = rw (some, lacking)
 
-    pub course_accepted : entries_lacking (length books.entries) books.room (entries_needed course) ≡ false → course_verdict books course ≡ Accepts course
+    pub course_accepted : entries_lacking (length books.entries) books.room (entries_needed course) ≡ false → course_verdict books course ≡ Ok course
     course_accepted enough = rw (some, enough)

@@ -1,5 +1,5 @@
 -- What a request that is accepted has: the tests that it passed, one after the other.
-use Rattle.std.specs.Prelude.{ℕ, ◌+◌, ◌-◌, ◌<◌, ◌≤◌, ◌≡◌, refl, List, [], ◌∷◌, Bool, true, false, cond, length, get_or, leb, ltb, eqb}
+use Rattle.std.specs.Prelude.{ℕ, ◌+◌, ◌-◌, ◌<◌, ◌≤◌, ◌≡◌, refl, List, [], ◌∷◌, Bool, true, false, cond, length, get_or, leb, ltb, eqb, Err, Ok}
 use Rattle.std.proofs.Common.{ap, subst, ◌∙◌, arith, leb-false, ltb-true, ltb-false, eqb-true}
 use Rattle.std.proofs.lemmas.Bool.{eqb-false}
 use Rattle.tagged.proofs.Theorems.Impossible.{impossible}
@@ -16,7 +16,7 @@ use Rattle.ledger.specs.declared.records.Scheme.{Scheme}
 use Rattle.ledger.specs.declared.records.Party.{Party}
 use Rattle.ledger.specs.declared.records.Ledger.{Ledger}
 use Rattle.calls.specs.Rules.{parties_of, capacity_of, contribution}
-use Rattle.calls.specs.Verdict.{joining_by, joining_part, opens_scheme, course_of, entries_needed, schemes_lacking, entries_lacking, verdict}
+use Rattle.calls.specs.Verdict.{joining_by, joining_part, opens_scheme, course_of, entries_needed, schemes_lacking, entries_lacking, verdict, Verdict}
 use Rattle.calls.proofs.Theorems.Lists.{by_cond}
 use Rattle.calls.proofs.Theorems.CreditColumns.{contribution_le_cost}
 use Rattle.calls.proofs.Theorems.ByPlace.{scheme_opened}
@@ -25,8 +25,6 @@ use Rattle.calls.specs.declared.courses.Contribution.{Contribution}
 use Rattle.calls.specs.declared.courses.Joining.{Joining}
 use Rattle.calls.specs.declared.courses.Joining.TheVariants.{NotAsked, Ended, Small, Pays}
 use Rattle.calls.specs.declared.courses.Course.{Course}
-use Rattle.calls.specs.declared.courses.Verdict.{Verdict}
-use Rattle.calls.specs.declared.courses.Verdict.TheVariants.{Accepts, Refuses}
 
 -- ---- the course of an accepted request
 pub record CourseConditions (books : Books) (bill : Bill) (course : Course) : Type 0 where
@@ -39,8 +37,8 @@ pub record CourseConditions (books : Books) (bill : Bill) (course : Course) : Ty
   pub in_table : 1 ≤ entries_needed course → length books.entries + entries_needed course ≤ books.room
 
 abbrev pub VerdictConditions : Books → Bill → Verdict → Type 0
-VerdictConditions books bill (Accepts course) = CourseConditions books bill course
-VerdictConditions books bill (Refuses number) = Unit {0}
+VerdictConditions books bill (Ok course) = CourseConditions books bill course
+VerdictConditions books bill (Err number) = Unit {0}
 
 -- entries are left, where any is needed
 record EntriesLeft (entries room needed : ℕ) : Type 0 where
@@ -64,8 +62,8 @@ not_many false many h o = impossible cc
 
 -- a verdict refuses with one of them, or accepts the request's course, which has passed every test
 pub verdict_by : (P : Verdict → Type 0) (books : Books) (bill : Bill) →
-    ((number : ℕ) → one_of verdict_numbers number ≡ true → P (Refuses number)) →
-    (CourseConditions books bill (course_of books bill) → P (Accepts (course_of books bill))) → P (verdict books bill)
+    ((number : ℕ) → one_of verdict_numbers number ≡ true → P (Err number)) →
+    (CourseConditions books bill (course_of books bill) → P (Ok (course_of books bill))) → P (verdict books bill)
 unfolding verdict
 verdict_by P books bill refuses accepts =
     let course = course_of books bill in
@@ -94,7 +92,7 @@ verdict_by P books bill refuses accepts =
 pub verdict_conditions : (books : Books) (bill : Bill) → VerdictConditions books bill (verdict books bill)
 verdict_conditions books bill = verdict_by (VerdictConditions books bill) books bill (λ number one. tt) (λ has. has)
 
-pub course_conditions : (books : Books) (bill : Bill) (course : Course) → verdict books bill ≡ Accepts course → CourseConditions books bill course
+pub course_conditions : (books : Books) (bill : Bill) (course : Course) → verdict books bill ≡ Ok course → CourseConditions books bill course
 course_conditions books bill course accepts = subst (VerdictConditions books bill) accepts (verdict_conditions books bill)
 
 -- ---- its opening

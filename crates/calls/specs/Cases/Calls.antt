@@ -1,6 +1,6 @@
 -- Pay-out and hand-over at their boundaries, over literal books and on a literal ledger; a joining and an opening of one request; 13 before the rest. Every
 -- expected side is a literal.
-use Rattle.std.specs.Prelude.{ℕ, ◌≡◌, refl, List, [], ◌∷◌, ◌++◌, map}
+use Rattle.std.specs.Prelude.{ℕ, ◌≡◌, refl, List, [], ◌∷◌, ◌++◌, map, Some}
 use Rattle.tagged.specs.File.{refusal}
 use Rattle.ledger.specs.Books.{SchemeParticulars, EntryParticulars, Books}
 use Rattle.ledger.specs.Lookup.{scheme_place}
@@ -12,7 +12,6 @@ use Rattle.calls.specs.Carried.{State, books_on, carried_out}
 use Rattle.calls.specs.Calls.{answered, leaves}
 use Rattle.calls.specs.Cases.Verdict.{other_book, bill_of, with_month, in_scheme, joins, and_opens, scheme, party, ledger, places, past, three, first_three}
 use Rattle.calls.specs.Answers.{accepted_as, joined_as}
-use Rattle.calls.specs.declared.answers.OpeningAnswer.TheVariants as OpeningAnswer
 
 -- two schemes and three entries, with room for two more
 abbrev state : State
@@ -90,7 +89,7 @@ both =
     accepted (with_month 24317 (in_scheme 1 (bill_of other_book 7001))) (and_opens (joins 500 100 30))
     (record { entry = 1; amount = 266 } ∷ record { entry = 3; amount = 134 } ∷ [])
 
-pub both_answered : answer_to books both ≡ accepted_as (bill_of other_book 7001) (joined_as 4 500) (OpeningAnswer.Opened 3)
+pub both_answered : answer_to books both ≡ accepted_as (bill_of other_book 7001) (joined_as 4 500) (Some 3)
 both_answered = refl
 
 pub both_carried_out : carried_out state both ≡

@@ -1,6 +1,6 @@
 -- Accept's rules at their boundaries, over literal books: the verdict on a bill, each condition at its limit and one past it; what is credited, answered and
 -- carried out of it. Every expected side is a literal.
-use Rattle.std.specs.Prelude.{ℕ, ◌+◌, ◌≡◌, refl, List, [], ◌∷◌, ◌++◌, map, true, false, take, replicate}
+use Rattle.std.specs.Prelude.{ℕ, ◌+◌, ◌≡◌, refl, List, [], ◌∷◌, ◌++◌, map, true, false, take, replicate, Err, None, Ok, Some}
 use Rattle.tagged.specs.File.{refusal}
 use Rattle.reconciliation.specs.Reconciliation.{reconciliation_of}
 use Rattle.reconciliation.specs.declared.Reconciliation.{Reconciliation}
@@ -14,16 +14,13 @@ use Rattle.ledger.specs.declared.records.Scheme.{Scheme}
 use Rattle.ledger.specs.declared.records.Party.{Party}
 use Rattle.ledger.specs.declared.records.Ledger.{Ledger}
 use Rattle.calls.specs.Rules.{Credit}
-use Rattle.calls.specs.Verdict.{verdict}
+use Rattle.calls.specs.Verdict.{verdict, Verdict}
 use Rattle.calls.specs.Decision.{Decision, accepted, refused, decided_by, CallAnswer, is_refused, answer_to}
 use Rattle.calls.specs.Carried.{State, carried_out}
 use Rattle.calls.specs.Answers.{accepted_as, joined_as}
 use Rattle.calls.specs.declared.courses.Joining.{Joining}
 use Rattle.calls.specs.declared.courses.Course.{Course}
-use Rattle.calls.specs.declared.courses.Verdict.{Verdict}
-use Rattle.calls.specs.declared.courses.Verdict.TheVariants.{Accepts, Refuses}
 use Rattle.calls.specs.declared.answers.JoiningAnswer.{JoiningAnswer}
-use Rattle.calls.specs.declared.answers.OpeningAnswer.{OpeningAnswer}
 
 -- ---- bills
 
@@ -154,125 +151,125 @@ and_opens course = record { joining = course.joining; opens = true }
 abbrev pub verdict_cases : List ((Books × Bill) × Verdict)
 verdict_cases =
     -- the 64th and the 65th scheme
-    ((books 3000 2 63 2 3, opening), Accepts opens) ∷
-    ((books 3000 2 64 2 3, opening), Refuses 8) ∷
+    ((books 3000 2 63 2 3, opening), Ok opens) ∷
+    ((books 3000 2 64 2 3, opening), Err 8) ∷
     -- the 512th and the 513th entry, opening and joining
-    ((books 3000 2 1 511 600, opening), Accepts opens) ∷
-    ((books 3000 2 1 512 600, opening), Refuses 9) ∷
-    ((books 3000 2 1 511 600, joining), Accepts (joins 500 100 30)) ∷
-    ((books 3000 2 1 512 600, joining), Refuses 9) ∷
+    ((books 3000 2 1 511 600, opening), Ok opens) ∷
+    ((books 3000 2 1 512 600, opening), Err 9) ∷
+    ((books 3000 2 1 511 600, joining), Ok (joins 500 100 30)) ∷
+    ((books 3000 2 1 512 600, joining), Err 9) ∷
     -- the table's last record, and none left; "an opening on table length 0 is 9"
-    ((books 3000 2 1 2 3, opening), Accepts opens) ∷
-    ((books 3000 2 1 2 2, opening), Refuses 9) ∷
-    ((books 3000 2 1 2 3, joining), Accepts (joins 500 100 30)) ∷
-    ((books 3000 2 1 2 2, joining), Refuses 9) ∷
-    ((books 3000 0 0 0 0, opening), Refuses 9) ∷
+    ((books 3000 2 1 2 3, opening), Ok opens) ∷
+    ((books 3000 2 1 2 2, opening), Err 9) ∷
+    ((books 3000 2 1 2 3, joining), Ok (joins 500 100 30)) ∷
+    ((books 3000 2 1 2 2, joining), Err 9) ∷
+    ((books 3000 0 0 0 0, opening), Err 9) ∷
     -- connection 1,000,000 and the one after it
-    ((books 3000 999999 1 2 3, opening), Accepts opens) ∷
-    ((books 3000 1000000 1 2 3, opening), Refuses 10) ∷
-    ((books 3000 999999 1 2 3, joining), Accepts (joins 500 100 30)) ∷
-    ((books 3000 1000000 1 2 3, joining), Refuses 10) ∷
+    ((books 3000 999999 1 2 3, opening), Ok opens) ∷
+    ((books 3000 1000000 1 2 3, opening), Err 10) ∷
+    ((books 3000 999999 1 2 3, joining), Ok (joins 500 100 30)) ∷
+    ((books 3000 1000000 1 2 3, joining), Err 10) ∷
     -- "month 24,314 after 24,315 is 7"
-    ((books 3000 2 1 2 3, with_month 24315 opening), Accepts opens) ∷
-    ((books 3000 2 1 2 3, with_month 24314 opening), Refuses 7) ∷
-    ((books 3000 2 1 2 3, with_month 24314 (bill_of book 1000)), Refuses 7) ∷
-    ((books 3000 2 1 2 3, with_month 24314 joining), Refuses 7) ∷
+    ((books 3000 2 1 2 3, with_month 24315 opening), Ok opens) ∷
+    ((books 3000 2 1 2 3, with_month 24314 opening), Err 7) ∷
+    ((books 3000 2 1 2 3, with_month 24314 (bill_of book 1000)), Err 7) ∷
+    ((books 3000 2 1 2 3, with_month 24314 joining), Err 7) ∷
     -- the last scheme, and the number after it
-    ((books 3000 2 1 2 3, in_scheme 1 (bill_of book 0)), Accepts (joins 500 100 30)) ∷
-    ((books 3000 2 1 2 3, in_scheme 2 (bill_of book 0)), Refuses 6) ∷
-    ((books 3000 2 64 2 3, in_scheme 65 (bill_of book 0)), Refuses 6) ∷
+    ((books 3000 2 1 2 3, in_scheme 1 (bill_of book 0)), Ok (joins 500 100 30)) ∷
+    ((books 3000 2 1 2 3, in_scheme 2 (bill_of book 0)), Err 6) ∷
+    ((books 3000 2 64 2 3, in_scheme 65 (bill_of book 0)), Err 6) ∷
     -- X the threshold, and one cent more; a mark opens nothing
-    ((books 3000 2 1 2 3, bill_of book 1000), Accepts plain) ∷
-    ((books 3000 2 1 2 3, bill_of book 1001), Accepts opens) ∷
-    ((books 3000 2 1 2 3, with_mark 1 opening), Accepts plain) ∷
-    ((books 3000 2 1 2 3, with_mark 2 opening), Accepts plain) ∷
+    ((books 3000 2 1 2 3, bill_of book 1000), Ok plain) ∷
+    ((books 3000 2 1 2 3, bill_of book 1001), Ok opens) ∷
+    ((books 3000 2 1 2 3, with_mark 1 opening), Ok plain) ∷
+    ((books 3000 2 1 2 3, with_mark 2 opening), Ok plain) ∷
     -- where none opens, neither 64 schemes nor a full table matter
-    ((books 3000 2 64 512 512, bill_of book 1000), Accepts plain) ∷
-    ((books 3000 2 64 512 512, with_mark 1 opening), Accepts plain) ∷
+    ((books 3000 2 64 512 512, bill_of book 1000), Ok plain) ∷
+    ((books 3000 2 64 512 512, with_mark 1 opening), Ok plain) ∷
     -- G the minimum, and one cent less
-    ((books 3000 2 1 2 3, joining), Accepts (joins 500 100 30)) ∷
-    ((books 2999 2 1 2 3, joining), Accepts small) ∷
+    ((books 3000 2 1 2 3, joining), Ok (joins 500 100 30)) ∷
+    ((books 2999 2 1 2 3, joining), Ok small) ∷
     -- the last month in force, and the one after it
-    ((books 3000 2 1 2 3, with_month 24398 joining), Accepts (joins 500 100 30)) ∷
-    ((books 3000 2 1 2 3, with_month 24399 joining), Accepts ended) ∷
+    ((books 3000 2 1 2 3, with_month 24398 joining), Ok (joins 500 100 30)) ∷
+    ((books 3000 2 1 2 3, with_month 24399 joining), Ok ended) ∷
     -- no entry is needed where nothing is collected; a term that has ended counts before a small contribution
-    ((books 2999 2 1 2 2, joining), Accepts small) ∷
-    ((books 2999 2 1 512 600, joining), Accepts small) ∷
-    ((books 3000 2 1 2 2, with_month 24399 joining), Accepts ended) ∷
-    ((books 3000 2 1 512 600, with_month 24399 joining), Accepts ended) ∷
-    ((books 2999 2 1 2 3, with_month 24399 joining), Accepts ended) ∷
+    ((books 2999 2 1 2 2, joining), Ok small) ∷
+    ((books 2999 2 1 512 600, joining), Ok small) ∷
+    ((books 3000 2 1 2 2, with_month 24399 joining), Ok ended) ∷
+    ((books 3000 2 1 512 600, with_month 24399 joining), Ok ended) ∷
+    ((books 2999 2 1 2 3, with_month 24399 joining), Ok ended) ∷
     -- under another book the scheme's own fee, minimum and term count
-    ((books 3000 2 1 2 3, joining_by_other), Accepts (joins 500 100 30)) ∷
-    ((books 2999 2 1 2 3, joining_by_other), Accepts small) ∷
-    ((books 3000 2 1 2 3, with_month 24398 joining_by_other), Accepts (joins 500 100 30)) ∷
-    ((books 3000 2 1 2 3, with_month 24399 joining_by_other), Accepts ended) ∷
+    ((books 3000 2 1 2 3, joining_by_other), Ok (joins 500 100 30)) ∷
+    ((books 2999 2 1 2 3, joining_by_other), Ok small) ∷
+    ((books 3000 2 1 2 3, with_month 24398 joining_by_other), Ok (joins 500 100 30)) ∷
+    ((books 3000 2 1 2 3, with_month 24399 joining_by_other), Ok ended) ∷
     -- two at once: 10 before 7, 6, 8 and 9; 7 before 6, 8 and 9, and before "small"; 6 before 9; 8 before 9
-    ((books 3000 1000000 1 2 3, with_month 24314 (bill_of book 1000)), Refuses 10) ∷
-    ((books 3000 1000000 1 2 3, in_scheme 2 (bill_of book 0)), Refuses 10) ∷
-    ((books 3000 1000000 64 2 3, opening), Refuses 10) ∷
-    ((books 3000 1000000 1 2 2, opening), Refuses 10) ∷
-    ((books 3000 1000000 1 2 2, joining), Refuses 10) ∷
-    ((books 3000 2 1 2 3, with_month 24314 (in_scheme 2 (bill_of book 0))), Refuses 7) ∷
-    ((books 3000 2 64 2 3, with_month 24314 opening), Refuses 7) ∷
-    ((books 3000 2 1 2 2, with_month 24314 opening), Refuses 7) ∷
-    ((books 3000 2 1 2 2, with_month 24314 joining), Refuses 7) ∷
-    ((books 2999 2 1 2 3, with_month 24314 joining), Refuses 7) ∷
-    ((books 3000 2 1 2 2, in_scheme 2 (bill_of book 0)), Refuses 6) ∷
-    ((books 3000 2 64 512 512, opening), Refuses 8) ∷
+    ((books 3000 1000000 1 2 3, with_month 24314 (bill_of book 1000)), Err 10) ∷
+    ((books 3000 1000000 1 2 3, in_scheme 2 (bill_of book 0)), Err 10) ∷
+    ((books 3000 1000000 64 2 3, opening), Err 10) ∷
+    ((books 3000 1000000 1 2 2, opening), Err 10) ∷
+    ((books 3000 1000000 1 2 2, joining), Err 10) ∷
+    ((books 3000 2 1 2 3, with_month 24314 (in_scheme 2 (bill_of book 0))), Err 7) ∷
+    ((books 3000 2 64 2 3, with_month 24314 opening), Err 7) ∷
+    ((books 3000 2 1 2 2, with_month 24314 opening), Err 7) ∷
+    ((books 3000 2 1 2 2, with_month 24314 joining), Err 7) ∷
+    ((books 2999 2 1 2 3, with_month 24314 joining), Err 7) ∷
+    ((books 3000 2 1 2 2, in_scheme 2 (bill_of book 0)), Err 6) ∷
+    ((books 3000 2 64 512 512, opening), Err 8) ∷
     []
 
 -- document 02, E4: a joiner who builds on
 abbrev pub building_on_cases : List ((Books × Bill) × Verdict)
 building_on_cases =
     -- X the threshold, and one cent more; a joiner with a mark opens nothing
-    ((books 3000 2 1 2 4, joining), Accepts (joins 500 100 30)) ∷
-    ((books 3000 2 1 2 4, building_on), Accepts (and_opens (joins 500 100 30))) ∷
-    ((books 3000 2 1 2 4, with_mark 1 building_on), Accepts (joins 500 100 30)) ∷
-    ((books 3000 2 1 2 4, with_mark 2 building_on), Accepts (joins 500 100 30)) ∷
+    ((books 3000 2 1 2 4, joining), Ok (joins 500 100 30)) ∷
+    ((books 3000 2 1 2 4, building_on), Ok (and_opens (joins 500 100 30))) ∷
+    ((books 3000 2 1 2 4, with_mark 1 building_on), Ok (joins 500 100 30)) ∷
+    ((books 3000 2 1 2 4, with_mark 2 building_on), Ok (joins 500 100 30)) ∷
     -- by the threshold of the joiner's own book; for the joining the scheme's own fee, minimum and term count
-    ((books 3000 2 1 2 4, joining_by_other), Accepts (joins 500 100 30)) ∷
-    ((books 3000 2 1 2 4, building_on_by_other), Accepts (and_opens (joins 500 100 30))) ∷
-    ((books 2999 2 1 2 4, building_on_by_other), Accepts (and_opens small)) ∷
-    ((books 3000 2 1 2 4, with_month 24398 building_on_by_other), Accepts (and_opens (joins 500 100 30))) ∷
-    ((books 3000 2 1 2 4, with_month 24399 building_on_by_other), Accepts (and_opens ended)) ∷
+    ((books 3000 2 1 2 4, joining_by_other), Ok (joins 500 100 30)) ∷
+    ((books 3000 2 1 2 4, building_on_by_other), Ok (and_opens (joins 500 100 30))) ∷
+    ((books 2999 2 1 2 4, building_on_by_other), Ok (and_opens small)) ∷
+    ((books 3000 2 1 2 4, with_month 24398 building_on_by_other), Ok (and_opens (joins 500 100 30))) ∷
+    ((books 3000 2 1 2 4, with_month 24399 building_on_by_other), Ok (and_opens ended)) ∷
     -- "small" and "ended" don't prevent it
-    ((books 2999 2 1 2 4, building_on), Accepts (and_opens small)) ∷
-    ((books 2999 2 1 2 4, with_mark 1 building_on), Accepts small) ∷
-    ((books 3000 2 1 2 4, with_month 24399 building_on), Accepts (and_opens ended)) ∷
-    ((books 3000 2 1 2 4, with_month 24399 (with_mark 2 building_on)), Accepts ended) ∷
+    ((books 2999 2 1 2 4, building_on), Ok (and_opens small)) ∷
+    ((books 2999 2 1 2 4, with_mark 1 building_on), Ok small) ∷
+    ((books 3000 2 1 2 4, with_month 24399 building_on), Ok (and_opens ended)) ∷
+    ((books 3000 2 1 2 4, with_month 24399 (with_mark 2 building_on)), Ok ended) ∷
     -- two entries are needed: the table has none, one and two left
-    ((books 3000 2 1 2 2, building_on), Refuses 9) ∷
-    ((books 3000 2 1 2 3, building_on), Refuses 9) ∷
-    ((books 3000 2 1 2 4, building_on), Accepts (and_opens (joins 500 100 30))) ∷
+    ((books 3000 2 1 2 2, building_on), Err 9) ∷
+    ((books 3000 2 1 2 3, building_on), Err 9) ∷
+    ((books 3000 2 1 2 4, building_on), Ok (and_opens (joins 500 100 30))) ∷
     -- and of 512
-    ((books 3000 2 1 512 600, building_on), Refuses 9) ∷
-    ((books 3000 2 1 511 600, building_on), Refuses 9) ∷
-    ((books 3000 2 1 510 600, building_on), Accepts (and_opens (joins 500 100 30))) ∷
+    ((books 3000 2 1 512 600, building_on), Err 9) ∷
+    ((books 3000 2 1 511 600, building_on), Err 9) ∷
+    ((books 3000 2 1 510 600, building_on), Ok (and_opens (joins 500 100 30))) ∷
     -- one is needed, by the opening or by the joining: none left, and one
-    ((books 2999 2 1 2 2, building_on), Refuses 9) ∷
-    ((books 2999 2 1 2 3, building_on), Accepts (and_opens small)) ∷
-    ((books 3000 2 1 2 2, with_month 24399 building_on), Refuses 9) ∷
-    ((books 3000 2 1 2 3, with_month 24399 building_on), Accepts (and_opens ended)) ∷
-    ((books 3000 2 1 2 2, with_mark 1 building_on), Refuses 9) ∷
-    ((books 3000 2 1 2 3, with_mark 1 building_on), Accepts (joins 500 100 30)) ∷
+    ((books 2999 2 1 2 2, building_on), Err 9) ∷
+    ((books 2999 2 1 2 3, building_on), Ok (and_opens small)) ∷
+    ((books 3000 2 1 2 2, with_month 24399 building_on), Err 9) ∷
+    ((books 3000 2 1 2 3, with_month 24399 building_on), Ok (and_opens ended)) ∷
+    ((books 3000 2 1 2 2, with_mark 1 building_on), Err 9) ∷
+    ((books 3000 2 1 2 3, with_mark 1 building_on), Ok (joins 500 100 30)) ∷
     -- none is needed
-    ((books 2999 2 1 2 2, with_mark 1 building_on), Accepts small) ∷
-    ((books 3000 2 1 2 2, with_month 24399 (with_mark 1 building_on)), Accepts ended) ∷
+    ((books 2999 2 1 2 2, with_mark 1 building_on), Ok small) ∷
+    ((books 3000 2 1 2 2, with_month 24399 (with_mark 1 building_on)), Ok ended) ∷
     -- the 64th and the 65th scheme; 8 before 9; where none opens, it is never 8
-    ((books 3000 2 63 2 4, building_on), Accepts (and_opens (joins 500 100 30))) ∷
-    ((books 3000 2 64 2 4, building_on), Refuses 8) ∷
-    ((books 3000 2 64 512 512, building_on), Refuses 8) ∷
-    ((books 2999 2 64 2 4, building_on), Refuses 8) ∷
-    ((books 3000 2 64 2 4, with_month 24399 building_on), Refuses 8) ∷
-    ((books 3000 2 64 2 4, joining), Accepts (joins 500 100 30)) ∷
-    ((books 3000 2 64 2 4, with_mark 1 building_on), Accepts (joins 500 100 30)) ∷
-    ((books 3000 2 64 2 4, with_mark 2 building_on), Accepts (joins 500 100 30)) ∷
-    ((books 3000 2 64 512 512, with_mark 1 building_on), Refuses 9) ∷
+    ((books 3000 2 63 2 4, building_on), Ok (and_opens (joins 500 100 30))) ∷
+    ((books 3000 2 64 2 4, building_on), Err 8) ∷
+    ((books 3000 2 64 512 512, building_on), Err 8) ∷
+    ((books 2999 2 64 2 4, building_on), Err 8) ∷
+    ((books 3000 2 64 2 4, with_month 24399 building_on), Err 8) ∷
+    ((books 3000 2 64 2 4, joining), Ok (joins 500 100 30)) ∷
+    ((books 3000 2 64 2 4, with_mark 1 building_on), Ok (joins 500 100 30)) ∷
+    ((books 3000 2 64 2 4, with_mark 2 building_on), Ok (joins 500 100 30)) ∷
+    ((books 3000 2 64 512 512, with_mark 1 building_on), Err 9) ∷
     -- 10, 7 and 6 come before; 6 before the opening, though the scheme that opens would have the number
-    ((books 3000 1000000 64 512 512, building_on), Refuses 10) ∷
-    ((books 3000 2 64 512 512, with_month 24314 building_on), Refuses 7) ∷
-    ((books 3000 2 1 2 4, in_scheme 2 building_on), Refuses 6) ∷
-    ((books 3000 2 64 512 512, in_scheme 65 building_on), Refuses 6) ∷
+    ((books 3000 1000000 64 512 512, building_on), Err 10) ∷
+    ((books 3000 2 64 512 512, with_month 24314 building_on), Err 7) ∷
+    ((books 3000 2 1 2 4, in_scheme 2 building_on), Err 6) ∷
+    ((books 3000 2 64 512 512, in_scheme 65 building_on), Err 6) ∷
     []
 
 pub verdict_cases_hold : map (λ row. verdict row.0.0 row.0.1) verdict_cases ≡ map (λ row. row.1) verdict_cases
@@ -296,41 +293,41 @@ decision_cases =
     let fifth = with_capacity 5000 (in_scheme 1 (bill_of slip_book 0)) in
     -- M6: "threshold 5,000,000: X 5,000,000 opens nothing, 5,000,001 does"
     (let bill = bill_of slip_book 5000000 in
-    ((slip_books 6000000 (10000 ∷ []) 2, bill), accepted bill plain [], accepted_as bill JoiningAnswer.NotAsked OpeningAnswer.NotOpened)) ∷
+    ((slip_books 6000000 (10000 ∷ []) 2, bill), accepted bill plain [], accepted_as bill JoiningAnswer.NotAsked None)) ∷
     (let bill = bill_of slip_book 5000001 in
-    ((slip_books 6000000 (10000 ∷ []) 2, bill), accepted bill opens [], accepted_as bill JoiningAnswer.NotAsked (OpeningAnswer.Opened 2))) ∷
+    ((slip_books 6000000 (10000 ∷ []) 2, bill), accepted bill opens [], accepted_as bill JoiningAnswer.NotAsked (Some 2))) ∷
     -- M7: "cost 6,000,000, fee and minimum 20,000, capacities 10,000, 5,000, 5,000: collected 2,000,000 and 1,500,000; credits 1,980,000, then 986,666
     -- and 493,334"
     (
       (slip_books 6000000 (10000 ∷ []) 2, fifth),
       accepted fifth (joins 2000000 20000 10000) (credit 1 1980000 ∷ []),
-      accepted_as fifth (joined_as 2 2000000) OpeningAnswer.NotOpened,
+      accepted_as fifth (joined_as 2 2000000) None,
     ) ∷ (
       (slip_books 6000000 (10000 ∷ 5000 ∷ []) 3, fifth),
       accepted fifth (joins 1500000 20000 15000) (credit 1 986666 ∷ credit 2 493334 ∷ []),
-      accepted_as fifth (joined_as 3 1500000) OpeningAnswer.NotOpened,
+      accepted_as fifth (joined_as 3 1500000) None,
     ) ∷
     -- M8: "G equal to the minimum is collected; one cent less isn't. Opening + term − 1 is in force."
     (
       (slip_books 6000000 (299000 ∷ []) 2, wide),
       accepted wide (joins 20000 20000 299000) (credit 1 0 ∷ []),
-      accepted_as wide (joined_as 2 20000) OpeningAnswer.NotOpened,
+      accepted_as wide (joined_as 2 20000) None,
     ) ∷
-    ((slip_books 5999999 (299000 ∷ []) 2, wide), accepted wide small [], accepted_as wide JoiningAnswer.Small OpeningAnswer.NotOpened) ∷
+    ((slip_books 5999999 (299000 ∷ []) 2, wide), accepted wide small [], accepted_as wide JoiningAnswer.Small None) ∷
     (let bill = with_month 24398 wide in (
       (slip_books 6000000 (299000 ∷ []) 2, bill),
       accepted bill (joins 20000 20000 299000) (credit 1 0 ∷ []),
-      accepted_as bill (joined_as 2 20000) OpeningAnswer.NotOpened,
+      accepted_as bill (joined_as 2 20000) None,
     )) ∷
     (let bill = with_month 24399 wide in
-    ((slip_books 6000000 (299000 ∷ []) 2, bill), accepted bill ended [], accepted_as bill JoiningAnswer.Ended OpeningAnswer.NotOpened)) ∷
+    ((slip_books 6000000 (299000 ∷ []) 2, bill), accepted bill ended [], accepted_as bill JoiningAnswer.Ended None)) ∷
     -- a refusal's file and place are 0
     ((books 3000 2 1 2 2, joining), refused (refusal 9 0 0), is_refused (refusal 9 0 0)) ∷
     -- a joiner that builds on: G and the credits by the scheme's cost, fee and parties, the next entry and the next scheme; 9 where one entry is left
     (let bill = with_capacity 5000 (in_scheme 1 (bill_of other_slip_book 5000001)) in (
       (slip_books 6000000 (10000 ∷ []) 2, bill),
       accepted bill (and_opens (joins 2000000 20000 10000)) (credit 1 1980000 ∷ []),
-      accepted_as bill (joined_as 2 2000000) (OpeningAnswer.Opened 2),
+      accepted_as bill (joined_as 2 2000000) (Some 2),
     )) ∷
     (let bill = with_capacity 5000 (in_scheme 1 (bill_of other_slip_book 5000001)) in
     ((slip_books 6000000 (10000 ∷ 20000 ∷ []) 3, bill), refused (refusal 9 0 0), is_refused (refusal 9 0 0))) ∷
@@ -338,12 +335,12 @@ decision_cases =
     (let bill = with_capacity 33 (in_scheme 1 (bill_of other_slip_book 5000001)) in (
       (slip_books 6000000 (10000 ∷ []) 2, bill),
       accepted bill (and_opens small) [],
-      accepted_as bill JoiningAnswer.Small (OpeningAnswer.Opened 2),
+      accepted_as bill JoiningAnswer.Small (Some 2),
     )) ∷
     (let bill = with_month 24399 (in_scheme 1 (bill_of other_slip_book 5000001)) in (
       (slip_books 6000000 (10000 ∷ []) 2, bill),
       accepted bill (and_opens ended) [],
-      accepted_as bill JoiningAnswer.Ended (OpeningAnswer.Opened 2),
+      accepted_as bill JoiningAnswer.Ended (Some 2),
     )) ∷
     []
 

@@ -1,5 +1,5 @@
 -- What is done to an array of records is done to its first ones, and leaves the records past them.
-use Rattle.std.specs.Prelude.{ℕ, zero, suc, ◌+◌, ◌≤◌, min, ◌≡◌, refl, List, [], ◌∷◌, length, take, drop, set}
+use Rattle.std.specs.Prelude.{ℕ, zero, suc, ◌+◌, ◌≤◌, min, ◌≡◌, refl, List, [], ◌∷◌, length, take, drop, set, Err, Ok}
 use Rattle.std.proofs.Common.{sym, ap, ◌∙◌, arith, length-take, take-take, drop-set-lt}
 use Rattle.std.proofs.lemmas.List.Edits.{sets}
 use Rattle.ledger.specs.Limits.{most_entries}
@@ -8,15 +8,11 @@ use Rattle.ledger.proofs.Theorems.Table.{take_credit_each}
 use Rattle.ledger.proofs.Theorems.SameEntries.{SameEntries}
 use Rattle.ledger.specs.declared.records.Party.{Party}
 use Rattle.ledger.specs.declared.records.Ledger.{Ledger}
-use Rattle.calls.specs.declared.answers.AcceptAnswer.{AcceptAnswer}
-use Rattle.calls.specs.declared.answers.AcceptAnswer.TheVariants.{Accepted, NotAccepted}
-use Rattle.calls.specs.declared.answers.Answer.{Answer}
-use Rattle.calls.specs.declared.answers.Answer.TheVariants.{Done, Refused}
+use Rattle.calls.specs.Decision.{AcceptAnswer, Answer}
 use Rattle.acceptance.specs.Plan.{plan_table}
 use Rattle.acceptance.specs.PlanFits.{FitsIfAccepted}
-use Rattle.acceptance.specs.declared.accept.Plan.{Plan}
-use Rattle.entry_calls.specs.EntryCalls.{changed_table}
-use Rattle.entry_calls.specs.declared.EntryChange.{EntryChange}
+use Rattle.acceptance.specs.PlanCarried.{Plan}
+use Rattle.entry_calls.specs.EntryCalls.{changed_table, EntryChange}
 use Rattle.calls_by_value.specs.ByValue.{PlaceIfDone}
 
 -- ---- stores, and credits
@@ -55,25 +51,25 @@ pub plan_take : (room : ℕ) (ledger : Ledger) (parties : List Party) (plan : Pl
 plan_take room ledger parties plan = by_answer plan.answer
   where
     by_answer : (answer : AcceptAnswer) → take room (plan_table ledger parties (answering plan answer)) ≡ plan_table ledger (take room parties) (answering plan answer)
-    by_answer (Accepted acceptance) =
+    by_answer (Ok acceptance) =
         let credits = take ledger.entries plan.credits in
         let added = take plan.added_count plan.added in
         take_set_each room (credit_each parties credits) ledger.entries added
         ∙ ap (λ credited. sets credited ledger.entries added) (take_credit_each room parties credits)
-    by_answer (NotAccepted r) = refl
+    by_answer (Err r) = refl
 
 pub plan_drop : (room : ℕ) (ledger : Ledger) (parties : List Party) (plan : Plan) → FitsIfAccepted ledger.entries room parties plan →
     drop room (plan_table ledger parties plan) ≡ drop room parties
 plan_drop room ledger parties plan fits = by_answer plan.answer refl
   where
     by_answer : (answer : AcceptAnswer) → plan.answer ≡ answer → drop room (plan_table ledger parties (answering plan answer)) ≡ drop room parties
-    by_answer (Accepted acceptance) accepted =
+    by_answer (Ok acceptance) accepted =
         let places = (fits acceptance accepted).places in
         let credits = take ledger.entries plan.credits in
         let added = take plan.added_count plan.added in
         drop_set_each room (credit_each parties credits) ledger.entries added (omega (arith, length-take plan.added_count plan.added))
         ∙ drop_credit_each room parties credits (omega (arith, length-take ledger.entries plan.credits))
-    by_answer (NotAccepted r) refused = refl
+    by_answer (Err r) refused = refl
 
 -- ---- an entry's change
 
@@ -86,16 +82,16 @@ pub change_take : (room : ℕ) (parties : List Party) (change : EntryChange) →
 change_take room parties change = by_answer change.answer
   where
     by_answer : (answer : Answer) → take room (changed_table parties (telling change answer)) ≡ changed_table (take room parties) (telling change answer)
-    by_answer Done = take_set room parties change.place change.party
-    by_answer (Refused r) = refl
+    by_answer (Ok _) = take_set room parties change.place change.party
+    by_answer (Err r) = refl
 
 pub change_drop : (room : ℕ) (parties : List Party) (change : EntryChange) → PlaceIfDone room change →
     drop room (changed_table parties change) ≡ drop room parties
 change_drop room parties change within = by_answer change.answer refl
   where
     by_answer : (answer : Answer) → change.answer ≡ answer → drop room (changed_table parties (telling change answer)) ≡ drop room parties
-    by_answer Done done = drop-set-lt room parties change.place change.party (within done)
-    by_answer (Refused r) refused = refl
+    by_answer (Ok _) done = drop-set-lt room parties change.place change.party (within done)
+    by_answer (Err r) refused = refl
 
 -- ---- the table of the first records
 pub records_length : (parties : List Party) (room : ℕ) → length parties ≡ most_entries → length (take room parties) ≡ min room most_entries

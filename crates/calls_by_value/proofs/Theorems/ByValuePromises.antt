@@ -24,10 +24,9 @@ use Rattle.acceptance.specs.Plan.{plan_of, plan_table}
 use Rattle.acceptance.specs.PlanFits.{FitsIfAccepted}
 use Rattle.acceptance.proofs.Theorems.PlanFits.{plan_fits}
 use Rattle.acceptance.proofs.Theorems.PlanPromised.{plan_promised}
-use Rattle.acceptance.specs.declared.accept.Plan.{Plan}
-use Rattle.entry_calls.specs.EntryCalls.{paid_more, handed_to, refused_change, changed_at, change_of, entry_change, changed_table}
+use Rattle.acceptance.specs.PlanCarried.{Plan}
+use Rattle.entry_calls.specs.EntryCalls.{paid_more, handed_to, refused_change, changed_at, change_of, entry_change, changed_table, EntryChange}
 use Rattle.entry_calls.proofs.Theorems.ChangePromised.{IsCall, change_promised as change_kept}
-use Rattle.entry_calls.specs.declared.EntryChange.{EntryChange}
 use Rattle.calls_by_value.specs.ByValue.{SoundOnRecords, PromisedOnRecords, PlaceIfDone, accepted_table, changed_parties}
 use Rattle.calls_by_value.proofs.Theorems.ByValue.{plan_take, plan_drop, change_take, change_drop, same_entries, records_length}
 use Rattle.calls_by_value.specs.declared.AcceptedTable.{AcceptedTable}
@@ -69,7 +68,9 @@ module _ (ledger : Ledger) (parties : List Party) (room : ℕ) where
   module _ (places : length ledger.schemes ≡ most_schemes) (records : length parties ≡ most_entries) (book request : List ℕ) (plan : Plan)
       (planned : plan ≡ plan_of ledger parties (min room most_entries) (price_of book request)) where
     fits_table : FitsIfAccepted ledger.entries (min room most_entries) parties plan
-    fits_table = subst (FitsIfAccepted ledger.entries (min room most_entries) parties) (sym planned) (plan_fits ledger parties (min room most_entries) places records (price_of book request))
+    fits_table = subst (FitsIfAccepted ledger.entries (min room most_entries) parties) (sym planned)
+        (plan_fits ledger parties (min room most_entries) places
+        (λ stands. let means = sound_means ledger parties (min room most_entries) stands in omega (arith, means.entries, records)) (price_of book request))
 
     fits_room : (more : ℕ) → min room most_entries ≤ more → FitsIfAccepted ledger.entries more parties plan
     fits_room more within acceptance accepts =

@@ -1,5 +1,5 @@
 -- The change of one record, stored at its place, is the call: the answer and what it leaves are those of the decision.
-use Rattle.std.specs.Prelude.{ℕ, ◌+◌, ◌-◌, ◌≤◌, ◌≡◌, List, Bool, true, false, cond, length, take, get_or, set, leb, eqb}
+use Rattle.std.specs.Prelude.{ℕ, ◌+◌, ◌-◌, ◌≤◌, ◌≡◌, List, Bool, true, false, cond, length, take, get_or, set, leb, eqb, None, Option, Some}
 use Rattle.std.proofs.Math.Path.{refl}
 use Rattle.std.proofs.Common.{sym, ap, subst, ◌∙◌, arith, get_or-take, length-take-le}
 use Rattle.tagged.specs.File.{refusal}
@@ -13,8 +13,6 @@ use Rattle.ledger.proofs.Theorems.Lookup.{entry_placed}
 use Rattle.ledger.proofs.Theorems.SameEntries.{snapshot_sound}
 use Rattle.ledger.specs.Sound.{sound}
 use Rattle.ledger.proofs.Theorems.Sound.{sound_means}
-use Rattle.ledger.specs.declared.lookup.EntryAt.{EntryAt}
-use Rattle.ledger.specs.declared.lookup.EntryAt.TheVariants.{Place, NoSuchEntry}
 use Rattle.ledger.specs.declared.records.Party.{Party}
 use Rattle.ledger.specs.declared.records.Ledger.{Ledger}
 use Rattle.calls.proofs.Theorems.ByPlace.{change_at_start}
@@ -22,9 +20,8 @@ use Rattle.calls.specs.Calls.{state_of, decided_on, answered, leaves}
 use Rattle.calls.specs.Carried.{carried_out}
 use Rattle.calls.specs.Decision.{Call, pay_out, hand_over, Decision, paid_out, handed_over, refused, pay_out_by, hand_over_by, decided, is_done, of_entry_call, answer_to}
 use Rattle.calls.proofs.Theorems.Lists.{by_cond}
-use Rattle.entry_calls.specs.EntryCalls.{refused_change, changed_at, paid_more, handed_to, change_of, entry_change, pay_out_change, hand_over_change, changed_table}
+use Rattle.entry_calls.specs.EntryCalls.{EntryChange, refused_change, changed_at, paid_more, handed_to, change_of, entry_change, pay_out_change, hand_over_change, changed_table}
 use Rattle.entry_calls.proofs.Theorems.EntryCalls.{kept_below, row_at, none_at}
-use Rattle.entry_calls.specs.declared.EntryChange.{EntryChange}
 
 -- a change that answers and leaves what a decision does
 pub record Matches (ledger : Ledger) (table : List Party) (change : EntryChange) (decision : Decision) : Type 0 where
@@ -38,7 +35,7 @@ module _ (ledger : Ledger) (table : List Party) where
   refused_matches : (r : Refusal) → Matches ledger table (change_of entries (refused r)) (refused r)
   refused_matches r = record { answers = refl; leaving = refl }
 
-  module _ (all : ledger.entries ≤ length table) (e k : ℕ) (place : entry_place (length entries) e ≡ Place k) where
+  module _ (all : ledger.entries ≤ length table) (e k : ℕ) (place : entry_place (length entries) e ≡ Some k) where
     -- a change of entry e alone is a store at its place
     stored : (change : Party → Party) →
         set table k (change (get_or entries k no_party)) ≡ at_start (numbered_from 1 (λ number party. cond (eqb e number) (change party) party) entries) table
@@ -66,15 +63,15 @@ module _ (ledger : Ledger) (table : List Party) where
       P : Decision → Type 0
       P decision = Matches ledger table (change_of entries decision) decision
 
-      by : (at : EntryAt) → entry_place (length entries) e ≡ at → P (pay_out_by (entry_at (books_of ledger table) e) amount)
-      by (Place k) place =
+      by : (at : Option ℕ) → entry_place (length entries) e ≡ at → P (pay_out_by (entry_at (books_of ledger table) e) amount)
+      by (Some k) place =
           let party = get_or table k no_party in
           subst (λ row. P (pay_out_by row amount)) (sym (row_at ledger table e k place))
           (by_cond P (leb (party.paid_out + amount) party.credited) (paid_out party.scheme e amount) (refused (refusal pay_out_above_credit 0 0))
           (λ within.
           changed_matches all e k place (paid_more amount) (paid_out party.scheme e amount) refl refl refl)
           (λ above. refused_matches (refusal pay_out_above_credit 0 0)))
-      by NoSuchEntry missing = subst (λ row. P (pay_out_by row amount)) (sym (none_at ledger table e missing)) (refused_matches (refusal no_such_entry 0 0))
+      by None missing = subst (λ row. P (pay_out_by row amount)) (sym (none_at ledger table e missing)) (refused_matches (refusal no_such_entry 0 0))
 
   hand_over_matches : ledger.entries ≤ length table → (e person : ℕ) →
       Matches ledger table (entry_change ledger table (hand_over e person)) (decided (books_of ledger table) (hand_over e person))
@@ -84,11 +81,11 @@ module _ (ledger : Ledger) (table : List Party) where
       P : Decision → Type 0
       P decision = Matches ledger table (change_of entries decision) decision
 
-      by : (at : EntryAt) → entry_place (length entries) e ≡ at → P (hand_over_by (entry_at (books_of ledger table) e) person)
-      by (Place k) place =
+      by : (at : Option ℕ) → entry_place (length entries) e ≡ at → P (hand_over_by (entry_at (books_of ledger table) e) person)
+      by (Some k) place =
           subst (λ row. P (hand_over_by row person)) (sym (row_at ledger table e k place))
           (changed_matches all e k place (handed_to person) (handed_over e person) refl refl refl)
-      by NoSuchEntry missing = subst (λ row. P (hand_over_by row person)) (sym (none_at ledger table e missing)) (refused_matches (refusal no_such_entry 0 0))
+      by None missing = subst (λ row. P (hand_over_by row person)) (sym (none_at ledger table e missing)) (refused_matches (refusal no_such_entry 0 0))
 
   -- 13 comes before
   call_matches : (call : Call) (change : EntryChange) → (ledger.entries ≤ length table → Matches ledger table change (decided (books_of ledger table) call)) →

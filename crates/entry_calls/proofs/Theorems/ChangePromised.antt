@@ -11,8 +11,7 @@ use Rattle.calls.proofs.Theorems.Lists.{by_test}
 use Rattle.calls.specs.Decision.{Call, of_entry_call}
 use Rattle.calls.proofs.Theorems.Calls.{unsound_promised, promise_from}
 use Rattle.calls.specs.Calls.{state_of, answered, leaves, Promised}
-use Rattle.entry_calls.specs.EntryCalls.{refused_change, changed_table}
-use Rattle.entry_calls.specs.declared.EntryChange.{EntryChange}
+use Rattle.entry_calls.specs.EntryCalls.{EntryChange, refused_change, changed_table}
 
 -- where the records have the table's entries, the change answers and leaves what the call does
 abbrev pub IsCall : Ledger → List Party → List Party → Call → EntryChange → Type 0

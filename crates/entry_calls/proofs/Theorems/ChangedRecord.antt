@@ -1,5 +1,5 @@
 -- Where the answer is "done", the change is of one entry's record: what a caller that stores it has to know.
-use Rattle.std.specs.Prelude.{ℕ, ◌+◌, ◌<◌, ◌≡◌, refl, List, Bool, true, false, cond, length, take, get_or, leb}
+use Rattle.std.specs.Prelude.{ℕ, ◌+◌, ◌<◌, ◌≡◌, refl, List, Bool, true, false, cond, length, take, get_or, leb, None, Ok, Option, Some}
 use Rattle.std.proofs.Common.{arith}
 use Rattle.tagged.specs.File.{refusal}
 use Rattle.tagged.proofs.Theorems.Impossible.{impossible}
@@ -11,22 +11,18 @@ use Rattle.ledger.specs.Books.{EntryParticulars, entry_at, books_of}
 use Rattle.ledger.specs.Lookup.{entry_place}
 use Rattle.ledger.proofs.Theorems.Lookup.{entry_placed}
 use Rattle.ledger.specs.Sound.{sound}
-use Rattle.ledger.specs.declared.lookup.EntryAt.{EntryAt}
-use Rattle.ledger.specs.declared.lookup.EntryAt.TheVariants.{Place, NoSuchEntry}
 use Rattle.ledger.specs.declared.records.Party.{Party}
 use Rattle.ledger.specs.declared.records.Ledger.{Ledger}
 use Rattle.calls.specs.Decision.{pay_out, hand_over, paid_out, refused, pay_out_by, hand_over_by}
 use Rattle.calls.proofs.Theorems.Lists.{by_cond}
-use Rattle.calls.specs.declared.answers.Answer.TheVariants.{Done}
-use Rattle.entry_calls.specs.EntryCalls.{refused_by, refused_change, changed_at, paid_more, handed_to, change_of, entry_change, pay_out_change, hand_over_change}
-use Rattle.entry_calls.specs.declared.EntryChange.{EntryChange}
+use Rattle.entry_calls.specs.EntryCalls.{EntryChange, refused_by, refused_change, changed_at, paid_more, handed_to, change_of, entry_change, pay_out_change, hand_over_change}
 
 pub record Changed (entries : List Party) (update : Party → Party) (change : EntryChange) : Type 0 where
   pub below : change.place < length entries
   pub updated : change.party ≡ update (get_or entries change.place no_party)
 
 abbrev pub IfDone : List Party → (Party → Party) → EntryChange → Type 0
-IfDone entries update change = change.answer ≡ Done → Changed entries update change
+IfDone entries update change = change.answer ≡ Ok tt → Changed entries update change
 
 module _ (entries : List Party) (update : Party → Party) where
   refused_none : (r : Refusal) → IfDone entries update (refused_by r)
@@ -35,12 +31,12 @@ module _ (entries : List Party) (update : Party → Party) where
   at_place : (n : ℕ) → IfDone entries update (changed_at entries update (entry_place (length entries) n))
   at_place n = by (entry_place (length entries) n) refl
     where
-      by : (at : EntryAt) → entry_place (length entries) n ≡ at → IfDone entries update (changed_at entries update at)
-      by (Place k) place =
+      by : (at : Option ℕ) → entry_place (length entries) n ≡ at → IfDone entries update (changed_at entries update at)
+      by (Some k) place =
           λ done.
           let placed = entry_placed (length entries) n k place in
           record { below = omega (arith, placed.kept, placed.next); updated = refl }
-      by NoSuchEntry missing = refused_none (refusal no_such_entry 0 0)
+      by None missing = refused_none (refusal no_such_entry 0 0)
 
   judged : (holds : Bool) (change : EntryChange) → IfDone entries update change → IfDone entries update (cond holds change (refused_change ledger_unsound))
   judged true change h = h

@@ -1,5 +1,5 @@
 -- When pay-out and hand-over answer what, and what they leave: the entry's record changed at its place, every other as it was.
-use Rattle.std.specs.Prelude.{ℕ, ◌+◌, ◌<◌, ◌≤◌, ◌≡◌, refl, List, true, false, length, take, get_or, set}
+use Rattle.std.specs.Prelude.{ℕ, ◌+◌, ◌<◌, ◌≤◌, ◌≡◌, refl, List, true, false, length, take, get_or, set, Err, None, Ok, Some}
 use Rattle.std.proofs.Common.{sym, ap, ◌∙◌, length-take-le, get_or-set_other}
 use Rattle.tagged.specs.File.{refusal}
 use Rattle.tagged.specs.Refusals.{no_such_entry, pay_out_above_credit, ledger_unsound}
@@ -8,18 +8,14 @@ use Rattle.ledger.specs.Lookup.{entry_place, Placed}
 use Rattle.ledger.proofs.Theorems.Lookup.{by_number, placed_entry}
 use Rattle.ledger.specs.Sound.{sound}
 use Rattle.ledger.proofs.Theorems.Sound.{sound_means}
-use Rattle.ledger.specs.declared.lookup.EntryAt.TheVariants.{Place, NoSuchEntry}
 use Rattle.ledger.specs.declared.records.Party.{Party}
 use Rattle.ledger.specs.declared.records.Ledger.{Ledger}
 use Rattle.calls.specs.Calls.{state_of, answered, leaves}
 use Rattle.calls.specs.Carried.{State}
-use Rattle.calls.specs.Decision.{CallAnswer, pay_out, hand_over, is_done, is_refused, of_entry_call}
-use Rattle.calls.specs.declared.answers.Answer.{Answer}
-use Rattle.calls.specs.declared.answers.Answer.TheVariants.{Done, Refused}
-use Rattle.entry_calls.specs.EntryCalls.{refused_change, done_change, paid_more, handed_to, pay_out_change, hand_over_change, changed_table}
+use Rattle.calls.specs.Decision.{CallAnswer, pay_out, hand_over, is_done, is_refused, of_entry_call, Answer}
+use Rattle.entry_calls.specs.EntryCalls.{EntryChange, refused_change, done_change, paid_more, handed_to, pay_out_change, hand_over_change, changed_table}
 use Rattle.entry_calls.proofs.Theorems.EntryCalls.{pay_out_within, pay_out_above, pay_out_missing, hand_over_there, hand_over_missing}
 use Rattle.entry_calls.proofs.Theorems.ChangeIsCall.{pay_out_is_call, hand_over_is_call}
-use Rattle.entry_calls.specs.declared.EntryChange.{EntryChange}
 
 -- the change over the whole table says what the call answers and leaves
 known : (ledger : Ledger) (table : List Party) (change is : EntryChange) {answer : CallAnswer} {after : State} → change ≡ is →
@@ -44,11 +40,11 @@ module _ (ledger : Ledger) (table : List Party) (e : ℕ) where
     every_entry = length-take-le ledger.entries table (sound_means ledger table (length table) stands).in_table
 
     module _ (missing : 1 ≤ e → e ≤ ledger.entries → ⊥) where
-      no_place : entry_place (length (take ledger.entries table)) e ≡ NoSuchEntry
+      no_place : entry_place (length (take ledger.entries table)) e ≡ None
       unfolding entry_place
       no_place =
           rw every_entry
-          (by_number NoSuchEntry Place ledger.entries e (λ at. at ≡ NoSuchEntry) (λ k placed. absurd (missing placed.numbered placed.kept))
+          (by_number None Some ledger.entries e (λ at. at ≡ None) (λ k placed. absurd (missing placed.numbered placed.kept))
           (λ none. refl))
 
       pub pay_out_refused_11 : (amount : ℕ) → answered (state_of ledger table) (pay_out e amount) ≡ is_refused (refusal no_such_entry 0 0)
@@ -68,7 +64,7 @@ module _ (ledger : Ledger) (table : List Party) (e : ℕ) where
       abbrev party : Party
       party = get_or table k no_party
 
-      place : entry_place (length (take ledger.entries table)) e ≡ Place k
+      place : entry_place (length (take ledger.entries table)) e ≡ Some k
       place = rw every_entry (placed_entry ledger.entries e k placed)
 
       pub pay_out_refused_12 : (amount : ℕ) → party.credited < party.paid_out + amount →
@@ -100,5 +96,5 @@ pub other_records_kept : (table : List Party) (change : EntryChange) (j : ℕ) �
 other_records_kept table change j other = kept change.answer
   where
     kept : (answer : Answer) → get_or (changed_table table (record { answer = answer; place = change.place; party = change.party })) j no_party ≡ get_or table j no_party
-    kept Done = get_or-set_other table change.place j change.party no_party other
-    kept (Refused r) = refl
+    kept (Ok _) = get_or-set_other table change.place j change.party no_party other
+    kept (Err r) = refl

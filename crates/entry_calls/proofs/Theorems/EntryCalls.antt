@@ -1,5 +1,5 @@
 -- What each call makes of the entry at a place, and of a number that has none.
-use Rattle.std.specs.Prelude.{ℕ, ◌+◌, ◌<◌, ◌≤◌, ◌≡◌, List, length, take, get_or}
+use Rattle.std.specs.Prelude.{ℕ, ◌+◌, ◌<◌, ◌≤◌, ◌≡◌, List, length, take, get_or, None, Some}
 use Rattle.std.proofs.Math.Path.{ap}
 use Rattle.std.proofs.Common.{ap₂, ◌∙◌, le_refl, arith, length-take, get_or-take, le-leb}
 use Rattle.std.proofs.Math.Seq.{take-length}
@@ -11,7 +11,6 @@ use Rattle.ledger.specs.Books.{entry_at, entry_particulars, books_of}
 use Rattle.ledger.specs.Lookup.{entry_place}
 use Rattle.ledger.proofs.Theorems.Lookup.{entry_placed}
 use Rattle.ledger.specs.Updates.{with_entries}
-use Rattle.ledger.specs.declared.lookup.EntryAt.TheVariants.{Place, NoSuchEntry}
 use Rattle.ledger.specs.declared.records.Party.{Party}
 use Rattle.ledger.specs.declared.records.Ledger.{Ledger}
 use Rattle.calls.proofs.Theorems.ByPlace.{entry_found, entry_by_place}
@@ -25,7 +24,7 @@ module _ (ledger : Ledger) (parties : List Party) (e : ℕ) where
       let held : List Party = take ledger.entries parties in
       rw (take-length held) at (entry_by_place (with_entries (length held) ledger) held e (le_refl (length held)))
 
-  module _ (k : ℕ) (place : entry_place (length (take ledger.entries parties)) e ≡ Place k) where
+  module _ (k : ℕ) (place : entry_place (length (take ledger.entries parties)) e ≡ Some k) where
     abbrev party : Party
     party = get_or parties k no_party
 
@@ -58,7 +57,7 @@ module _ (ledger : Ledger) (parties : List Party) (e : ℕ) where
     unfolding entry_change
     hand_over_there person = ap (λ row. change_of (take ledger.entries parties) (hand_over_by row person)) row_at ∙ rw (place, same)
 
-  module _ (missing : entry_place (length (take ledger.entries parties)) e ≡ NoSuchEntry) where
+  module _ (missing : entry_place (length (take ledger.entries parties)) e ≡ None) where
     pub none_at : entry_at (books_of ledger parties) e ≡ none
     none_at = found_at ∙ ap (entry_found (take ledger.entries parties)) missing
 

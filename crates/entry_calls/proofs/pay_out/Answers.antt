@@ -1,13 +1,16 @@
--- 13, and then the change without it.
-use Rattle.std.proofs.Common.{ap, not}
-use Rattle.entry_calls.specs.EntryCalls.{pay_out_change}
-use borrow.Author.Tests.{not-true, not-false}
+-- 13, and then the change that keeps the promise.
+use Rattle.std.proofs.Common.{sym, ◌∙◌}
+use Rattle.calls.proofs.Theorems.Calls.{unsound_promised}
+use Rattle.calls.specs.Decision.{pay_out}
+use Rattle.calls.specs.Calls.{state_of}
+use Rattle.entry_calls.proofs.Kept.{pay_out_kept}
 use Rattle.entry_calls.proofs.pay_out.Goals as goal
 
-pub returns-then-not-sound : goal.returns-then-not-sound
-unfolding pay_out_change
-returns-then-not-sound c = rw (← c.sound.ensures, not-true c.sound.result (ap not c.if-not-sound.true)) c.refused.ensures
+pub returns-then-not-is_sound : goal.returns-then-not-is_sound
+returns-then-not-is_sound c =
+    rw c.of_call.ensures (unsound_promised (state_of c.args.ledger.now c.args.table.now) (pay_out c.args.entry c.args.amount) (sym c.is_sound.ensures.holds ∙ c.if-not-is_sound.true))
 
 pub returns : goal.returns
-unfolding pay_out_change
-returns c = rw (← c.sound.ensures, not-false c.sound.result (ap not c.if-not-sound.false)) c.pay_out_sound.ensures
+returns c =
+    pay_out_kept c.args.ledger.now c.args.table.now (sym c.is_sound.ensures.holds ∙ c.if-not-is_sound.false) c.args.entry c.args.amount
+    c.pay_out_sound.ensures.answer c.pay_out_sound.ensures.after

@@ -1,14 +1,12 @@
 -- Pay-out and hand-over at their boundaries: one scheme, two entries, the first with a standing credit of 600. Every expected side is a literal.
-use Rattle.std.specs.Prelude.{ℕ, ◌≡◌, refl, List, [], ◌∷◌, map, replicate}
+use Rattle.std.specs.Prelude.{ℕ, ◌≡◌, refl, List, [], ◌∷◌, map, replicate, Err, Ok}
 use Rattle.ledger.specs.Records.{scheme_of, party_of, ledger_of, no_scheme}
 use Rattle.ledger.specs.Columns.{sum_over, first_put_in}
 use Rattle.ledger.specs.Lookup.{scheme_place, entry_place}
 use Rattle.ledger.specs.Sound.{parties_sound, schemes_sound, all_zero, sound}
 use Rattle.ledger.specs.declared.records.Party.{Party}
 use Rattle.ledger.specs.declared.records.Ledger.{Ledger}
-use Rattle.calls.specs.declared.answers.Answer.TheVariants.{Done, Refused}
-use Rattle.entry_calls.specs.EntryCalls.{entry_change, pay_out_change, hand_over_change}
-use Rattle.entry_calls.specs.declared.EntryChange.{EntryChange}
+use Rattle.entry_calls.specs.EntryCalls.{EntryChange, entry_change, pay_out_change, hand_over_change}
 
 -- cost 3000 borne by the first entry; the joiner paid 1000, of which 100 are fees and 900 credited to the first
 abbrev ledger : Ledger
@@ -19,10 +17,10 @@ parties = party_of 1 7 20 3000 900 300 ∷ party_of 1 8 10 1000 0 0 ∷ []
 
 -- the place and its record
 abbrev done : ℕ → Party → EntryChange
-done place party = record { answer = Done; place = place; party = party }
+done place party = record { answer = Ok tt; place = place; party = party }
 
 abbrev refused : ℕ → EntryChange
-refused number = record { answer = Refused (record { number = number; file = 0; place = 0 }); place = 0; party = party_of 0 0 0 0 0 0 }
+refused number = record { answer = Err (record { number = number; file = 0; place = 0 }); place = 0; party = party_of 0 0 0 0 0 0 }
 
 -- the table's length, entry and amount, and the change
 abbrev pay_outs : List ((ℕ × ℕ × ℕ) × EntryChange)

@@ -1,10 +1,8 @@
 -- The cases of specs/Cases/Accounts.antt hold.
-use Rattle.std.specs.Prelude.{◌≡◌, refl, List, [], ◌∷◌}
+use Rattle.std.specs.Prelude.{◌≡◌, refl, List, [], ◌∷◌, Ok}
 use Rattle.std.proofs.Common.{sym, ap, subst}
-use Rattle.charge.specs.Price.{price_of}
+use Rattle.charge.specs.Price.{price_of, Pricing}
 use Rattle.charge.specs.Cases.MarkedFigures.{slip_book, scheme_request, scheme_bill, scheme_bills}
-use Rattle.charge.specs.declared.Pricing.{Pricing}
-use Rattle.charge.specs.declared.Pricing.TheVariants.{Priced}
 use Rattle.ledger.specs.Books.{Books}
 use Rattle.calls.specs.Verdict.{verdict}
 use Rattle.calls.specs.Decision.{pay_out, hand_over, Decision}
@@ -28,8 +26,8 @@ rules opening joining other last =
 
 abbrev billed : List (Books → Decision)
 billed =
-    rules (Priced (scheme_bill 6000000 24315 10000 0)) (Priced (scheme_bill 1039630 24315 5000 1)) (Priced (scheme_bill 5000001 24315 10000 0))
-    (Priced (scheme_bill 1039630 24398 5000 1))
+    rules (Ok (scheme_bill 6000000 24315 10000 0)) (Ok (scheme_bill 1039630 24315 5000 1)) (Ok (scheme_bill 5000001 24315 10000 0))
+    (Ok (scheme_bill 1039630 24398 5000 1))
 
 unfoldable pub marked_by_bills : History
 marked_by_bills = history_by 4 no_history billed

@@ -1,9 +1,7 @@
 -- The cases of specs/Cases/BuildingOn.antt hold.
-use Rattle.std.specs.Prelude.{◌≡◌, refl, List, [], ◌∷◌}
+use Rattle.std.specs.Prelude.{◌≡◌, refl, List, [], ◌∷◌, Ok}
 use Rattle.std.proofs.Common.{sym, subst}
-use Rattle.charge.specs.Price.{price_of}
-use Rattle.charge.specs.declared.Pricing.{Pricing}
-use Rattle.charge.specs.declared.Pricing.TheVariants.{Priced}
+use Rattle.charge.specs.Price.{price_of, Pricing}
 use Rattle.ledger.specs.Books.{Books}
 use Rattle.calls.specs.Verdict.{verdict}
 use Rattle.calls.specs.Decision.{pay_out, Decision}
@@ -19,8 +17,8 @@ rules opening building first second = priced_as opening ∷ priced_as building �
 
 abbrev billed : List (Books → Decision)
 billed =
-    rules (Priced (building_bill first_terms 6000000 10000 0)) (Priced (building_bill second_terms 5000001 5000 1)) (Priced (building_bill first_terms 0 5000 1))
-    (Priced (building_bill first_terms 0 5000 2))
+    rules (Ok (building_bill first_terms 6000000 10000 0)) (Ok (building_bill second_terms 5000001 5000 1)) (Ok (building_bill first_terms 0 5000 1))
+    (Ok (building_bill first_terms 0 5000 2))
 
 rules_priced : rules (price_of (book_of first_terms) (building_request 6000000 10000 0)) (price_of (book_of second_terms) (building_request 5000001 5000 1))
     (price_of (book_of first_terms) (building_request 0 5000 1)) (price_of (book_of first_terms) (building_request 0 5000 2))

@@ -1,6 +1,6 @@
 -- A list of calls by its decisions, so that a history is computed by its bills.
 use Rattle.std.specs.Prelude.{ℕ, List, [], ◌∷◌}
-use Rattle.charge.specs.declared.Pricing.{Pricing}
+use Rattle.charge.specs.Price.{Pricing}
 use Rattle.ledger.specs.Books.{Books}
 use Rattle.calls.specs.Decision.{Call, Decision, accept_by, decided, CallAnswer, answer_to}
 use Rattle.history.specs.History.{History, books_in, recorded}

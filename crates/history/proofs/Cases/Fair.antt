@@ -1,7 +1,6 @@
 -- The cases of specs/Cases/Fair.antt hold.
-use Rattle.std.specs.Prelude.{◌≡◌, refl, [], ◌∷◌}
+use Rattle.std.specs.Prelude.{◌≡◌, refl, [], ◌∷◌, Ok}
 use Rattle.std.proofs.Common.{sym, subst, arith}
-use Rattle.charge.specs.declared.Pricing.TheVariants.{Priced}
 use Rattle.calls.specs.Verdict.{verdict}
 use Rattle.history.specs.History.{History, account_of, history_from, no_history, history_of}
 use Rattle.history.specs.Cases.CentsBook.{cents_bill}
@@ -13,7 +12,7 @@ use Rattle.history.specs.Cases.Fair.{cents_calls, TightIn, TightBounds}
 
 unfoldable cents_by_bills : History
 cents_by_bills =
-    history_by 3 no_history (priced_as (Priced (cents_bill 10 19 0)) ∷ priced_as (Priced (cents_bill 0 8 1)) ∷ priced_as (Priced (cents_bill 0 215 1)) ∷ [])
+    history_by 3 no_history (priced_as (Ok (cents_bill 10 19 0)) ∷ priced_as (Ok (cents_bill 0 8 1)) ∷ priced_as (Ok (cents_bill 0 215 1)) ∷ [])
 
 cents_by_bills_lem : history_of 3 cents_calls ≡ cents_by_bills
 unfolding history_from history_by cents_by_bills

@@ -1,22 +1,18 @@
 -- An accept is counted by its two answers: the joiner's entering is in the account of the scheme that the bill joins, the opener's in that of the next scheme, and
 -- each figure is a sum over the account, to which either adds its own.
-use Rattle.std.specs.Prelude.{ℕ, ◌+◌, ◌≡◌, refl, List, ◌∷◌, Bool, true, false, cond, eqb}
+use Rattle.std.specs.Prelude.{ℕ, ◌+◌, ◌≡◌, refl, List, ◌∷◌, Bool, true, false, cond, eqb, Err, None, Ok, Some}
 use Rattle.std.proofs.Common.{sym, ap, subst, ◌∙◌, arith}
 use Rattle.tagged.proofs.Theorems.Impossible.{impossible}
 use Rattle.charge.specs.Price.{price_of}
 use Rattle.charge.specs.declared.Bill.{Bill}
-use Rattle.charge.specs.declared.Pricing.TheVariants.{Priced}
 use Rattle.ledger.specs.Lists.{cons_if, sum_by}
 use Rattle.calls.specs.Rules.{Credit}
-use Rattle.calls.specs.Verdict.{verdict}
+use Rattle.calls.specs.Verdict.{verdict, Verdict}
 use Rattle.calls.specs.Decision.{accept, accepted, credits_by, decided_by, accept_by, is_accepted, joining_answer, opening_answer, acceptance_of, answer_to}
 use Rattle.calls.specs.declared.courses.Joining.{Joining}
 use Rattle.calls.specs.declared.courses.Joining.TheVariants.{NotAsked, Ended, Small, Pays}
 use Rattle.calls.specs.declared.courses.Course.{Course}
-use Rattle.calls.specs.declared.courses.Verdict.{Verdict}
-use Rattle.calls.specs.declared.courses.Verdict.TheVariants.{Accepts, Refuses}
 use Rattle.calls.specs.declared.answers.Acceptance.{Acceptance}
-use Rattle.calls.specs.declared.answers.OpeningAnswer.TheVariants as OpeningAnswer
 use Rattle.history.specs.History.{Entering, History, enterings_of, books_in, billed_in, joiner, opener, joined_in, opened_in, recorded, with_call, answer_by}
 use Rattle.history.specs.CountedByAnswers.{joinings_by, collected_by, cost_by, CountedByAnswers}
 
@@ -123,7 +119,7 @@ module _ (history : History) (bill : Bill) (credits : List Credit) where
         ))
       where
         is : (opens : Bool) → cond opens (cond (eqb between.next_scheme s) bill.reconciliation.x 0) 0
-            ≡ cost_by s bill (cond opens (OpeningAnswer.Opened history.next_scheme) OpeningAnswer.NotOpened)
+            ≡ cost_by s bill (cond opens (Some history.next_scheme) None)
         is false = refl
         is true = ap (λ n. cond (eqb n s) bill.reconciliation.x 0) (next_scheme_kept course.joining)
 
@@ -152,7 +148,7 @@ module _ (history : History) (bill : Bill) (credits : List Credit) where
 
 -- every accept in a list of calls
 pub counted_by_answers : (room : ℕ) (history : History) (book request : List ℕ) (bill : Bill) (acceptance : Acceptance) →
-    price_of book request ≡ Priced bill → answer_by room history (accept book request) ≡ is_accepted acceptance →
+    price_of book request ≡ Ok bill → answer_by room history (accept book request) ≡ is_accepted acceptance →
     CountedByAnswers history bill acceptance (with_call room history (accept book request))
 counted_by_answers room history book request bill acceptance priced =
     subst
@@ -163,8 +159,8 @@ counted_by_answers room history book request bill acceptance priced =
   where
     by_verdict : (v : Verdict) → answer_to (books_in room history) (decided_by (books_in room history) bill v) ≡ is_accepted acceptance →
         CountedByAnswers history bill acceptance (recorded history (decided_by (books_in room history) bill v))
-    by_verdict (Accepts course) e =
+    by_verdict (Ok course) e =
         let credits = credits_by (books_in room history) bill course.joining in
         let is : acceptance_of (books_in room history) bill course ≡ acceptance = cc e in
         subst (λ a. CountedByAnswers history bill a (recorded history (accepted bill course credits))) is (counted history bill credits room course)
-    by_verdict (Refuses number) e = impossible cc
+    by_verdict (Err number) e = impossible cc

@@ -1,6 +1,6 @@
 -- M7 as a history from bytes: its opening and its two joinings, another scheme between them, then a pay-out and a hand-over, and calls that are refused.
 -- Every figure of the history stands here as a literal.
-use Rattle.std.specs.Prelude.{ℕ, ◌≡◌, Bool, true, false, List, [], ◌∷◌, replicate}
+use Rattle.std.specs.Prelude.{ℕ, ◌≡◌, Bool, true, false, List, [], ◌∷◌, replicate, None, Option, Some}
 use Rattle.tagged.specs.File.{refusal}
 use Rattle.charge.specs.Cases.MarkedFigures.{slip_book, scheme_request, scheme_bill}
 use Rattle.charge.specs.declared.Bill.{Bill}
@@ -10,8 +10,6 @@ use Rattle.calls.specs.Rules.{Credit}
 use Rattle.calls.specs.Decision.{Call, accept, pay_out, hand_over, CallAnswer, is_accepted, is_done, is_refused}
 use Rattle.calls.specs.declared.answers.JoiningAnswer.{JoiningAnswer}
 use Rattle.calls.specs.declared.answers.JoiningAnswer.TheVariants.{NotAsked, Joined}
-use Rattle.calls.specs.declared.answers.OpeningAnswer.{OpeningAnswer}
-use Rattle.calls.specs.declared.answers.OpeningAnswer.TheVariants.{NotOpened, Opened}
 use Rattle.history.specs.History.{Entering, History, Account, account_of, cost, fee, joinings, collected, fees, credited, paid_of, standing_credits, capacity, put_ins, credited_to, paid_to, person_of, connections, charged, borne, cost_entered, openings, times, books_in, ledger_in, parties_in, history_of, answers_of}
 use Rattle.history.specs.DemandThree.{Balanced}
 
@@ -88,7 +86,7 @@ abbrev entry_particulars : ℕ → ℕ → ℕ → ℕ → ℕ → EntryParticul
 entry_particulars number scheme capacity credited paid_out =
     record { number = number; scheme = scheme; capacity = capacity; credited = credited; paid_out = paid_out }
 
-abbrev pub accepted : Bill → JoiningAnswer → OpeningAnswer → CallAnswer
+abbrev pub accepted : Bill → JoiningAnswer → Option ℕ → CallAnswer
 accepted bill joining opening = is_accepted (record { reconciliation = bill.reconciliation; joining = joining; opening = opening })
 
 abbrev pub joined : ℕ → ℕ → JoiningAnswer
@@ -193,10 +191,10 @@ pub record HistoryIs (history : History) (answers : List CallAnswer) : Type 0 wh
       []
   pub answered :
       answers
-      ≡ accepted (scheme_bill 6000000 24315 10000 0) NotAsked (Opened 1) ∷
-      accepted (scheme_bill 1039630 24315 5000 1) (joined 2 2000000) NotOpened ∷
-      accepted (scheme_bill 5000001 24315 10000 0) NotAsked (Opened 2) ∷
-      accepted (scheme_bill 1039630 24398 5000 1) (joined 4 1500000) NotOpened ∷
+      ≡ accepted (scheme_bill 6000000 24315 10000 0) NotAsked (Some 1) ∷
+      accepted (scheme_bill 1039630 24315 5000 1) (joined 2 2000000) None ∷
+      accepted (scheme_bill 5000001 24315 10000 0) NotAsked (Some 2) ∷
+      accepted (scheme_bill 1039630 24398 5000 1) (joined 4 1500000) None ∷
       is_refused (refusal 7 0 0) ∷
       is_done ∷
       is_refused (refusal 12 0 0) ∷

@@ -1,11 +1,10 @@
 -- Two books of share 0 and threshold 5,000,000, and requests of ME alone, which is then X; and what pricing is to make of them.
-use Rattle.std.specs.Prelude.{ℕ, ◌≡◌, List, ◌∷◌, replicate}
+use Rattle.std.specs.Prelude.{ℕ, ◌≡◌, List, ◌∷◌, replicate, Ok}
 use Rattle.reconciliation.specs.Reconciliation.{reconciliation_of}
 use Rattle.charge.specs.Price.{price_of}
 use Rattle.charge.specs.Cases.MarkedFigures.{tier, connection, request_by}
 use Rattle.charge.specs.declared.Terms.{Terms}
 use Rattle.charge.specs.declared.Bill.{Bill}
-use Rattle.charge.specs.declared.Pricing.TheVariants.{Priced}
 use Rattle.history.specs.Cases.CentsBook.{book_with}
 
 -- the first extension's terms, and those of the joiner who builds on
@@ -31,4 +30,4 @@ building_bill terms me capacity scheme =
     }
 
 abbrev pub BuildingBilled : Terms → ℕ → ℕ → ℕ → Type 0
-BuildingBilled terms me capacity scheme = price_of (book_of terms) (building_request me capacity scheme) ≡ Priced (building_bill terms me capacity scheme)
+BuildingBilled terms me capacity scheme = price_of (book_of terms) (building_request me capacity scheme) ≡ Ok (building_bill terms me capacity scheme)

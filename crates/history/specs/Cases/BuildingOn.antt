@@ -1,10 +1,9 @@
 -- Document 02, E4: a joiner who builds on, as a history from bytes, by books of different fee, minimum and term. Both schemes are joined later, and each counts the
 -- accept by its own answer: entry 3, with which the second scheme opens, is no party of the first. Every figure stands here as a literal.
-use Rattle.std.specs.Prelude.{◌≡◌, true, false, List, [], ◌∷◌, replicate}
+use Rattle.std.specs.Prelude.{◌≡◌, true, false, List, [], ◌∷◌, replicate, None, Some}
 use Rattle.ledger.specs.Records.{scheme_of, party_of, ledger_of, no_scheme}
 use Rattle.calls.specs.Decision.{Call, accept, pay_out, CallAnswer, is_done}
 use Rattle.calls.specs.declared.answers.JoiningAnswer.TheVariants.{NotAsked}
-use Rattle.calls.specs.declared.answers.OpeningAnswer.TheVariants.{NotOpened, Opened}
 use Rattle.history.specs.History.{History, account_of, connections, charged, borne, cost_entered, ledger_in, parties_in, history_of, answers_of}
 use Rattle.history.specs.DemandThree.{Balanced}
 use Rattle.history.specs.Cases.BuildingBooks.{first_terms, second_terms, book_of, building_request, building_bill}
@@ -75,10 +74,10 @@ pub record BuiltOn (history : History) (answers : List CallAnswer) : Type 0 wher
       []
   pub answered :
       answers
-      ≡ accepted (building_bill first_terms 6000000 10000 0) NotAsked (Opened 1) ∷
-      accepted (building_bill second_terms 5000001 5000 1) (joined 2 2000000) (Opened 2) ∷
-      accepted (building_bill first_terms 0 5000 1) (joined 4 1500000) NotOpened ∷
-      accepted (building_bill first_terms 0 5000 2) (joined 5 2500000) NotOpened ∷
+      ≡ accepted (building_bill first_terms 6000000 10000 0) NotAsked (Some 1) ∷
+      accepted (building_bill second_terms 5000001 5000 1) (joined 2 2000000) (Some 2) ∷
+      accepted (building_bill first_terms 0 5000 1) (joined 4 1500000) None ∷
+      accepted (building_bill first_terms 0 5000 2) (joined 5 2500000) None ∷
       is_done ∷
       []
 

@@ -1,5 +1,5 @@
 -- A book of a few cents and its requests, and what pricing is to make of them.
-use Rattle.std.specs.Prelude.{ℕ, ◌≡◌, replicate}
+use Rattle.std.specs.Prelude.{ℕ, ◌≡◌, replicate, Ok}
 use mathlib.Core.List.{List, [], ◌∷◌, ◌++◌, flat_map}
 use Rattle.numbers.specs.BigEndian.{bytes_of}
 use Rattle.tagged.specs.Encoded.{closed}
@@ -8,7 +8,6 @@ use Rattle.reconciliation.specs.Reconciliation.{reconciliation_of}
 use Rattle.charge.specs.Price.{price_of}
 use Rattle.charge.specs.Cases.MarkedFigures.{slip_tiers, connection, request_by}
 use Rattle.charge.specs.declared.Bill.{Bill}
-use Rattle.charge.specs.declared.Pricing.TheVariants.{Priced}
 
 -- the slip's book but for threshold, fee, minimum, term and credit share
 abbrev pub book_with : ℕ → ℕ → ℕ → ℕ → ℕ → List ℕ
@@ -41,4 +40,4 @@ cents_bill x capacity scheme =
     }
 
 abbrev pub CentsBilled : ℕ → ℕ → ℕ → Type 0
-CentsBilled x capacity scheme = price_of cents_book (cents_request x capacity scheme) ≡ Priced (cents_bill x capacity scheme)
+CentsBilled x capacity scheme = price_of cents_book (cents_request x capacity scheme) ≡ Ok (cents_bill x capacity scheme)

@@ -1,25 +1,21 @@
 -- What holds of every decision on some books, by its kind, with what the books showed when it was made.
-use Rattle.std.specs.Prelude.{ℕ, ◌+◌, ◌≤◌, ◌≡◌, refl, List, leb}
+use Rattle.std.specs.Prelude.{ℕ, ◌+◌, ◌≤◌, ◌≡◌, refl, List, leb, Err, Ok}
 use Rattle.std.proofs.Common.{leb-true}
 use Rattle.tagged.specs.declared.file.Refusal.{Refusal}
-use Rattle.charge.specs.Price.{price_of}
+use Rattle.charge.specs.Price.{price_of, Pricing}
 use Rattle.charge.specs.declared.Bill.{Bill}
-use Rattle.charge.specs.declared.Pricing.{Pricing}
-use Rattle.charge.specs.declared.Pricing.TheVariants.{Priced, NotPriced}
 use Rattle.ledger.specs.Lists.{Found, none, found}
 use Rattle.ledger.specs.Books.{EntryParticulars, Books, entry_at}
-use Rattle.calls.specs.Verdict.{verdict}
+use Rattle.calls.specs.Verdict.{verdict, Verdict}
 use Rattle.calls.specs.Decision.{Call, accept, pay_out, hand_over, Decision, accepted, paid_out, handed_over, refused, credits_by, decided_by, accept_by, pay_out_by, hand_over_by, decided}
 use Rattle.calls.proofs.Theorems.Lists.{by_cond}
 use Rattle.calls.proofs.Theorems.VerdictConditions.{CourseConditions, VerdictConditions, verdict_conditions}
 use Rattle.calls.specs.declared.courses.Course.{Course}
-use Rattle.calls.specs.declared.courses.Verdict.{Verdict}
-use Rattle.calls.specs.declared.courses.Verdict.TheVariants.{Accepts, Refuses}
 
 -- `Known` is what is known of the call, `P` what is to hold of the decision
 pub record EachDecision (Known : Call → Type 0) (books : Books) (P : Decision → Type 0) : Type 0 where
   pub refuses : (r : Refusal) → P (refused r)
-  pub accepts : (book request : List ℕ) → Known (accept book request) → (bill : Bill) → price_of book request ≡ Priced bill → (course : Course) →
+  pub accepts : (book request : List ℕ) → Known (accept book request) → (bill : Bill) → price_of book request ≡ Ok bill → (course : Course) →
       CourseConditions books bill course → P (accepted bill course (credits_by books bill course.joining))
   pub pays_out : (e amount : ℕ) (row : EntryParticulars) → entry_at books e ≡ found row → row.paid_out + amount ≤ row.credited →
       P (paid_out row.scheme row.number amount)
@@ -30,12 +26,12 @@ pub by_decision : {Known : Call → Type 0} {books : Books} {P : Decision → Ty
 by_decision {books} {P} each (accept book request) known = priced (price_of book request) refl
   where
     priced : (pricing : Pricing) → price_of book request ≡ pricing → P (accept_by books pricing)
-    priced (Priced bill) is = judged (verdict books bill) (verdict_conditions books bill)
+    priced (Ok bill) is = judged (verdict books bill) (verdict_conditions books bill)
       where
         judged : (v : Verdict) → VerdictConditions books bill v → P (decided_by books bill v)
-        judged (Accepts course) has = each.accepts book request known bill is course has
-        judged (Refuses number) has = each.refuses _
-    priced (NotPriced r) is = each.refuses r
+        judged (Ok course) has = each.accepts book request known bill is course has
+        judged (Err number) has = each.refuses _
+    priced (Err r) is = each.refuses r
 by_decision {books} {P} each (pay_out e amount) known = at_entry (entry_at books e) refl
   where
     at_entry : (at : Found EntryParticulars) → entry_at books e ≡ at → P (pay_out_by at amount)

@@ -1,6 +1,6 @@
 -- One entry more, and what the earlier ones are credited, keep a ledger sound where each scheme's account stays balanced: what an entry was credited is
 -- then at most what its scheme's entries put in.
-use Rattle.std.specs.Prelude.{ℕ, ◌+◌, ◌*◌, ◌-◌, ◌<◌, ◌≤◌, ◌≡◌, refl, List, [], Bool, true, false, ◌⊎◌, length, get_or, set, eqb}
+use Rattle.std.specs.Prelude.{ℕ, ◌+◌, ◌*◌, ◌-◌, ◌<◌, ◌≤◌, ◌≡◌, refl, List, [], Bool, true, false, ◌⊎◌, length, get_or, set, eqb, Some}
 use Rattle.std.proofs.Common.{sym, ap, ◌∙◌, inl, inr, arith, length-take, length-set, eqb-true}
 use Rattle.std.proofs.lemmas.List.{length-map}
 use Rattle.std.proofs.lemmas.Bool.{eqb-false}
@@ -20,7 +20,6 @@ use Rattle.ledger.specs.SoundConditions.{SoundParty, SoundScheme}
 use Rattle.ledger.specs.declared.records.Scheme.{Scheme}
 use Rattle.ledger.specs.declared.records.Party.{Party}
 use Rattle.calls.specs.Carried.{State, entries_on, new_party, new_scheme}
-use Rattle.ledger.specs.declared.lookup.SchemeAt.TheVariants as SchemeAt
 use Rattle.kept_sound.specs.SoundState.{SoundState}
 
 pub same_or_other : (a b : ℕ) → (a ≡ b) ⊎ (a ≡ b → ⊥)
@@ -30,7 +29,7 @@ same_or_other a b = by (eqb a b) refl
     by true e = inl (eqb-true a b e)
     by false e = inr (eqb-false a b e)
 
-pub place_of : (count s : ℕ) → 1 ≤ s → s ≤ count → scheme_place count s ≡ SchemeAt.Place (s - 1)
+pub place_of : (count s : ℕ) → 1 ≤ s → s ≤ count → scheme_place count s ≡ Some (s - 1)
 place_of count s numbered opened = placed_scheme count s (s - 1) (record { numbered = numbered; kept = opened; next = omega arith })
 
 -- ---- one scheme
@@ -172,7 +171,7 @@ pub record Enters (state : State) (new : NewEntry) : Type 0 where
   pub limit : new.count ≤ most_schemes
   pub grown : state.ledger.count ≤ new.count
   pub new_party_stands : SoundParty new.count new.party
-  pub each_scheme : (s k : ℕ) → scheme_place new.count s ≡ SchemeAt.Place k →
+  pub each_scheme : (s k : ℕ) → scheme_place new.count s ≡ Some k →
       SoundScheme state.ledger.month (entries_with state new) s (get_or new.schemes k no_scheme)
   pub rest_zero : (i : ℕ) → new.count ≤ i → get_or new.schemes i no_scheme ≡ no_scheme
 

@@ -1,6 +1,6 @@
 -- Every call leaves a sound ledger sound, whatever it answers, and the ledger's 64 places and the table's length as they are: a call that is refused changes
 -- nothing, and each step of one that isn't keeps them.
-use Rattle.std.specs.Prelude.{ℕ, ◌+◌, ◌≤◌, ◌≡◌, refl, true, length, get_or}
+use Rattle.std.specs.Prelude.{ℕ, ◌+◌, ◌≤◌, ◌≡◌, refl, true, length, get_or, None, Some}
 use Rattle.std.proofs.Common.{sym, ap, subst, ◌∙◌, arith}
 use Rattle.tagged.proofs.Theorems.Impossible.{impossible}
 use Rattle.charge.specs.BillLimits.{BillWithin}
@@ -24,7 +24,6 @@ use Rattle.calls.proofs.Theorems.VerdictConditions.{CourseConditions, JoiningCon
 use Rattle.calls.specs.declared.courses.Joining.{Joining}
 use Rattle.calls.specs.declared.courses.Joining.TheVariants.{NotAsked, Ended, Small, Pays}
 use Rattle.calls.specs.declared.courses.Course.{Course}
-use Rattle.ledger.specs.declared.lookup.EntryAt.TheVariants as EntryAt
 use Rattle.kept_sound.specs.SoundState.{SoundState, WholeState, Joinable}
 use Rattle.kept_sound.proofs.Theorems.EachDecision.{by_decision}
 use Rattle.kept_sound.proofs.Theorems.Lengths.{Lengths, changed_lengths, joined_state, joining_room, after_joining, opening_room, opening_place, accepted_lengths}
@@ -73,7 +72,7 @@ entry_placed : (state : State) (e : ℕ) (row : EntryParticulars) → state.ledg
     EntryPlaced state e row
 unfolding entry_place
 entry_placed state e row in_table is =
-    by_number EntryAt.NoSuchEntry EntryAt.Place state.ledger.entries e (λ at. entry_found state.table at ≡ found row → EntryPlaced state e row)
+    by_number None Some state.ledger.entries e (λ at. entry_found state.table at ≡ found row → EntryPlaced state e row)
     (λ k placed at.
     let number : 1 + k ≡ e = omega (arith, placed.next) in
     let shown : entry_particulars (1 + k) (get_or state.table k no_party) ≡ row = cc in

@@ -1,5 +1,5 @@
 -- Each step of a call keeps a sound ledger sound: what accept books, a joining and an opening.
-use Rattle.std.specs.Prelude.{ℕ, ◌+◌, ◌-◌, ◌<◌, ◌≤◌, ◌≡◌, refl, [], Bool, true, false, cond, ◌⊎◌, length, get_or, set}
+use Rattle.std.specs.Prelude.{ℕ, ◌+◌, ◌-◌, ◌<◌, ◌≤◌, ◌≡◌, refl, [], Bool, true, false, cond, ◌⊎◌, length, get_or, set, Some}
 use Rattle.std.proofs.Common.{sym, subst, ◌∙◌, inl, inr, arith, get_or-set_same, get_or-set_other}
 use Rattle.charge.specs.BillLimits.{BillWithin}
 use Rattle.charge.specs.declared.Bill.{Bill}
@@ -24,7 +24,6 @@ use Rattle.calls.specs.ByPlace.{credits_among}
 use Rattle.calls.specs.declared.courses.Contribution.{Contribution}
 use Rattle.calls.specs.declared.courses.Joining.{Joining}
 use Rattle.calls.specs.declared.courses.Joining.TheVariants.{NotAsked, Ended, Small, Pays}
-use Rattle.ledger.specs.declared.lookup.SchemeAt.TheVariants as SchemeAt
 use Rattle.kept_sound.specs.SoundState.{SoundState, WholeState, RoomFor, CanJoin, Joinable}
 use Rattle.kept_sound.proofs.Theorems.Entering.{same_or_other, place_of, Addition, credited_in, other_scheme, joined_scheme, opened_scheme, new_party_sound, NewEntry, entries_with, entering_keeps_sound}
 
@@ -106,7 +105,7 @@ module _ {state : State} (joiner : PayingJoiner state) where
         party = added.party;
       }
 
-  stands : scheme_place ledger.count number ≡ SchemeAt.Place place
+  stands : scheme_place ledger.count number ≡ Some place
   stands = place_of ledger.count number joiner.can.numbered joiner.can.opened
 
   kept : place < length ledger.schemes
@@ -127,7 +126,7 @@ module _ {state : State} (joiner : PayingJoiner state) where
         scheme_before.fee,
       )
 
-  each_joined : (s k : ℕ) → scheme_place ledger.count s ≡ SchemeAt.Place k →
+  each_joined : (s k : ℕ) → scheme_place ledger.count s ≡ Some k →
       SoundScheme ledger.month (entries_with state joiner_entry) s (get_or joiner_entry.schemes k no_scheme)
   each_joined s k there = by (scheme_placed ledger.count s k there) (same_or_other place k)
     where
@@ -195,7 +194,7 @@ module _ (bill : Bill) (state : State) (within : BillWithin bill) (whole : Whole
       }
 
   each_opened : state.ledger.count < most_schemes → bill.applicant.month ≤ state.ledger.month → {s k : ℕ} →
-      scheme_place (state.ledger.count + 1) s ≡ SchemeAt.Place k →
+      scheme_place (state.ledger.count + 1) s ≡ Some k →
       SoundScheme state.ledger.month (entries_with state opener_entry) s (get_or opener_entry.schemes k no_scheme)
   each_opened few passed {s} {k} there = by (scheme_placed (state.ledger.count + 1) s k there) (same_or_other state.ledger.count k)
     where

@@ -1,13 +1,9 @@
 -- Which numbers have a place: those from 1 to how many stand, each a place of its own.
-use Rattle.std.specs.Prelude.{ℕ, ◌-◌, ◌≤◌, ◌≡◌, cond, ltb}
+use Rattle.std.specs.Prelude.{ℕ, ◌-◌, ◌≤◌, ◌≡◌, cond, ltb, None, Some}
 use Rattle.std.proofs.Common.{arith, ltb-true, ltb-false, le-ltb}
 use Rattle.tagged.proofs.Theorems.Impossible.{impossible}
 use Rattle.tagged.proofs.Theorems.Walk.{by_test}
 use Rattle.ledger.specs.Lookup.{scheme_place, entry_place, Placed}
-use Rattle.ledger.specs.declared.lookup.SchemeAt.{SchemeAt}
-use Rattle.ledger.specs.declared.lookup.EntryAt.{EntryAt}
-use Rattle.ledger.specs.declared.lookup.SchemeAt.TheVariants as SchemeAt
-use Rattle.ledger.specs.declared.lookup.EntryAt.TheVariants as EntryAt
 
 -- ---- for schemes and entries alike
 module _ {A : Type 0} (none : A) (place : ℕ → A) (count n : ℕ) where
@@ -28,29 +24,29 @@ module _ {A : Type 0} (none : A) (place : ℕ → A) (count n : ℕ) where
       rw (le-ltb n 1 placed.numbered, le-ltb count n placed.kept, same)
 
 -- ---- schemes
-pub scheme_placed : (count s k : ℕ) → scheme_place count s ≡ SchemeAt.Place k → Placed count s k
+pub scheme_placed : (count s k : ℕ) → scheme_place count s ≡ Some k → Placed count s k
 unfolding scheme_place
 scheme_placed count s k =
-    by_number SchemeAt.NeverOpened SchemeAt.Place count s (λ found. found ≡ SchemeAt.Place k → Placed count s k)
+    by_number None Some count s (λ found. found ≡ Some k → Placed count s k)
     (λ place placed same. let e : place ≡ k = cc in rw e at placed)
     (λ missing same. impossible cc)
 
-pub placed_scheme : (count s k : ℕ) → Placed count s k → scheme_place count s ≡ SchemeAt.Place k
+pub placed_scheme : (count s k : ℕ) → Placed count s k → scheme_place count s ≡ Some k
 unfolding scheme_place
-placed_scheme count s k placed = at_place SchemeAt.NeverOpened SchemeAt.Place count s k placed
+placed_scheme count s k placed = at_place None Some count s k placed
 
 -- no two numbers have one place
-pub one_scheme : (count s t k : ℕ) → scheme_place count s ≡ SchemeAt.Place k → scheme_place count t ≡ SchemeAt.Place k → s ≡ t
+pub one_scheme : (count s t k : ℕ) → scheme_place count s ≡ Some k → scheme_place count t ≡ Some k → s ≡ t
 one_scheme count s t k first second = omega (arith, (scheme_placed count s k first).next, (scheme_placed count t k second).next)
 
 -- ---- entries
-pub entry_placed : (entries e k : ℕ) → entry_place entries e ≡ EntryAt.Place k → Placed entries e k
+pub entry_placed : (entries e k : ℕ) → entry_place entries e ≡ Some k → Placed entries e k
 unfolding entry_place
 entry_placed entries e k =
-    by_number EntryAt.NoSuchEntry EntryAt.Place entries e (λ found. found ≡ EntryAt.Place k → Placed entries e k)
+    by_number None Some entries e (λ found. found ≡ Some k → Placed entries e k)
     (λ place placed same. let f : place ≡ k = cc in rw f at placed)
     (λ missing same. impossible cc)
 
-pub placed_entry : (entries e k : ℕ) → Placed entries e k → entry_place entries e ≡ EntryAt.Place k
+pub placed_entry : (entries e k : ℕ) → Placed entries e k → entry_place entries e ≡ Some k
 unfolding entry_place
-placed_entry entries e k placed = at_place EntryAt.NoSuchEntry EntryAt.Place entries e k placed
+placed_entry entries e k placed = at_place None Some entries e k placed

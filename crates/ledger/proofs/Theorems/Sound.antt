@@ -1,6 +1,6 @@
 -- A sound ledger has every condition, and back; a new ledger is sound.
 use Prim.Native.Nat.{ℕ, zero, suc, ◌+◌, ◌*◌, ◌-◌, ◌<◌, ◌≤◌, min, zero-le}
-use Rattle.std.specs.Prelude.{◌≡◌, Bool, false, cond, drop, leb}
+use Rattle.std.specs.Prelude.{◌≡◌, Bool, false, cond, drop, leb, None, Some}
 use Rattle.std.proofs.Math.Path.{refl, subst}
 use Rattle.std.proofs.Common.{sym, ◌∙◌, not-suc-le-zero, mul-le-mul, mul-le-mul_left}
 use mathlib.Core.List.{List, [], ◌∷◌, map}
@@ -24,7 +24,6 @@ use Rattle.ledger.specs.SoundConditions.{SoundParty, SoundScheme, SoundLedger}
 use Rattle.ledger.specs.declared.records.Scheme.{Scheme}
 use Rattle.ledger.specs.declared.records.Party.{Party}
 use Rattle.ledger.specs.declared.records.Ledger.{Ledger}
-use Rattle.ledger.specs.declared.lookup.SchemeAt.TheVariants as SchemeAt
 
 pub both_true : (b c : Bool) → cond b c false ≡ true → (b ≡ true) × (c ≡ true)
 both_true true c h = (refl, h)
@@ -46,13 +45,13 @@ held (condition ∷ others) all (suc i) = held others (both_true condition (all_
 exists_means : (count s : ℕ) → has_place (scheme_place count s) ≡ true → (1 ≤ s) × (s ≤ count)
 unfolding scheme_place
 exists_means count s =
-    by_number SchemeAt.NeverOpened SchemeAt.Place count s (λ found. has_place found ≡ true → (1 ≤ s) × (s ≤ count))
+    by_number None Some count s (λ found. has_place found ≡ true → (1 ≤ s) × (s ≤ count))
     (λ k placed h. (placed.numbered, placed.kept)) (λ missing h. absurd (false≢true h))
 
 means_exists : (count s : ℕ) → 1 ≤ s → s ≤ count → has_place (scheme_place count s) ≡ true
 unfolding scheme_place
 means_exists count s numbered opened =
-    by_number SchemeAt.NeverOpened SchemeAt.Place count s (λ found. has_place found ≡ true) (λ k placed. refl) (λ missing. absurd (missing numbered opened))
+    by_number None Some count s (λ found. has_place found ≡ true) (λ k placed. refl) (λ missing. absurd (missing numbered opened))
 
 pub party_means : (count : ℕ) (party : Party) → party_sound count party ≡ true → SoundParty count party
 party_means count party h =
@@ -249,7 +248,7 @@ module _ (ledger : Ledger) (parties : List Party) (room : ℕ) where
         )
 
     -- bounds of K
-    pub some_capacity : (k : ℕ) → scheme_place ledger.count s ≡ SchemeAt.Place k → k < length ledger.schemes →
+    pub some_capacity : (k : ℕ) → scheme_place ledger.count s ≡ Some k → k < length ledger.schemes →
         1 ≤ capacity_of s (scheme_column (take ledger.entries parties)) (capacity_column (take ledger.entries parties))
     some_capacity k place kept =
         let entries : List Party = take ledger.entries parties in
@@ -272,7 +271,7 @@ module _ (ledger : Ledger) (parties : List Party) (room : ℕ) where
     put_in_at_most = sum_within (λ party. party.put_in) highest_put_in (λ party sound. sound.put_in)
 
     -- a scheme's cost is what its first entry put in
-    pub cost_at_most : (k : ℕ) → scheme_place ledger.count s ≡ SchemeAt.Place k → k < length ledger.schemes → (get_or ledger.schemes k no_scheme).cost ≤ highest_put_in
+    pub cost_at_most : (k : ℕ) → scheme_place ledger.count s ≡ Some k → k < length ledger.schemes → (get_or ledger.schemes k no_scheme).cost ≤ highest_put_in
     cost_at_most k place kept =
         let entries : List Party = take ledger.entries parties in
         let same : length (put_in_column entries) ≡ length entries = length-map entries (λ party. party.put_in) in
@@ -283,7 +282,7 @@ module _ (ledger : Ledger) (parties : List Party) (room : ℕ) where
               (λ e below. rw (column_at (λ party. party.put_in) entries e no_party below) (h.each_party e (omega arith)).put_in),
         )
 
-    pub fees_at_most : (k : ℕ) → scheme_place ledger.count s ≡ SchemeAt.Place k → k < length ledger.schemes → (get_or ledger.schemes k no_scheme).fees ≤ highest_minimum * (most_entries - 1)
+    pub fees_at_most : (k : ℕ) → scheme_place ledger.count s ≡ Some k → k < length ledger.schemes → (get_or ledger.schemes k no_scheme).fees ≤ highest_minimum * (most_entries - 1)
     fees_at_most k place kept =
         let many : entries_of s (take ledger.entries parties) ≤ 1 * most_entries = sum_within (λ party. 1) 1 (λ party sound. omega arith) in
         let scheme = h.each_scheme s k place kept in

@@ -1,46 +1,46 @@
--- The reading is the definition's for the table's length; a refused one leaves the table, and one that stands stores its entries.
-use Rattle.std.proofs.Common.{◌≡◌, ◌∙◌, sym, subst, ap, ℕ, List, length, true, false, not, T}
-use Rattle.ledger.specs.declared.records.Ledger.{Ledger}
-use Rattle.ledger.specs.declared.records.Party.{Party}
-use Rattle.stored.specs.Reading.{read_back, read_of}
-use Rattle.stored.specs.declared.reading.ReadBack.{ReadBack}
-use Rattle.pioneer.specs.declared.ReadResult.{ReadResult}
-use Rattle.pioneer.specs.ReadResult.{read_refused, read_result}
-use Rattle.pioneer.proofs.Readings.{read_same, refused_leaves, Stores, standing_stores}
+-- A refused reading leaves the table, and one that stands stores its entries.
+use Rattle.std.proofs.Common.{rules, ap, arith, length, length-take, length-take-le, sym, take, drop, ◌≡◌, ◌++◌, ◌∙◌, Err}
+use Rattle.ledger.specs.Limits.{most_entries}
+use Rattle.stored.specs.Reading.{ReadEnd}
+use Rattle.pioneer.proofs.Readings.{refused_end, standing_reads}
 use Rattle.pioneer.proofs.read.Goals as goal
 
--- what is returned has the answer and the ledger of the reading of the table
-same : (ledger : Ledger) (table : List Party) (file : List ℕ) (back : ReadBack) → back ≡ read_back ledger (length table) file →
-    read_result back.answer back.ledger ≡ read_result (read_of ledger table file).answer (read_of ledger table file).ledger
-same ledger table file back e = rw e (read_same ledger table file)
+pub returns-in_err-parties : goal.returns-in_err-parties
+returns-in_err-parties c =
+    let args = c.args in
+    let told : c.from_residual.result ≡ Err c.in_err-parties.field-0.0 = search rules in
+    let ends = refused_end args.ledger.now args.table.now args.file.now _ _ c.in_err-parties.ensures in
+    rw (told, ends) (search rules)
 
-stores : (ledger : Ledger) (table : List Party) (file : List ℕ) (back : ReadBack) → back ≡ read_back ledger (length table) file →
-    read_refused back.answer ≡ false → Stores ledger table file back.ledger.entries back.parties
-stores ledger table file back e f =
-    rw e (standing_stores ledger table file (subst (λ (x : ReadBack). T (not (read_refused x.answer))) e (subst (λ b. T (not b)) (sym f) tt)))
+pub slice_bounds-parties-end : goal.slice_bounds-parties-end
+slice_bounds-parties-end c =
+    let args = c.args in
+    let reads = standing_reads args.ledger.now args.table.now args.file.now c.read.new.ledger c.in_ok-parties.parties c.in_ok-parties.ensures in
+    let all : length c.in_ok-parties.parties ≡ most_entries = search rules in
+    omega (arith, reads.limit)
 
-kept : (ledger : Ledger) (table : List Party) (file : List ℕ) (back : ReadBack) → back ≡ read_back ledger (length table) file →
-    read_refused back.answer ≡ true → table ≡ (read_of ledger table file).table
-kept ledger table file back e f = refused_leaves ledger table file (subst (λ (x : ReadBack). T (read_refused x.answer)) e (subst T (sym f) tt))
-
-pub returns-then-read_refused : goal.returns-then-read_refused
-returns-then-read_refused c =
-    let read = c.read_result.ensures ∙ same c.args.ledger c.args.table.now c.args.file.now _ c.read-back.ensures in (
-      ap (λ (r : ReadResult). r.answer) read,
-      ap (λ (r : ReadResult). r.ledger) read,
-      kept c.args.ledger c.args.table.now c.args.file.now _ c.read-back.ensures (sym c.read_refused.ensures ∙ c.if-read_refused.true),
-    )
+pub slice_bounds-store_each-end : goal.slice_bounds-store_each-end
+slice_bounds-store_each-end c =
+    let args = c.args in
+    let reads = standing_reads args.ledger.now args.table.now args.file.now c.read.new.ledger c.in_ok-parties.parties c.in_ok-parties.ensures in
+    let all : length c.in_ok-parties.parties ≡ most_entries = search rules in
+    sym (length-take-le c.read.new.ledger.entries c.in_ok-parties.parties (omega (arith, reads.limit)))
 
 pub store_each-requires : goal.store_each-requires
 store_each-requires c =
-    let does = stores c.args.ledger c.args.table.now c.args.file.now _ c.read-back.ensures (sym c.read_refused.ensures ∙ c.if-read_refused.false) in
-    rw c.entries_of.ensures (does.limit, does.room)
+    let args = c.args in
+    let reads = standing_reads args.ledger.now args.table.now args.file.now c.read.new.ledger c.in_ok-parties.parties c.in_ok-parties.ensures in
+    omega (arith, reads.room, length-take c.read.new.ledger.entries c.in_ok-parties.parties)
 
 pub returns : goal.returns
 returns c =
-    let does = stores c.args.ledger c.args.table.now c.args.file.now _ c.read-back.ensures (sym c.read_refused.ensures ∙ c.if-read_refused.false) in
-    let read = c.read_result-2.ensures ∙ same c.args.ledger c.args.table.now c.args.file.now _ c.read-back.ensures in (
-      ap (λ (r : ReadResult). r.answer) read,
-      ap (λ (r : ReadResult). r.ledger) read,
-      c.store_each.ensures ∙ rw (c.entries_of.ensures, c.parties_of.ensures) does.leaves,
+    let args = c.args in
+    let entries = c.read.new.ledger.entries in
+    let parties = c.in_ok-parties.parties in
+    let reads = standing_reads args.ledger.now args.table.now args.file.now c.read.new.ledger parties c.in_ok-parties.ensures in
+    let all : length parties ≡ most_entries = search rules in
+    let many = length-take-le entries parties (omega (arith, reads.limit)) in (
+      ap (λ (e : ReadEnd). e.answer) (sym reads.ends),
+      ap (λ (e : ReadEnd). e.ledger) (sym reads.ends),
+      c.store_each.ensures ∙ ap (λ k. take entries parties ++ drop k args.table.now) many ∙ ap (λ (e : ReadEnd). e.table) (sym reads.ends),
     )

@@ -1,22 +1,33 @@
-use Rattle.std.proofs.Common.{ap, length, not, rules, sym, ◌<◌, ◌∙◌, ◌≤◌}
-use Rattle.ledger.proofs.Rest.{schemes_stop, schemes_go_on, schemes_end}
+-- This turn's scheme and tally are those at the loop's place.
+use Rattle.std.proofs.Common.{◌≡◌, ap, ap₂, not, sym, ◌∙◌, arith, length, min}
+use Rattle.std.proofs.lemmas.List.{length_push}
+use Rattle.std.proofs.lemmas.Slice.Zip.{zip_turn, zip_end}
 use Rattle.ledger.specs.Records.{no_scheme}
+use Rattle.ledger.specs.Tallied.{no_tally}
+use Rattle.ledger.specs.Sound.{accounts_sound}
+use Rattle.ledger.proofs.Rest.{schemes_stop, schemes_go_on, schemes_end}
 use Rattle.ledger.proofs.sound.schemes_sound.Goals as goal
 
 pub returns-then-not-scheme_sound : goal.returns-then-not-scheme_sound
-returns-then-not-scheme_sound c =
-    let w : c.args.count ≤ length c.args.schemes = search rules in
-    let h : c.loop-i.i < c.args.count = search rules in
-    λ parties t. sym (c.loop-i.invariant.1 parties t ∙ schemes_stop c.args.month c.args.count c.args.tallies parties c.args.schemes c.loop-i.i no_scheme t h w c.scheme_sound.ensures (ap not c.if-not-scheme_sound.true))
+returns-then-not-scheme_sound c parties t =
+    let turn = zip_turn c.args.schemes.now c.args.tallies.now c.loop-scheme.yielded c.into_iter-scheme-iterator.result c.loop-scheme.scheme-iterator c.next.new.self _ (cc) (cc) c.loop-scheme.yielded_by _ c.in-Some.is c.next.ensures.steps in
+    let told = c.scheme_sound.ensures ∙ ap₂ (accounts_sound c.args.month) (turn.2 no_scheme) (turn.3 no_tally) in
+    sym (c.loop-scheme.invariant.undecided parties t ∙ schemes_stop c.args.month c.args.tallies.now parties c.args.schemes.now _ t turn.0 told (ap not c.if-not-scheme_sound.true))
 
-pub loop-i-preserved : goal.loop-i-preserved
-loop-i-preserved c =
-    let w : c.args.count ≤ length c.args.schemes = search rules in
-    let h : c.loop-i.i < c.args.count = search rules in
-    (search rules, λ parties t. c.loop-i.invariant.1 parties t ∙ schemes_go_on c.args.month c.args.count c.args.tallies parties c.args.schemes c.loop-i.i no_scheme t h w c.scheme_sound.ensures (ap not c.if-not-scheme_sound.false))
+pub loop-scheme-preserved : goal.loop-scheme-preserved
+loop-scheme-preserved c =
+    let turn = zip_turn c.args.schemes.now c.args.tallies.now c.loop-scheme.yielded c.into_iter-scheme-iterator.result c.loop-scheme.scheme-iterator c.next.new.self _ (cc) (cc) c.loop-scheme.yielded_by _ c.in-Some.is c.next.ensures.steps in
+    let told = c.scheme_sound.ensures ∙ ap₂ (accounts_sound c.args.month) (turn.2 no_scheme) (turn.3 no_tally) in
+    record {
+      undecided =
+          λ parties t.
+          rw length_push
+          (c.loop-scheme.invariant.undecided parties t
+          ∙ schemes_go_on c.args.month c.args.tallies.now parties c.args.schemes.now _ t turn.0 told (ap not c.if-not-scheme_sound.false));
+    }
 
 pub returns : goal.returns
-returns c =
-    let w : c.args.count ≤ length c.args.schemes = search rules in
-    let h : c.args.count ≤ c.loop-i.i = search rules in
-    λ parties t. sym (c.loop-i.invariant.1 parties t ∙ schemes_end _ parties _ _ _ h w)
+returns c parties t =
+    let all : length c.loop-scheme.yielded ≡ min (length c.args.schemes.now) (length c.args.tallies.now) =
+    zip_end c.args.schemes.now c.args.tallies.now c.loop-scheme.yielded c.into_iter-scheme-iterator.result c.loop-scheme.scheme-iterator c.next.new.self _ (cc) (cc) c.loop-scheme.yielded_by c.in-None.is c.next.ensures.steps in
+    sym (c.loop-scheme.invariant.undecided parties t ∙ schemes_end c.args.month parties c.args.schemes.now _ (omega arith))

@@ -1,88 +1,69 @@
-use Rattle.std.proofs.Common.{ap, arith, false, get_or, length, not, refl, rules, sym, true, ◌<◌, ◌∙◌, ◌≡◌, ◌≤◌}
+use Rattle.std.proofs.Common.{ap, arith, false, get_or, length, not, refl, rules, subst, sym, true, ◌<◌, ◌∙◌, ◌≡◌, Some}
+use Rattle.std.proofs.lemmas.List.{take_all}
 use Rattle.ledger.specs.declared.records.Party.{Party}
-use Rattle.ledger.specs.declared.lookup.SchemeAt.TheVariants as SchemeAt
-use Rattle.ledger.specs.Limits.{most_schemes}
 use Rattle.ledger.specs.Records.{no_party}
 use Rattle.ledger.specs.Sound.{all_hold, figures_within, party_sound}
 use Rattle.ledger.proofs.Theorems.Lookup.{scheme_placed}
 use Rattle.ledger.specs.Lookup.{scheme_place}
+use Rattle.ledger.specs.Tallied.{Tallied}
 use Rattle.tagged.proofs.Theorems.TestedAnswers.{passes, fails}
 use Rattle.ledger.proofs.Tests.{stops, goes_on}
-use Rattle.ledger.proofs.Tallying.{kept_start, kept_more, parties_from, parties_end, never_opened, by_figures}
+use Rattle.ledger.proofs.Tallying.{kept_start, kept_more, within_le_all, parties_from, parties_end, never_opened, by_figures}
 use Rattle.ledger.proofs.sound.tally_entries.Goals as goal
 
-pub loop-i-init : goal.loop-i-init
-loop-i-init c =
-    rw c.no_tallies-tallies.ensures (search rules, refl, kept_start _ (search rules) _)
+pub loop-party-init : goal.loop-party-init
+loop-party-init c = rw c.no_tallies-tallies.ensures (record { undecided = refl; kept = kept_start _ (search rules) _ })
 
-pub returns-in_default-clause-sound_value : goal.returns-in_default-clause-sound_value
-returns-in_default-clause-sound_value c =
-    let w : c.args.entries ≤ length c.args.parties = search rules in
-    let h : c.loop-i.i < c.args.entries = search rules in
-    let party : Party = get_or c.args.parties c.loop-i.i no_party in
-    let none : party_sound c.args.count party ≡ false = never_opened c.args.count party (sym c.scheme_at.ensures ∙ c.in_default.is) in
-    c.unsound_entries.ensures ∙ sym (c.loop-i.invariant.1 ∙ parties_from _ _ _ _ no_party h w ∙ stops none _)
+pub returns-in_err-k : goal.returns-in_err-k
+returns-in_err-k c =
+    let h : c.loop-party.party-index < length c.args.parties.now = search rules in
+    let party : Party = get_or c.args.parties.now c.loop-party.party-index no_party in
+    let none : party_sound c.args.count party ≡ false = never_opened c.args.count party (sym c.scheme_at.ensures ∙ c.in_err-k.was) in
+    rw c.from_residual.ensures (c.loop-party.invariant.undecided ∙ parties_from _ _ _ no_party h ∙ stops none _)
 
-pub returns-then-not-figures_sound-clause-sound_value : goal.returns-then-not-figures_sound-clause-sound_value
-returns-then-not-figures_sound-clause-sound_value c =
-    let w : c.args.entries ≤ length c.args.parties = search rules in
-    let h : c.loop-i.i < c.args.entries = search rules in
-    let party : Party = get_or c.args.parties c.loop-i.i no_party in
-    let here : scheme_place c.args.count party.scheme ≡ SchemeAt.Place c.in-Place.k = sym c.scheme_at.ensures ∙ c.in-Place.is in
-    let failed = fails (c.figures_sound.ensures ∙ by_figures c.args.count c.in-Place.k party here) (ap not c.if-not-figures_sound.true) in
-    c.unsound_entries-then-not-figures_sound.ensures ∙ sym (c.loop-i.invariant.1 ∙ parties_from _ _ _ _ no_party h w ∙ stops failed _)
-
-pub offset_bounds-tallies-k : goal.offset_bounds-tallies-k
-offset_bounds-tallies-k c =
-    let entry : Party = get_or c.args.parties c.loop-i.i no_party in
-    let here : scheme_place c.args.count (entry).scheme ≡ SchemeAt.Place c.in-Place.k = sym c.scheme_at.ensures ∙ c.in-Place.is in
-    let place : c.in-Place.k < most_schemes = let placed = scheme_placed c.args.count (entry).scheme c.in-Place.k (here) in
-    omega (arith, placed.kept, placed.next, c.requires.1) in
-    omega (arith, place)
+pub returns-then-not-figures_sound : goal.returns-then-not-figures_sound
+returns-then-not-figures_sound c =
+    let h : c.loop-party.party-index < length c.args.parties.now = search rules in
+    let party : Party = get_or c.args.parties.now c.loop-party.party-index no_party in
+    let here : scheme_place c.args.count party.scheme ≡ Some c.in_ok-k.k = sym c.scheme_at.ensures ∙ c.in_ok-k.was in
+    let failed = fails (c.figures_sound.ensures ∙ by_figures c.args.count c.in_ok-k.k party here) (ap not c.if-not-figures_sound.true) in
+    c.loop-party.invariant.undecided ∙ parties_from _ _ _ no_party h ∙ stops failed _
 
 pub bounds-tallies-k : goal.bounds-tallies-k
 bounds-tallies-k c =
-    let entry : Party = get_or c.args.parties c.loop-i.i no_party in
-    let here : scheme_place c.args.count (entry).scheme ≡ SchemeAt.Place c.in-Place.k = sym c.scheme_at.ensures ∙ c.in-Place.is in
-    let place : c.in-Place.k < most_schemes = let placed = scheme_placed c.args.count (entry).scheme c.in-Place.k (here) in
-    omega (arith, placed.kept, placed.next, c.requires.1) in
-    place
+    let placed = scheme_placed _ _ _ (sym c.scheme_at.ensures ∙ c.in_ok-k.was) in
+    omega (arith, placed.kept, placed.next)
 
-pub offset_bounds-tallies-k-in-loop-i : goal.offset_bounds-tallies-k-in-loop-i
-offset_bounds-tallies-k-in-loop-i c =
-    let entry : Party = get_or c.args.parties c.loop-i.i no_party in
-    let here : scheme_place c.args.count (entry).scheme ≡ SchemeAt.Place c.in-Place.k = sym c.scheme_at.ensures ∙ c.in-Place.is in
-    let place : c.in-Place.k < most_schemes = let placed = scheme_placed c.args.count (entry).scheme c.in-Place.k (here) in
-    omega (arith, placed.kept, placed.next, c.requires.1) in
-    omega (arith, place)
+pub offset_bounds-tallies-k : goal.offset_bounds-tallies-k
+offset_bounds-tallies-k c =
+    let placed = scheme_placed _ _ _ (sym c.scheme_at.ensures ∙ c.in_ok-k.was) in
+    omega (arith, placed.kept, placed.next)
 
-pub bounds-tallies-k-in-loop-i : goal.bounds-tallies-k-in-loop-i
-bounds-tallies-k-in-loop-i c =
-    let entry : Party = get_or c.args.parties c.loop-i.i no_party in
-    let here : scheme_place c.args.count (entry).scheme ≡ SchemeAt.Place c.in-Place.k = sym c.scheme_at.ensures ∙ c.in-Place.is in
-    let place : c.in-Place.k < most_schemes = let placed = scheme_placed c.args.count (entry).scheme c.in-Place.k (here) in
-    omega (arith, placed.kept, placed.next, c.requires.1) in
-    place
+pub bounds-tallies-k-in-loop-party : goal.bounds-tallies-k-in-loop-party
+bounds-tallies-k-in-loop-party c =
+    let placed = scheme_placed _ _ _ (sym c.scheme_at.ensures ∙ c.in_ok-k.was) in
+    omega (arith, placed.kept, placed.next)
 
-pub loop-i-preserved : goal.loop-i-preserved
-loop-i-preserved c =
-    let entry : Party = get_or c.args.parties c.loop-i.i no_party in
-    let figures : all_hold (figures_within (entry)) ≡ true = passes c.figures_sound.ensures (ap not c.if-not-figures_sound.false) in
-    let entry : Party = get_or c.args.parties c.loop-i.i no_party in
-    let here : scheme_place c.args.count (entry).scheme ≡ SchemeAt.Place c.in-Place.k = sym c.scheme_at.ensures ∙ c.in-Place.is in
-    let w : c.args.entries ≤ length c.args.parties = search rules in
-    let h : c.loop-i.i < c.args.entries = search rules in
-    let v : c.loop-i.i < length c.args.parties = omega arith in
-    let passed = passes (c.figures_sound.ensures ∙ by_figures c.args.count c.in-Place.k (entry) (here)) (ap not c.if-not-figures_sound.false) in (
-      search rules,
-      c.loop-i.invariant.1 ∙ parties_from _ _ _ _ no_party h w ∙ goes_on passed,
-      rw c.tally_with.ensures
-          (kept_more _ c.args.parties c.loop-i.i c.args.count c.in-Place.k no_party (search rules) (here) (figures) v c.loop-i.invariant.2),
+pub offset_bounds-tallies-k-in-loop-party : goal.offset_bounds-tallies-k-in-loop-party
+offset_bounds-tallies-k-in-loop-party c =
+    let placed = scheme_placed _ _ _ (sym c.scheme_at.ensures ∙ c.in_ok-k.was) in
+    omega (arith, placed.kept, placed.next)
+
+pub loop-party-preserved : goal.loop-party-preserved
+loop-party-preserved c =
+    let party : Party = get_or c.args.parties.now c.loop-party.party-index no_party in
+    let figures : all_hold (figures_within party) ≡ true = passes c.figures_sound.ensures (ap not c.if-not-figures_sound.false) in
+    let here : scheme_place c.args.count party.scheme ≡ Some c.in_ok-k.k = sym c.scheme_at.ensures ∙ c.in_ok-k.was in
+    let h : c.loop-party.party-index < length c.args.parties.now = search rules in
+    record {
+      undecided = c.loop-party.invariant.undecided ∙ parties_from _ _ _ no_party h ∙ goes_on (sym (by_figures c.args.count c.in_ok-k.k party here) ∙ figures);
+      kept = rw c.tally_with.ensures (kept_more _ c.args.parties.now c.loop-party.party-index c.args.count c.in_ok-k.k no_party (search rules) here figures h c.loop-party.invariant.kept);
+    }
+
+pub returns : goal.returns
+returns c =
+    let kept = c.loop-party.invariant.kept in (
+      c.loop-party.invariant.undecided ∙ parties_end c.args.count c.args.parties.now c.loop-party.party-index (omega arith),
+      subst (Tallied c.args.count c.loop-party.tallies) (take_all c.loop-party.party-index c.args.parties.now (omega arith)) kept.tallied,
+      within_le_all c.loop-party.party-index _ _ (omega arith) kept.bounded,
     )
-
-pub returns-clause-sound_value : goal.returns-clause-sound_value
-returns-clause-sound_value c =
-    let w : c.args.entries ≤ length c.args.parties = search rules in
-    let h : c.args.entries ≤ c.loop-i.i = search rules in
-    let e : c.loop-i.i ≡ c.args.entries = omega arith in
-    sym (c.loop-i.invariant.1 ∙ parties_end _ _ _ _ h w)
