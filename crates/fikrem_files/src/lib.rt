@@ -3,38 +3,37 @@
 #![tactic(auto)]
 
 ghost use Rattle.std.specs.Prelude.{◌≡◌};
+ghost use Rattle.tagged.specs.File.{answer_of};
 ghost use Rattle.rate_book.specs.Book.{book_of};
 ghost use Rattle.request.specs.Request.{request_of};
 ghost use Rattle.fikrem_files.specs.FileResult.{file_read_alone, file_result};
 
-use tagged::file::FileAnswer;
+use tagged::file::Refusal;
 
 // a refusal's file where a file is read alone
 const FILE_READ_ALONE: u8 = 1;
 
-fn result_of_reading(answer: FileAnswer) -> u64
-    ensures { result ≡ file_result answer }
+// A number, since it crosses to C; no From, since neither a number nor a Result is this crate's own.
+fn result_of_reading<Values: Drop>(read: Result<Values, Refusal>) -> u64
+    ensures { result ≡ file_result (answer_of read) }
 {
-    match answer {
-        FileAnswer::Stands => 0,
-        FileAnswer::Refused(refusal) => quoting_unit::result_of(refusal, 0),
+    match read {
+        Ok(_) => 0,
+        Err(refusal) => quoting_unit::result_of(refusal, 0),
     }
 }
 
 // Whether a rate book can be read.
+// This and the next are two functions, as C has a name for each.
 pub fn fikrem_check_book(book: &[u8]) -> u64
-    ensures { result ≡ file_result (book_of file_read_alone book.now).answer }
+    ensures { result ≡ file_result (answer_of (book_of file_read_alone book.now)) }
 {
-    let read = rate_book::book::read_book(FILE_READ_ALONE, book);
-    let answer = read.answer;
-    result_of_reading(answer)
+    result_of_reading(rate_book::book::read_book(FILE_READ_ALONE, book))
 }
 
 // Whether a request can be read.
 pub fn fikrem_check_request(request: &[u8]) -> u64
-    ensures { result ≡ file_result (request_of file_read_alone request.now).answer }
+    ensures { result ≡ file_result (answer_of (request_of file_read_alone request.now)) }
 {
-    let read = request::values::read_request(FILE_READ_ALONE, request);
-    let answer = read.answer;
-    result_of_reading(answer)
+    result_of_reading(request::values::read_request(FILE_READ_ALONE, request))
 }

@@ -1,5 +1,6 @@
 // The C interface of the page: the export hands its arguments on to the library's function of the same name, with the same clauses.
 // include/fikrem.h declares it, and the archive is libfikrem_page.a.
+// No crate can depend on a static library, so that the export stands apart from the functions that Rattle calls.
 #![tactic(auto)]
 
 ghost use Rattle.std.specs.Prelude.{◌≡◌};

@@ -1,11 +1,9 @@
 -- What the library's call leaves: 14 where the lent figures have fewer than six places; otherwise 0 and the six figures, or the refusal as every call of the
 -- interface tells it.
-use Rattle.std.specs.Prelude.{ℕ, cond, List, ◌++◌, ltb, ℤ, length, drop}
+use Rattle.std.specs.Prelude.{ℕ, cond, List, ◌++◌, ltb, ℤ, length, drop, Err, Ok}
 use Rattle.tagged.specs.Refusals.{output_too_short}
-use Rattle.price_band.specs.PriceBand.{band_values}
+use Rattle.price_band.specs.PriceBand.{band_values, BandPricing}
 use Rattle.price_band.specs.declared.Bands.{Bands}
-use Rattle.price_band.specs.declared.BandPricing.{BandPricing}
-use Rattle.price_band.specs.declared.BandPricing.TheVariants.{Priced, NotPriced}
 use Rattle.quoting_unit.specs.Interface.{result_of}
 
 -- "low and high year-one revenue, distribution then transmission"
@@ -28,8 +26,8 @@ pub record BandEnd : Type 0 where
   pub figures : List ℤ
 
 abbrev pub end_of : BandPricing → List ℤ → BandEnd
-end_of (Priced band) figures = record { result = 0; figures = band_values band ++ drop band_places figures }
-end_of (NotPriced r) figures = record { result = result_of r 0; figures = figures }
+end_of (Ok band) figures = record { result = 0; figures = band_values band ++ drop band_places figures }
+end_of (Err r) figures = record { result = result_of r 0; figures = figures }
 
 abbrev pub band_end : BandPricing → List ℤ → BandEnd
 band_end pricing figures = cond (ltb (length figures) band_places) (record { result = output_too_short; figures = figures }) (end_of pricing figures)

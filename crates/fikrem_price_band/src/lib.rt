@@ -4,20 +4,19 @@
 // before anything else.
 #![tactic(auto)]
 
-ghost use Rattle.std.specs.Prelude.{◌≡◌, ◌++◌, ◌≤◌, length, drop};
+ghost use Rattle.std.specs.Prelude.{◌≡◌};
 ghost use Rattle.price_band.specs.PriceBand.{band_of, band_values};
 ghost use Rattle.price_band.specs.BandLimits.{BandFits};
-ghost use Rattle.fikrem_price_band.specs.BandResult.{band_places, bands_of, band_end};
+ghost use Rattle.fikrem_price_band.specs.BandResult.{bands_of, band_end};
 
-use price_band::{Band, BandPricing, Bands};
+use price_band::{Band, Bands};
 use reconciliation::signed;
 use tagged::refusals::OUTPUT_TOO_SHORT;
 
 // How many places a band has: IR, CC and NC, each lowest then highest.
 const BAND: usize = 6;
 
-const TOO_SHORT: u64 = OUTPUT_TOO_SHORT as u64;
-
+// Six numbers by place, since they cross to C.
 fn band_places(band: Band) -> [i64; BAND]
     requires { BandFits band }
     ensures { result ≡ band_values band }
@@ -32,20 +31,8 @@ fn band_places(band: Band) -> [i64; BAND]
     ]
 }
 
-// The band's places at the start of a lent buffer.
-fn write_band(band: Band, figures: &mut [i64])
-    requires { BandFits band × (band_places ≤ length figures.old) }
-    ensures { figures.new ≡ band_values band ++ drop band_places figures.old }
-{
-    let places = band_places(band);
-    let mut i: usize = 0;
-    while i < BAND {
-        figures[i] = places[i];
-        i += 1;
-    }
-}
-
 // Lowest and highest IR, CC and NC of a request by a rate book, with these figures in place of its field 08.
+// The result is a number, since it crosses to C.
 pub fn fikrem_price_band(
     book: &[u8],
     request: &[u8],
@@ -60,7 +47,7 @@ pub fn fikrem_price_band(
         (result ≡ end.result) × (figures.new ≡ end.figures) }
 {
     if figures.len() < BAND {
-        return TOO_SHORT;
+        return u64::from(OUTPUT_TOO_SHORT);
     }
     let bands = Bands {
         distribution_low,
@@ -68,12 +55,11 @@ pub fn fikrem_price_band(
         transmission_low,
         transmission_high,
     };
-    let pricing = price_band::price_band(book, request, bands);
-    match pricing {
-        BandPricing::Priced(band) => {
-            write_band(band, figures);
+    match price_band::price_band(book, request, bands) {
+        Ok(band) => {
+            figures[..BAND].copy_from_slice(&band_places(band));
             0
         }
-        BandPricing::NotPriced(refusal) => quoting_unit::result_of(refusal, 0),
+        Err(refusal) => quoting_unit::result_of(refusal, 0),
     }
 }

@@ -1,8 +1,7 @@
 -- Document 01, 'How calls end', "Place": an offset within the file, or a tier. A refusal whose place is at most a file's size.
-use Rattle.std.specs.Prelude.{ℕ, ◌≤◌}
+use Rattle.std.specs.Prelude.{ℕ, ◌≤◌, Err, Ok}
 use Rattle.tagged.specs.declared.file.Refusal.{Refusal}
-use Rattle.tagged.specs.declared.file.FileAnswer.{FileAnswer}
-use Rattle.tagged.specs.declared.file.FileAnswer.TheVariants.{Stands, Refused}
+use Rattle.tagged.specs.File.{FileAnswer}
 
 -- ---- files: the place of a refusal
 
@@ -11,5 +10,5 @@ abbrev pub PlacedBy : ℕ → Refusal → Type 0
 PlacedBy size r = (r.file ≤ 2) × (r.place ≤ size)
 
 abbrev pub FileAnswerBy : ℕ → FileAnswer → Type 0
-FileAnswerBy size Stands = Unit {0}
-FileAnswerBy size (Refused r) = PlacedBy size r
+FileAnswerBy size (Ok _) = Unit {0}
+FileAnswerBy size (Err r) = PlacedBy size r

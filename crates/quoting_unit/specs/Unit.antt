@@ -1,22 +1,14 @@
 -- What each call of the unit leaves, by its inputs alone. Where the answer or the figures are too short for their places that is 14 and every buffer as it
 -- was; otherwise the result is 0 or the refusal, and where it is 0 the answer says more. `table_size` is the party table's length in records; more than 512
 -- counts as 512.
-use Rattle.std.specs.Prelude.{ℕ, Bool, true, cond, List, [], ◌∷◌, ℤ}
+use Rattle.std.specs.Prelude.{ℕ, Bool, true, cond, List, [], ◌∷◌, ℤ, Err, None, Ok, Option, Some}
 use Rattle.tagged.specs.Refusals.{output_too_short}
-use Rattle.charge.specs.Price.{price_of}
-use Rattle.charge.specs.declared.Pricing.{Pricing}
-use Rattle.charge.specs.declared.Pricing.TheVariants.{Priced, NotPriced}
-use Rattle.slip_text.specs.Slip.{slip_written, slip_buffer}
-use Rattle.slip_text.specs.declared.SlipWritten.{SlipWritten}
-use Rattle.slip_text.specs.declared.SlipWritten.TheVariants.{Written, Refused}
+use Rattle.charge.specs.Price.{price_of, Pricing}
+use Rattle.slip_text.specs.Slip.{slip_written, slip_buffer, SlipWritten}
 use Rattle.calls.specs.Decision.{Call, accept, pay_out, hand_over}
 use Rattle.calls.specs.declared.answers.JoiningAnswer.{JoiningAnswer}
 use Rattle.calls.specs.declared.answers.JoiningAnswer.TheVariants.{NotAsked, Ended, Small, Joined}
-use Rattle.calls.specs.declared.answers.OpeningAnswer.{OpeningAnswer}
-use Rattle.calls.specs.declared.answers.OpeningAnswer.TheVariants.{NotOpened, Opened}
-use Rattle.stored_calls.specs.StoredCalls.{StoredCallAnswer, not_read, not_made, made_accepted, made_done, CallEnd, new_stored_of, stored_call_of, check_stored_of}
-use Rattle.stored_calls.specs.declared.StoredCheck.{StoredCheck}
-use Rattle.stored_calls.specs.declared.StoredCheck.TheVariants as StoredCheck
+use Rattle.stored_calls.specs.StoredCalls.{StoredCheck, StoredCallAnswer, not_read, not_made, made_accepted, made_done, CallEnd, new_stored_of, stored_call_of, check_stored_of}
 use Rattle.quoting_unit.specs.Interface.{UnitEnding, is_done, is_refused, outcome_of, Lent, answer_after, figures_after, answer_short, figures_short}
 
 -- the calls: those on a stored ledger with its bytes and the table's length
@@ -45,8 +37,8 @@ pub record Made : Type 0 where
 
 -- price: figures are written only where a reconciliation comes out
 abbrev pub price_made : Pricing → Lent → Made
-price_made (Priced bill) lent = record { ending = is_done []; output = lent.output; figures = figures_after bill.reconciliation lent.figures }
-price_made (NotPriced r) lent = record { ending = is_refused r 0; output = lent.output; figures = lent.figures }
+price_made (Ok bill) lent = record { ending = is_done []; output = lent.output; figures = figures_after bill.reconciliation lent.figures }
+price_made (Err r) lent = record { ending = is_refused r 0; output = lent.output; figures = lent.figures }
 
 -- the last place of an answer: the bytes that a call has written
 abbrev pub written_places : ℕ → List ℕ
@@ -54,17 +46,17 @@ written_places size = 0 ∷ 0 ∷ 0 ∷ 0 ∷ size ∷ []
 
 -- the slip's text, which is its output: its length
 abbrev pub unit_slip_ending : SlipWritten → UnitEnding
-unit_slip_ending (Written size) = is_done (written_places size)
-unit_slip_ending (Refused r) = is_refused r 0
+unit_slip_ending (Ok size) = is_done (written_places size)
+unit_slip_ending (Err r) = is_refused r 0
 
 -- the number of the scheme that opened, 0 where none did
-abbrev pub scheme_opened : OpeningAnswer → ℕ
-scheme_opened NotOpened = 0
-scheme_opened (Opened number) = number
+abbrev pub scheme_opened : Option ℕ → ℕ
+scheme_opened None = 0
+scheme_opened (Some number) = number
 
 -- Document 02, E4: "The answer gives both." The joining's kind, 0 where none is asked for, 1 joined, 2 small, 3 ended; the joiner's entry and G; the scheme
 -- opened; the new form's length.
-abbrev pub acceptance_places : JoiningAnswer → OpeningAnswer → ℕ → List ℕ
+abbrev pub acceptance_places : JoiningAnswer → Option ℕ → ℕ → List ℕ
 acceptance_places NotAsked opening size = 0 ∷ 0 ∷ 0 ∷ scheme_opened opening ∷ size ∷ []
 acceptance_places (Joined collected) opening size = 1 ∷ collected.entry ∷ collected.contribution ∷ scheme_opened opening ∷ size ∷ []
 acceptance_places Small opening size = 2 ∷ 0 ∷ 0 ∷ scheme_opened opening ∷ size ∷ []
@@ -90,8 +82,8 @@ ledger_made called lent =
 
 -- schemes, entries, connections, the last accepted month
 abbrev pub check_ending : StoredCheck → UnitEnding
-check_ending (StoredCheck.NotRead r) = is_refused r 1
-check_ending (StoredCheck.Sound counts) = is_done (counts.schemes ∷ counts.entries ∷ counts.connections ∷ counts.month ∷ 0 ∷ [])
+check_ending (Err r) = is_refused r 1
+check_ending (Ok counts) = is_done (counts.schemes ∷ counts.entries ∷ counts.connections ∷ counts.month ∷ 0 ∷ [])
 
 abbrev pub made : UnitCall → Lent → Made
 made (price book request) lent = price_made (price_of book request) lent

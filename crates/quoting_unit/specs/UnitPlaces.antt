@@ -2,8 +2,7 @@
 use Rattle.std.specs.Prelude.{ℕ, ◌≤◌, cond, length}
 use Rattle.tagged.specs.File.{refusal}
 use Rattle.tagged.specs.Refusals.{output_too_short}
-use Rattle.ledger.specs.Records.{new_ledger}
-use Rattle.calls.specs.Decision.{Call, accept, pay_out, hand_over, is_refused}
+use Rattle.calls.specs.Decision.{Call, accept, pay_out, hand_over}
 use Rattle.quoting_unit.specs.Interface.{UnitEnding, Lent}
 use Rattle.quoting_unit.specs.Unit.{UnitCall, price, slip_text, on_ledger, check_ledger, too_short, made}
 use Rattle.quoting_unit.specs.Interface as unit

@@ -1,18 +1,14 @@
 -- The results that a call can come to: 0 where it is done, and the numbers of its refusals.
-use Rattle.std.specs.Prelude.{ℕ, ◌≤◌, ◌≡◌, true, List, [], ◌∷◌, ◌++◌, ◌≢◌}
+use Rattle.std.specs.Prelude.{ℕ, ◌≤◌, ◌≡◌, true, List, [], ◌∷◌, ◌++◌, ◌≢◌, Ok}
 use Rattle.tagged.specs.Refusals.{file_does_not_walk, check_differs, value_not_listed, zone_not_in_book, bespoke_not_allowed, output_too_short}
 use Rattle.charge.specs.Price.{price_of}
 use Rattle.charge.specs.declared.Bill.{Bill}
-use Rattle.charge.specs.declared.Pricing.TheVariants.{Priced}
 use Rattle.ledger.specs.RefusalNumbers.{one_of}
 use Rattle.slip_text.specs.Slip.{slip_written}
-use Rattle.slip_text.specs.declared.SlipWritten.TheVariants.{Written}
 use Rattle.stored.specs.Reading.{reading_numbers}
 use Rattle.stored_calls.specs.StoredCalls.{new_stored_of, stored_call_of, check_stored_of}
 use Rattle.stored_calls.specs.StoredRefusals.{is_made, stored_numbers}
 use Rattle.stored_calls.specs.declared.StoredCounts.{StoredCounts}
-use Rattle.stored_calls.specs.declared.StoredCheck.{StoredCheck}
-use Rattle.stored_calls.specs.declared.StoredCheck.TheVariants as StoredCheck
 use Rattle.quoting_unit.specs.Interface.{last_number, number_in, Lent}
 use Rattle.quoting_unit.specs.Unit.{UnitCall, price, slip_text, new_ledger, on_ledger, check_ledger}
 
@@ -25,11 +21,11 @@ pub record Results (done : Type 0) (refusals : List ℕ) (result : ℕ) : Type 0
 
 -- where a call whose buffers are long enough is done
 abbrev pub IsDone : UnitCall → Lent → Type 0
-IsDone (price book request) lent = (bill : Bill) × (price_of book request ≡ Priced bill)
-IsDone (slip_text book request) lent = (size : ℕ) × (slip_written (price_of book request) lent.output ≡ Written size)
+IsDone (price book request) lent = (bill : Bill) × (price_of book request ≡ Ok bill)
+IsDone (slip_text book request) lent = (size : ℕ) × (slip_written (price_of book request) lent.output ≡ Ok size)
 IsDone new_ledger lent = is_made (new_stored_of lent.output).answer ≡ true
 IsDone (on_ledger stored table_size call) lent = is_made (stored_call_of stored table_size call lent.output).answer ≡ true
-IsDone (check_ledger stored table_size) lent = (counts : StoredCounts) × (check_stored_of stored table_size ≡ StoredCheck.Sound counts)
+IsDone (check_ledger stored table_size) lent = (counts : StoredCounts) × (check_stored_of stored table_size ≡ Ok counts)
 
 -- the refusals that a call can come to: its own, and 14 for short buffers
 abbrev pub pricing_numbers : List ℕ

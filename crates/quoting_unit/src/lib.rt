@@ -3,24 +3,23 @@
 // are 14 before anything else. `table_size` is the party table's length in records; more than 512 counts as 512.
 #![tactic(auto)]
 
-ghost use Rattle.std.specs.Prelude.{◌≡◌, ◌≤◌, ◌++◌, length, drop};
+ghost use Rattle.std.specs.Prelude.{◌≡◌, ◌≤◌, length, Ok};
 ghost use Rattle.numbers.specs.Check.{check};
 ghost use Rattle.reconciliation.specs.Figures.{percent_is_there, percent_figure, percent_quotient, percent_remainder, figure_values};
 ghost use Rattle.reconciliation.specs.FigureLimits.{RemainderWithin, FiguresWithin};
 ghost use Rattle.calls.specs.Decision.{accept, pay_out, hand_over};
-ghost use Rattle.stored_calls.specs.StoredCalls.{of_stored_accept, of_stored_answer};
+ghost use Rattle.stored_calls.specs.StoredCalls.{refused_by, of_stored_accept, of_stored_answer};
 ghost use Rattle.quoting_unit.specs.Interface.{answer_places, figure_places, highest_place, place_in_result, result_of, is_done, is_refused, outcome_of, answer_after, figures_after, lent_figures, lent_output, lent_both, lent_answer};
-ghost use Rattle.quoting_unit.specs.Unit.{price, slip_text, new_ledger, on_ledger, check_ledger, unit_call, written_places, unit_slip_ending, scheme_opened, acceptance_places, unit_call_ending, check_ending};
+ghost use Rattle.quoting_unit.specs.Unit.{price, slip_text, new_ledger, on_ledger, check_ledger, unit_call, written_places, unit_slip_ending, acceptance_places, unit_call_ending, check_ending};
 
-use calls::answers::{JoiningAnswer, OpeningAnswer};
-use charge::Pricing;
+use calls::answers::{Acceptance, JoiningAnswer};
 use reconciliation::{Percent, Reconciliation, signed};
 use slip_text::SlipWritten;
-use stored_calls::{StoredAccept, StoredAcceptance, StoredAnswer, StoredCheck};
+use stored_calls::{StoredAcceptance, StoredCounts, StoredRefusal};
 use tagged::file::Refusal;
 use tagged::refusals::OUTPUT_TOO_SHORT;
 
-// How many places an answer and the figures have.
+// How many places an answer and the figures have: both are numbers by place, since they cross to C.
 const ANSWER: usize = 5;
 
 const FIGURES: usize = 27;
@@ -38,7 +37,7 @@ const HIGHEST_PLACE: u64 = 72057594037927935;
 // The result where the answer or the figures are too short.
 const TOO_SHORT: u64 = OUTPUT_TOO_SHORT as u64;
 
-// How a call ends.
+// How a call ends. The C interface tells a refusal by a result other than 0 alone, so the result stands beside what is told.
 #[derive(Clone, Copy)]
 struct Outcome {
     // 0 where the call is done
@@ -51,21 +50,18 @@ fn place_in_result(place: usize) -> u64
     ensures value { result ≡ place_in_result place }
     ensures upper_bound { result ≤ highest_place }
 {
-    let told = place as u64;
-    if told > HIGHEST_PLACE {
-        return HIGHEST_PLACE;
-    }
-    told
+    (place as u64).min(HIGHEST_PLACE)
 }
 
 // A refusal in one number: its number in the lowest four bits, its file in the next two, whether it is of the stored ledger itself in
 // the next one, and its place from bit 8 on. The remainders take nothing from any refusal; by them every sum fits.
+// The flag is a number too, since a bool would take fewer values; and no From, which takes one value alone.
 pub fn result_of(refusal: Refusal, of_ledger: u8) -> u64
     ensures { result ≡ result_of refusal of_ledger }
 {
-    let number = refusal.number as u64;
-    let file = refusal.file as u64;
-    let ledger = of_ledger as u64;
+    let number = u64::from(refusal.number);
+    let file = u64::from(refusal.file);
+    let ledger = u64::from(of_ledger);
     let low = number % FILE_WEIGHT + FILE_WEIGHT * (file % 4) + LEDGER_WEIGHT * (ledger % 2);
     let place = place_in_result(refusal.place);
     low + PLACE_WEIGHT * place
@@ -85,67 +81,50 @@ fn refused(refusal: Refusal, of_ledger: u8) -> Outcome
     Outcome { result, told }
 }
 
-// What a done call tells, at the start of a lent buffer.
-fn write_places(told: [u64; ANSWER], answer: &mut [u64])
-    requires { answer_places ≤ length answer.old }
-    ensures { answer.new ≡ told ++ drop answer_places answer.old }
-{
-    let mut i: usize = 0;
-    while i < ANSWER {
-        answer[i] = told[i];
-        i += 1;
-    }
-}
-
 // The result, and the answer where the call is done.
 fn write_answer(outcome: Outcome, answer: &mut [u64]) -> u64
     requires { answer_places ≤ length answer.old }
     ensures value { result ≡ outcome.result }
     ensures answer_after { answer.new ≡ answer_after outcome answer.old }
 {
-    let result = outcome.result;
+    let Outcome { result, told } = outcome;
     if result != 0 {
         return result;
     }
-    let told = outcome.told;
-    write_places(told, answer);
+    answer[..ANSWER].copy_from_slice(&told);
     result
 }
 
-fn percent_is_there(percent: Percent) -> i64
-    ensures { result ≡ percent_is_there percent }
-{
-    match percent {
-        Percent::Whole(_) => 1,
-        Percent::None => 0,
-    }
+// A percentage in four places: whether it is there, rounded, and the exact figure's quotient and remainder.
+// All four are numbers, since they cross to C.
+#[derive(Clone, Copy)]
+struct PercentPlaces {
+    is_there: i64,
+    figure: i64,
+    quotient: i64,
+    remainder: i64,
 }
 
-fn percent_figure(percent: Percent) -> i64
-    ensures { result ≡ percent_figure percent }
-{
-    match percent {
-        Percent::Whole(whole) => whole.rounded,
-        Percent::None => 0,
-    }
-}
-
-fn percent_quotient(percent: Percent) -> i64
-    ensures { result ≡ percent_quotient percent }
-{
-    match percent {
-        Percent::Whole(whole) => whole.quotient,
-        Percent::None => 0,
-    }
-}
-
-fn percent_remainder(percent: Percent) -> i64
+fn percent_places(percent: Percent) -> PercentPlaces
     requires { RemainderWithin percent }
-    ensures { result ≡ percent_remainder percent }
+    ensures is_there { result.is_there ≡ percent_is_there percent }
+    ensures figure { result.figure ≡ percent_figure percent }
+    ensures quotient { result.quotient ≡ percent_quotient percent }
+    ensures remainder { result.remainder ≡ percent_remainder percent }
 {
     match percent {
-        Percent::Whole(whole) => signed(whole.remainder),
-        Percent::None => 0,
+        Some(whole) => PercentPlaces {
+            is_there: 1,
+            figure: whole.rounded,
+            quotient: whole.quotient,
+            remainder: signed(whole.remainder),
+        },
+        None => PercentPlaces {
+            is_there: 0,
+            figure: 0,
+            quotient: 0,
+            remainder: 0,
+        },
     }
 }
 
@@ -153,9 +132,9 @@ fn figure_places(r: Reconciliation) -> [i64; FIGURES]
     requires { FiguresWithin r }
     ensures { result ≡ figure_values r }
 {
-    let reliance = r.reliance;
-    let upfront = r.upfront;
-    let nc_ratio = r.nc_ratio;
+    let reliance = percent_places(r.reliance);
+    let upfront = percent_places(r.upfront);
+    let nc_ratio = percent_places(r.nc_ratio);
     [
         signed(r.me),
         signed(r.mc),
@@ -172,18 +151,18 @@ fn figure_places(r: Reconciliation) -> [i64; FIGURES]
         signed(r.x),
         signed(r.entered),
         signed(r.borne),
-        percent_is_there(reliance),
-        percent_figure(reliance),
-        percent_is_there(upfront),
-        percent_figure(upfront),
-        percent_is_there(nc_ratio),
-        percent_figure(nc_ratio),
-        percent_quotient(reliance),
-        percent_remainder(reliance),
-        percent_quotient(upfront),
-        percent_remainder(upfront),
-        percent_quotient(nc_ratio),
-        percent_remainder(nc_ratio),
+        reliance.is_there,
+        reliance.figure,
+        upfront.is_there,
+        upfront.figure,
+        nc_ratio.is_there,
+        nc_ratio.figure,
+        reliance.quotient,
+        reliance.remainder,
+        upfront.quotient,
+        upfront.remainder,
+        nc_ratio.quotient,
+        nc_ratio.remainder,
     ]
 }
 
@@ -193,11 +172,7 @@ fn write_figures(r: Reconciliation, figures: &mut [i64])
     ensures { figures.new ≡ figures_after r figures.old }
 {
     let places = figure_places(r);
-    let mut i: usize = 0;
-    while i < FIGURES {
-        figures[i] = places[i];
-        i += 1;
-    }
+    figures[..FIGURES].copy_from_slice(&places);
 }
 
 // The reconciliation of a request by a rate book, into the figures.
@@ -208,13 +183,12 @@ pub fn fikrem_price(book: &[u8], request: &[u8], figures: &mut [i64]) -> u64
     if figures.len() < FIGURES {
         return TOO_SHORT;
     }
-    let pricing = charge::price(book, request);
-    match pricing {
-        Pricing::Priced(bill) => {
+    match charge::price(book, request) {
+        Ok(bill) => {
             write_figures(bill.reconciliation, figures);
             0
         }
-        Pricing::NotPriced(refusal) => result_of(refusal, 0),
+        Err(refusal) => result_of(refusal, 0),
     }
 }
 
@@ -225,12 +199,13 @@ fn written_places(length: usize) -> [u64; ANSWER]
     [0, 0, 0, 0, length as u64]
 }
 
+// Three, with the call's and the check's below: what is told, or whose file a refusal is of, differs in each.
 fn slip_outcome(written: SlipWritten) -> Outcome
     ensures { result ≡ outcome_of (unit_slip_ending written) }
 {
     match written {
-        SlipWritten::Written(length) => done(written_places(length)),
-        SlipWritten::Refused(refusal) => refused(refusal, 0),
+        Ok(length) => done(written_places(length)),
+        Err(refusal) => refused(refusal, 0),
     }
 }
 
@@ -247,18 +222,28 @@ pub fn fikrem_slip_text(book: &[u8], request: &[u8], text: &mut [u8], answer: &m
     write_answer(slip_outcome(written), answer)
 }
 
-// What pay-out, hand-over and the new ledger tell: the new form's length.
-fn call_outcome(answer: StoredAnswer) -> Outcome
-    ensures { result ≡ outcome_of (unit_call_ending (of_stored_answer answer)) }
+// A refusal of the stored ledger itself is told apart from one of the call.
+fn stored_refused(refusal: StoredRefusal) -> Outcome
+    ensures { result ≡ outcome_of (unit_call_ending (refused_by refusal)) }
 {
-    match answer {
-        StoredAnswer::NotRead(refusal) => refused(refusal, 1),
-        StoredAnswer::Refused(refusal) => refused(refusal, 0),
-        StoredAnswer::Done(length) => done(written_places(length)),
+    match refusal {
+        StoredRefusal::NotRead(refusal) => refused(refusal, 1),
+        StoredRefusal::NotMade(refusal) => refused(refusal, 0),
     }
 }
 
-// The stored form of a new ledger, into the lent output.
+// What pay-out, hand-over and the new ledger tell: the new form's length.
+fn call_outcome(answer: Result<usize, StoredRefusal>) -> Outcome
+    ensures { result ≡ outcome_of (unit_call_ending (of_stored_answer answer)) }
+{
+    match answer {
+        Ok(length) => done(written_places(length)),
+        Err(refusal) => stored_refused(refusal),
+    }
+}
+
+// The stored form of a new ledger, into the lent output. Here and below: room for the answer, then one call; a closure for the call would hold the
+// lent output, and be no plainer.
 pub fn fikrem_new_ledger(out: &mut [u8], answer: &mut [u64]) -> u64
     ensures { let end = unit_call new_ledger (lent_output out.old answer.old) in
         (result ≡ end.result) × (out.new ≡ end.lent.output) × (answer.new ≡ end.lent.answer) }
@@ -270,32 +255,19 @@ pub fn fikrem_new_ledger(out: &mut [u8], answer: &mut [u64]) -> u64
     write_answer(call_outcome(called), answer)
 }
 
-fn scheme_opened(opening: OpeningAnswer) -> u64
-    ensures { result ≡ scheme_opened opening }
-{
-    match opening {
-        OpeningAnswer::NotOpened => 0,
-        OpeningAnswer::Opened(number) => number as u64,
-    }
-}
-
 // What accept tells: the joining's kind, 0 where none is asked for, 1 joined, 2 small, 3 ended; the joiner's entry and G; the scheme
 // that opened; the new form's length.
-fn acceptance_places(joining: JoiningAnswer, opening: OpeningAnswer, length: usize) -> [u64; ANSWER]
+// The kind is a number and no scheme is 0, since both cross to C.
+fn acceptance_places(joining: JoiningAnswer, opening: Option<u16>, length: usize) -> [u64; ANSWER]
     ensures { result ≡ acceptance_places joining opening length }
 {
-    let scheme = scheme_opened(opening);
+    let scheme = opening.map_or(0, u64::from);
     let size = length as u64;
     match joining {
         JoiningAnswer::NotAsked => [0, 0, 0, scheme, size],
         JoiningAnswer::Joined(collected) => {
-            [
-                1,
-                collected.entry as u64,
-                collected.contribution as u64,
-                scheme,
-                size,
-            ]
+            let entry = u64::from(collected.entry);
+            [1, entry, u64::from(collected.contribution), scheme, size]
         }
         JoiningAnswer::Small => [2, 0, 0, scheme, size],
         JoiningAnswer::Ended => [3, 0, 0, scheme, size],
@@ -303,15 +275,18 @@ fn acceptance_places(joining: JoiningAnswer, opening: OpeningAnswer, length: usi
 }
 
 fn acceptance_outcome(accepted: StoredAcceptance) -> Outcome
-    ensures { result ≡ outcome_of (unit_call_ending (of_stored_accept (StoredAccept.Accepted accepted))) }
+    ensures { result ≡ outcome_of (unit_call_ending (of_stored_accept (Ok accepted))) }
 {
-    let acceptance = accepted.acceptance;
-    let joining = acceptance.joining;
-    let opening = acceptance.opening;
+    let Acceptance {
+        joining,
+        opening,
+        ..
+    } = accepted.acceptance;
     done(acceptance_places(joining, opening, accepted.length))
 }
 
 // Accept on a stored ledger: the new stored form into the lent output, and the reconciliation into the figures.
+// Here and below all arguments stand side by side: the C interface has numbers and lent buffers alone.
 pub fn fikrem_accept(
     stored: &[u8],
     table_size: usize,
@@ -325,24 +300,20 @@ pub fn fikrem_accept(
         let end = unit_call call (lent_both out.old figures.old answer.old) in
         (result ≡ end.result) × (out.new ≡ end.lent.output) × (figures.new ≡ end.lent.figures) × (answer.new ≡ end.lent.answer) }
 {
-    if answer.len() < ANSWER {
+    if answer.len() < ANSWER || figures.len() < FIGURES {
         return TOO_SHORT;
     }
-    if figures.len() < FIGURES {
-        return TOO_SHORT;
-    }
-    let called = stored_calls::accept_stored(stored, table_size, book, request, out);
-    match called {
-        StoredAccept::NotRead(refusal) => write_answer(refused(refusal, 1), answer),
-        StoredAccept::NotAccepted(refusal) => write_answer(refused(refusal, 0), answer),
-        StoredAccept::Accepted(accepted) => {
+    match stored_calls::accept_stored(stored, table_size, book, request, out) {
+        Ok(accepted) => {
             write_figures(accepted.acceptance.reconciliation, figures);
             write_answer(acceptance_outcome(accepted), answer)
         }
+        Err(refusal) => write_answer(stored_refused(refusal), answer),
     }
 }
 
 // Pay-out on a stored ledger: the new stored form into the lent output.
+// This and hand-over are two functions, as C has a name for each.
 pub fn fikrem_pay_out(
     stored: &[u8],
     table_size: usize,
@@ -383,18 +354,18 @@ pub fn fikrem_hand_over(
 }
 
 // What the check tells: schemes, entries, connections, the last accepted month.
-fn check_outcome(check: StoredCheck) -> Outcome
+fn check_outcome(check: Result<StoredCounts, Refusal>) -> Outcome
     ensures { result ≡ outcome_of (check_ending check) }
 {
     match check {
-        StoredCheck::NotRead(refusal) => refused(refusal, 1),
-        StoredCheck::Sound(counts) => done([
-            counts.schemes as u64,
-            counts.entries as u64,
-            counts.connections as u64,
-            counts.month as u64,
+        Ok(counts) => done([
+            u64::from(counts.schemes),
+            u64::from(counts.entries),
+            u64::from(counts.connections),
+            u64::from(counts.month),
             0,
         ]),
+        Err(refusal) => refused(refusal, 1),
     }
 }
 

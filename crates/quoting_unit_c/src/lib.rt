@@ -1,5 +1,6 @@
 // The C interface of the calls on numbers and lent buffers: each export hands its arguments on to the library's function of the same name,
 // with the same clauses. include/fikrem.h declares them, and the archive is libquoting_unit.a.
+// No crate can depend on a static library, so that the exports stand apart from the functions that Rattle calls.
 #![tactic(auto)]
 
 ghost use Rattle.std.specs.Prelude.{◌≡◌};

@@ -1,14 +1,13 @@
 -- How reading and writing a stored ledger end, by document 01's number and values.
-use Rattle.std.specs.Prelude.{[], ◌∷◌, Bool, true, false, pos}
+use Rattle.std.specs.Prelude.{[], ◌∷◌, Bool, true, false, pos, Err, Ok}
 use Rattle.tagged.specs.Ending.{Ending, ends_refused, ends_done}
-use Rattle.stored.specs.declared.writing.Written.{Written}
-use Rattle.stored.specs.declared.writing.Written.TheVariants.{Length, Refused}
+use Rattle.stored.specs.Writing.{Written}
 
 -- ---- "Writing answers the form's length": its value
 abbrev pub written_ending : Written → Ending
-written_ending (Length size) = ends_done (pos size ∷ [])
-written_ending (Refused r) = ends_refused r
+written_ending (Ok size) = ends_done (pos size ∷ [])
+written_ending (Err r) = ends_refused r
 
 abbrev pub is_written : Written → Bool
-is_written (Length size) = true
-is_written (Refused r) = false
+is_written (Ok size) = true
+is_written (Err r) = false

@@ -1,5 +1,5 @@
 -- Document 01, 'How calls end': "Writing answers the form's length and leaves output past that alone." Order: 13, 14.
-use Rattle.std.specs.Prelude.{ℕ, List, [], ◌∷◌, cond, true, ◌≡◌, length, leb}
+use Rattle.std.specs.Prelude.{ℕ, List, [], ◌∷◌, cond, true, ◌≡◌, length, leb, Err, Ok, Result}
 use Rattle.tagged.specs.File.{refusal}
 use Rattle.tagged.specs.Refusals.{ledger_unsound, output_too_short}
 use Rattle.ledger.specs.Lists.{at_start}
@@ -8,22 +8,25 @@ use Rattle.ledger.specs.declared.records.Party.{Party}
 use Rattle.ledger.specs.declared.records.Ledger.{Ledger}
 use Rattle.ledger.specs.RefusalNumbers.{one_of}
 use Rattle.stored.specs.Form.{stored_form}
-use Rattle.stored.specs.declared.writing.Written.{Written}
-use Rattle.stored.specs.declared.writing.Written.TheVariants.{Length, Refused}
+use Rattle.tagged.specs.declared.file.Refusal.{Refusal}
+
+-- the form's length, or the refusal
+abbrev pub Written : Type 0
+Written = Result ℕ Refusal
 
 -- without the soundness test
 abbrev pub form_answer : Ledger → List Party → List ℕ → Written
 form_answer ledger parties out =
-    cond (leb (length (stored_form ledger parties)) (length out)) (Length (length (stored_form ledger parties))) (Refused (refusal output_too_short 0 0))
+    cond (leb (length (stored_form ledger parties)) (length out)) (Ok (length (stored_form ledger parties))) (Err (refusal output_too_short 0 0))
 
 -- the answer, and the output afterwards; `room` is the table's length
 unfoldable pub written_answer : Ledger → List Party → ℕ → List ℕ → Written
-written_answer ledger parties room out = cond (sound ledger parties room) (form_answer ledger parties out) (Refused (refusal ledger_unsound 0 0))
+written_answer ledger parties room out = cond (sound ledger parties room) (form_answer ledger parties out) (Err (refusal ledger_unsound 0 0))
 
 -- by the answer: the form at the start of the output, or the output as it was
 abbrev pub output_by : Written → List ℕ → List ℕ → List ℕ
-output_by (Length size) form out = at_start form out
-output_by (Refused r) form out = out
+output_by (Ok size) form out = at_start form out
+output_by (Err r) form out = out
 
 abbrev pub form_output : Ledger → List Party → List ℕ → List ℕ
 form_output ledger parties out = output_by (form_answer ledger parties out) (stored_form ledger parties) out
@@ -49,5 +52,5 @@ abbrev pub writing_numbers : List ℕ
 writing_numbers = ledger_unsound ∷ output_too_short ∷ []
 
 abbrev pub WriteRefuses : Written → Type 0
-WriteRefuses (Length size) = Unit {0}
-WriteRefuses (Refused r) = one_of writing_numbers r.number ≡ true
+WriteRefuses (Ok size) = Unit {0}
+WriteRefuses (Err r) = one_of writing_numbers r.number ≡ true

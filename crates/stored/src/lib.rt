@@ -1,9 +1,8 @@
-// The stored ledger: document 01, 'Stored form'. A ledger and its entries, a by-value snapshot of
+// The stored ledger: document 01, 'Stored form'. A ledger and its entries, the first records of
 // the party table, as the bytes of a file: its fields, what the bytes are and what they are read as.
 // Crates above write and read them.
 #![tactic(auto)]
 
 pub mod lengths;
-pub mod reading;
 pub mod rows;
 pub mod writing;

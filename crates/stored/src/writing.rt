@@ -1,9 +1,5 @@
 // What writing a ledger answers.
 use tagged::file::Refusal;
 
-#[derive(Clone, Copy)]
-pub enum Written {
-    // the form's length
-    Length(usize),
-    Refused(Refusal),
-}
+// The form's length, or the refusal.
+pub type Written = Result<usize, Refusal>;

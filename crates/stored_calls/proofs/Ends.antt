@@ -1,5 +1,6 @@
 -- Reading, the call and writing by value end as the call on stored bytes does: what was read is sound, and the call leaves it so, so that nothing is
 -- tested again.
+use Rattle.std.specs.Prelude.{Err, Ok}
 use Prim.Native.Nat.{ℕ, zero, suc, ◌≤◌, min}
 use mathlib.Core.Path.{◌≡◌, refl, sym, ap, ap₂, subst, ◌∙◌}
 use mathlib.Core.List.{List, [], ◌∷◌}
@@ -7,9 +8,8 @@ use mathlib.Core.Bool.{true}
 use native.Mathlib.Omega.{arith}
 use lib.ListN.{length, take, length-take}
 use lib.Seq.{take-take}
-use Rattle.tagged.specs.File.{fields_part}
-use Rattle.tagged.specs.declared.file.FileAnswer.{FileAnswer}
-use Rattle.tagged.specs.declared.file.FileAnswer.TheVariants.{Stands, Refused}
+use Rattle.tagged.specs.File.{fields_part, FileAnswer}
+use Rattle.tagged.specs.declared.file.Refusal.{Refusal}
 use Rattle.ledger.specs.Limits.{most_schemes, most_entries}
 use Rattle.ledger.specs.Lists.{at_start}
 use Rattle.ledger.specs.Records.{no_parties, new_ledger}
@@ -25,12 +25,11 @@ use Rattle.kept_sound.proofs.Theorems.KeptSound.{call_keeps_sound, leaves_length
 use Rattle.calls_by_value.specs.ByValue.{SoundOnRecords, PromisedOnRecords}
 use Rattle.stored.specs.Form.{stored_form, stored_entries, stored_ledger}
 use Rattle.stored.proofs.Theorems.StoredAccepted.{accepted_means}
-use Rattle.stored.specs.Reading.{ReadEnd, read_answer, read_by, read_back, table_by}
+use Rattle.stored.specs.Reading.{ReadBack, ReadEnd, read_answer, read_by, read_back, of_reading, table_by}
 use Rattle.stored.specs.Writing.{output_by, form_end, write_of}
 use Rattle.stored.proofs.Theorems.Writing.{write_sound}
 use Rattle.stored.proofs.Theorems.SameForm.{same_form}
-use Rattle.stored.specs.declared.reading.ReadBack.{ReadBack}
-use Rattle.stored_calls.specs.StoredCalls.{stored_read, read_end, end_by, once_read, call_on_read, stored_call_of}
+use Rattle.stored_calls.specs.StoredCalls.{stored_read, end_by, call_on_read, stored_call_of}
 use Rattle.stored_calls.proofs.Theorems.StoredCalls.{length_room}
 use Rattle.stored_calls.proofs.Theorems.StoredCallsRefusals.{places_read, sound_read}
 
@@ -45,20 +44,42 @@ at_start_within (x ∷ elements) [] (suc room) fits few = absurd (omega (arith, 
 at_start_within (x ∷ elements) (y ∷ others) (suc room) fits few =
     ap (λ l. x ∷ l) (at_start_within elements others room (omega (arith, fits)) (omega (arith, few)))
 
-pub read_by_value : (file : List ℕ) (room : ℕ) → read_end room (read_back new_ledger (min room most_entries) file) ≡ stored_read file room
+ok_no_refusal : {r : Refusal} → ◌≡◌ {A = FileAnswer} (Ok tt) (Err r) → ⊥
+ok_no_refusal e = cc
+
+-- what is read by value, into new records
+pub reads : (file : List ℕ) (room : ℕ) {parties : List Party} {ledger : Ledger} → of_reading (Ok parties) ledger ≡ read_back new_ledger (min room most_entries) file →
+    stored_read file room ≡ record { answer = Ok tt; ledger = ledger; table = take room parties }
 unfolding stored_read
-read_by_value file room =
-    by_answer (read_answer (min room most_entries) file) refl
-    ∙ ap (λ records. table_by (read_answer records file) new_ledger (take room no_parties) (fields_part file)) (sym (length_room room))
+reads file room {parties} {ledger} e =
+    ap (λ records. table_by (read_answer records file) new_ledger (take room no_parties) (fields_part file)) (length_room room)
+    ∙ by_answer (read_answer (min room most_entries) file) refl e
   where
-    by_answer : (answer : FileAnswer) → read_answer (min room most_entries) file ≡ answer →
-        read_end room (read_by answer new_ledger (fields_part file)) ≡ table_by answer new_ledger (take room no_parties) (fields_part file)
-    by_answer Stands stands =
-        let s = fields_part file in
+    s : List ℕ
+    s = fields_part file
+
+    by_answer : (answer : FileAnswer) → read_answer (min room most_entries) file ≡ answer → of_reading (Ok parties) ledger ≡ read_by answer new_ledger s →
+        table_by answer new_ledger (take room no_parties) s ≡ record { answer = Ok tt; ledger = ledger; table = take room parties }
+    by_answer (Ok _) stands e =
         let fits = (accepted_means (min room most_entries) file stands).fits in
-        ap (λ table. record { answer = Stands; ledger = stored_ledger s; table = table })
-        (at_start_within (stored_entries s) no_parties room (omega (arith, fits)) (omega (arith, fits, length_no_parties)))
-    by_answer (Refused r) refused = refl
+        ap (λ table. record { answer = Ok tt; ledger = stored_ledger s; table = table })
+        (sym (at_start_within (stored_entries s) no_parties room (omega (arith, fits)) (omega (arith, fits, length_no_parties))))
+        ∙ (λ i. record { answer = Ok tt; ledger = (sym e i).ledger; table = take room (sym e i).parties })
+    by_answer (Err r) refused e = absurd (ok_no_refusal (ap (λ (read : ReadBack). read.answer) e))
+
+pub reads_not : (file : List ℕ) (room : ℕ) {r : Refusal} {ledger : Ledger} → of_reading (Err r) ledger ≡ read_back new_ledger (min room most_entries) file →
+    (stored_read file room).answer ≡ Err r
+unfolding stored_read
+reads_not file room {r} {ledger} e =
+    ap (λ records. (table_by (read_answer records file) new_ledger (take room no_parties) (fields_part file)).answer) (length_room room)
+    ∙ by_answer (read_answer (min room most_entries) file) (ap (λ (read : ReadBack). read.answer) e)
+  where
+    s : List ℕ
+    s = fields_part file
+
+    by_answer : (answer : FileAnswer) → Err r ≡ (read_by answer new_ledger s).answer → (table_by answer new_ledger (take room no_parties) s).answer ≡ Err r
+    by_answer (Ok _) e = sym e
+    by_answer (Err other) e = sym e
 
 -- ---- writing
 
@@ -71,41 +92,36 @@ form_of_sound ledger parties table out entries holds =
 
 -- ---- a call once the ledger is read
 
-module _ (file : List ℕ) (room : ℕ) (call : Call) (read : ReadBack) (same : read_end room read ≡ stored_read file room) where
+module _ (file : List ℕ) (room : ℕ) (call : Call) (ledger : Ledger) (parties : List Party)
+    (same : stored_read file room ≡ record { answer = Ok tt; ledger = ledger; table = take room parties }) where
   abbrev before : State
-  before = state_of read.ledger (take room read.parties)
+  before = state_of ledger (take room parties)
 
-  -- by reading's answer
-  answered_by : {answer : FileAnswer} (out : List ℕ) → read.answer ≡ answer → once_read answer before call out ≡ stored_call_of file room call out
-  answered_by out told = ap (λ answer. once_read answer before call out) (sym told) ∙ ap (λ end. call_on_read end call out) same
+  pub sound_here : SoundOnRecords room ledger parties
+  sound_here =
+      subst (λ (end : ReadEnd). sound end.ledger end.table (length end.table) ≡ true) same (sound_read file room (ap (λ (end : ReadEnd). end.answer) same))
 
-  module _ (stands : read.answer ≡ Stands) where
-    pub sound_here : SoundOnRecords room read.ledger read.parties
-    sound_here =
-        subst (λ (end : ReadEnd). sound end.ledger end.table (length end.table) ≡ true) (sym same)
-        (sound_read file room (sym (ap (λ (end : ReadEnd). end.answer) same) ∙ stands))
+  module _ (fits : Fits call) {answer : CallAnswer} {after : Ledger} {left : List Party}
+      (promise : PromisedOnRecords room ledger parties call answer after left) where
+    places : length ledger.schemes ≡ most_schemes
+    places = subst (λ (end : ReadEnd). length end.ledger.schemes ≡ most_schemes) same (places_read file room)
 
-    module _ (fits : Fits call) {answer : CallAnswer} {after : Ledger} {left : List Party}
-        (promise : PromisedOnRecords room read.ledger read.parties call answer after left) where
-      places : length read.ledger.schemes ≡ most_schemes
-      places = subst (λ (end : ReadEnd). length end.ledger.schemes ≡ most_schemes) (sym same) (places_read file room)
+    kept : sound after (take room left) (length (take room left)) ≡ true
+    kept =
+        subst (λ (state : State). sound state.ledger state.table (length state.table) ≡ true) (sym promise.promised.leaving)
+        (ap (sound (leaves before call).ledger (leaves before call).table) (leaves_length before call places)
+        ∙ call_keeps_sound before call places fits sound_here)
 
-      kept : sound after (take room left) (length (take room left)) ≡ true
-      kept =
-          subst (λ (state : State). sound state.ledger state.table (length state.table) ≡ true) (sym promise.promised.leaving)
-          (ap (sound (leaves before call).ledger (leaves before call).table) (leaves_length before call places)
-          ∙ call_keeps_sound before call places fits sound_here)
+    pub counts_kept : (after.count ≤ most_schemes) × (after.entries ≤ most_entries)
+    counts_kept = let means = sound_means after (take room left) (length (take room left)) kept in (means.schemes, means.entries)
 
-      pub counts_kept : (after.count ≤ most_schemes) × (after.entries ≤ most_entries)
-      counts_kept = let means = sound_means after (take room left) (length (take room left)) kept in (means.schemes, means.entries)
-
-      pub call_ends : (out : List ℕ) → end_by answer (form_end after left out) out ≡ stored_call_of file room call out
-      call_ends out =
-          let means = sound_means after (take room left) (length (take room left)) kept in
-          let entries = take-take after.entries room left (omega (arith, means.in_table, length-take room left)) in
-          ap (λ written. end_by answer written out) (form_of_sound after left (take room left) out (sym entries) kept)
-          ∙ (λ i. end_by (promise.promised.answers i) (write_of (promise.promised.leaving i).ledger (promise.promised.leaving i).table out) out)
-          ∙ answered_by out stands
+    pub call_ends : (out : List ℕ) → end_by answer (form_end after left out) out ≡ stored_call_of file room call out
+    call_ends out =
+        let means = sound_means after (take room left) (length (take room left)) kept in
+        let entries = take-take after.entries room left (omega (arith, means.in_table, length-take room left)) in
+        ap (λ written. end_by answer written out) (form_of_sound after left (take room left) out (sym entries) kept)
+        ∙ (λ i. end_by (promise.promised.answers i) (write_of (promise.promised.leaving i).ledger (promise.promised.leaving i).table out) out)
+        ∙ ap (λ end. call_on_read end call out) (sym same)
 
 -- a new ledger and no entries
 pub new_written : {ledger : Ledger} {parties : List Party} (out : List ℕ) → ledger ≡ new_ledger → parties ≡ no_parties →

@@ -1,8 +1,8 @@
 -- The calls on a ledger that is kept as its stored bytes: reading, the call and writing in turn. Document 01, 'How calls end': a refusal leaves the
 -- output as it was; 14 where it is shorter than the new form.
-use Rattle.std.specs.Prelude.{ℕ, List, take}
+use Rattle.std.specs.Prelude.{ℕ, List, take, Err, Ok, Result}
 use Rattle.tagged.specs.declared.file.Refusal.{Refusal}
-use Rattle.tagged.specs.declared.file.FileAnswer.{FileAnswer}
+use Rattle.tagged.specs.File.{FileAnswer}
 use Rattle.ledger.specs.Records.{no_parties, new_ledger}
 use Rattle.ledger.specs.declared.records.Ledger.{Ledger}
 use Rattle.calls.specs.Decision.{Call, CallAnswer, is_accepted, is_done, is_refused}
@@ -10,18 +10,11 @@ use Rattle.calls.specs.Carried.{State}
 use Rattle.calls.specs.Calls.{state_of, answered, leaves}
 use Rattle.calls.specs.declared.answers.Acceptance.{Acceptance}
 use Rattle.stored.specs.Reading.{ReadEnd, read_of}
-use Rattle.stored.specs.Writing.{WriteEnd, write_of}
-use Rattle.stored.specs.declared.reading.ReadBack.{ReadBack}
-use Rattle.stored.specs.declared.writing.Written.{Written}
-use Rattle.tagged.specs.declared.file.FileAnswer.TheVariants as FileAnswer
-use Rattle.stored.specs.declared.writing.Written.TheVariants as Written
-use Rattle.stored_calls.specs.declared.StoredAccept.{StoredAccept}
-use Rattle.stored_calls.specs.declared.StoredAnswer.{StoredAnswer}
+use Rattle.stored.specs.Writing.{WriteEnd, write_of, Written}
 use Rattle.stored_calls.specs.declared.StoredCounts.{StoredCounts}
-use Rattle.stored_calls.specs.declared.StoredCheck.{StoredCheck}
-use Rattle.stored_calls.specs.declared.StoredAccept.TheVariants as StoredAccept
-use Rattle.stored_calls.specs.declared.StoredAnswer.TheVariants as StoredAnswer
-use Rattle.stored_calls.specs.declared.StoredCheck.TheVariants as StoredCheck
+use Rattle.stored_calls.specs.declared.StoredAcceptance.{StoredAcceptance}
+use Rattle.stored_calls.specs.declared.StoredRefusal.{StoredRefusal}
+use Rattle.stored_calls.specs.declared.StoredRefusal.TheVariants.{NotRead, NotMade}
 
 -- ---- what a call answers
 pub data StoredCallAnswer : Type 0 where
@@ -33,15 +26,25 @@ pub data StoredCallAnswer : Type 0 where
   made_accepted : Acceptance → ℕ → StoredCallAnswer
   made_done : ℕ → StoredCallAnswer
 
+abbrev pub refused_by : StoredRefusal → StoredCallAnswer
+refused_by (NotRead r) = not_read r
+refused_by (NotMade r) = not_made r
+
+-- the new form's length with the acceptance, or the refusal
+abbrev pub StoredAccept : Type 0
+StoredAccept = Result StoredAcceptance StoredRefusal
+
 abbrev pub of_stored_accept : StoredAccept → StoredCallAnswer
-of_stored_accept (StoredAccept.NotRead r) = not_read r
-of_stored_accept (StoredAccept.NotAccepted r) = not_made r
-of_stored_accept (StoredAccept.Accepted done) = made_accepted done.acceptance done.length
+of_stored_accept (Err refusal) = refused_by refusal
+of_stored_accept (Ok done) = made_accepted done.acceptance done.length
+
+-- the new form's length, or the refusal
+abbrev pub StoredAnswer : Type 0
+StoredAnswer = Result ℕ StoredRefusal
 
 abbrev pub of_stored_answer : StoredAnswer → StoredCallAnswer
-of_stored_answer (StoredAnswer.NotRead r) = not_read r
-of_stored_answer (StoredAnswer.Refused r) = not_made r
-of_stored_answer (StoredAnswer.Done size) = made_done size
+of_stored_answer (Err refusal) = refused_by refusal
+of_stored_answer (Ok size) = made_done size
 
 -- the answer, and the lent output after it
 pub record CallEnd : Type 0 where
@@ -54,16 +57,12 @@ pub record CallEnd : Type 0 where
 unfoldable pub stored_read : List ℕ → ℕ → ReadEnd
 stored_read file room = read_of new_ledger (take room no_parties) file
 
--- the same of what is read by value
-abbrev pub read_end : ℕ → ReadBack → ReadEnd
-read_end room read = record { answer = read.answer; ledger = read.ledger; table = take room read.parties }
-
 -- ---- the call, and writing what it leaves
 
 -- an answer that tells the form's length, or 14
 abbrev pub written_answer : (ℕ → StoredCallAnswer) → Written → StoredCallAnswer
-written_answer told (Written.Length size) = told size
-written_answer told (Written.Refused r) = not_made r
+written_answer told (Ok size) = told size
+written_answer told (Err r) = not_made r
 
 abbrev pub written_end : (ℕ → StoredCallAnswer) → WriteEnd → CallEnd
 written_end told written = record { answer = written_answer told written.answer; output = written.output }
@@ -79,8 +78,8 @@ call_end state call out = end_by (answered state call) (write_of (leaves state c
 
 -- the call once the ledger was read, or reading's refusal with the output as it was
 abbrev pub once_read : FileAnswer → State → Call → List ℕ → CallEnd
-once_read FileAnswer.Stands state call out = call_end state call out
-once_read (FileAnswer.Refused r) state call out = record { answer = not_read r; output = out }
+once_read (Ok _) state call out = call_end state call out
+once_read (Err r) state call out = record { answer = not_read r; output = out }
 
 abbrev pub call_on_read : ReadEnd → Call → List ℕ → CallEnd
 call_on_read read call out = once_read read.answer (state_of read.ledger read.table) call out
@@ -103,9 +102,12 @@ counts_of ledger =
       entries = ledger.entries;
     }
 
+abbrev pub StoredCheck : Type 0
+StoredCheck = Result StoredCounts Refusal
+
 abbrev pub check_by : FileAnswer → Ledger → StoredCheck
-check_by FileAnswer.Stands ledger = StoredCheck.Sound (counts_of ledger)
-check_by (FileAnswer.Refused r) ledger = StoredCheck.NotRead r
+check_by (Ok _) ledger = Ok (counts_of ledger)
+check_by (Err r) ledger = Err r
 
 abbrev pub check_stored_of : List ℕ → ℕ → StoredCheck
 check_stored_of file room = check_by (stored_read file room).answer (stored_read file room).ledger

@@ -4,18 +4,17 @@
 // buffer as it was. Reading finds the ledger sound, and the call leaves it so: neither tests it again.
 #![tactic(auto)]
 
-ghost use Rattle.std.specs.Prelude.{◌≡◌, ◌≤◌};
+ghost use Rattle.std.specs.Prelude.{◌≡◌, ◌≤◌, take, MatchResult, Ok, Err};
 ghost use Rattle.ledger.specs.Limits.{most_schemes, most_entries};
 ghost use Rattle.calls.specs.Decision.{accept, pay_out, hand_over, of_accept, of_entry_call};
 ghost use Rattle.stored.specs.Writing.{form_end};
-ghost use Rattle.stored_calls.specs.StoredCalls.{made_accepted, made_done, of_stored_accept, of_stored_answer, stored_read, read_end, written_answer, end_by, stored_call_of, new_stored_of, counts_of, check_stored_of};
+ghost use Rattle.stored_calls.specs.StoredCalls.{of_stored_accept, of_stored_answer, stored_read, end_by, stored_call_of, new_stored_of, counts_of, check_stored_of};
 
-use calls::answers::{AcceptAnswer, Acceptance, Answer};
+use calls::answers::Acceptance;
 use calls_by_value::{AcceptedTable, ChangedTable};
+use ledger::limits::Parties;
 use ledger::records::Ledger;
-use stored::reading::ReadBack;
-use stored::writing::Written;
-use tagged::file::{FileAnswer, Refusal};
+use tagged::file::Refusal;
 
 // The new form's length with the acceptance.
 #[derive(Clone, Copy)]
@@ -25,21 +24,11 @@ pub struct StoredAcceptance {
 }
 
 #[derive(Clone, Copy)]
-pub enum StoredAccept {
-    // reading's refusal: file 1 is the stored ledger
+pub enum StoredRefusal {
+    // reading's: file 1 is the stored ledger
     NotRead(Refusal),
-    // accept's own: file 1 is the rate book, 2 the request
-    NotAccepted(Refusal),
-    Accepted(StoredAcceptance),
-}
-
-#[derive(Clone, Copy)]
-pub enum StoredAnswer {
-    // reading's refusal: file 1 is the stored ledger
-    NotRead(Refusal),
-    Refused(Refusal),
-    // the new form's length
-    Done(usize),
+    // the call's own, or 14: file 1 is the rate book, 2 the request
+    NotMade(Refusal),
 }
 
 #[derive(Clone, Copy)]
@@ -52,98 +41,67 @@ pub struct StoredCounts {
     pub entries: u32,
 }
 
+// A ledger that was read, and its entries.
 #[derive(Clone, Copy)]
-pub enum StoredCheck {
-    NotRead(Refusal),
-    Sound(StoredCounts),
+struct Stored {
+    ledger: Ledger,
+    parties: Parties,
 }
 
-fn read_stored(file: &[u8], room: usize) -> ReadBack
-    ensures { read_end room result ≡ stored_read file.now room }
+fn read_stored(file: &[u8], room: usize) -> Result<Stored, Refusal>
+    ensures { MatchResult result
+        (λ read. stored_read file.now room ≡ record { answer = Ok tt; ledger = read.ledger; table = take room read.parties })
+        (λ refusal. (stored_read file.now room).answer ≡ Err refusal) }
 {
-    stored_reading::read(
-        ledger::records::new_ledger(),
-        calls_by_value::records_of(room),
-        file,
-    )
+    let mut ledger = ledger::records::new_ledger();
+    let parties = stored_reading::read(&mut ledger, calls_by_value::records_of(room), file)?;
+    Ok(Stored { ledger, parties })
 }
 
-// What an accept answers once its ledger was written.
-fn written_accept(acceptance: Acceptance, written: Written) -> StoredAccept
-    ensures { of_stored_accept result ≡ written_answer (made_accepted acceptance) written }
-{
-    match written {
-        Written::Length(length) => StoredAccept::Accepted(StoredAcceptance { acceptance, length }),
-        Written::Refused(refusal) => StoredAccept::NotAccepted(refusal),
-    }
-}
-
-// What the other calls answer once the ledger was written.
-fn written_call(written: Written) -> StoredAnswer
-    ensures { of_stored_answer result ≡ written_answer made_done written }
-{
-    match written {
-        Written::Length(length) => StoredAnswer::Done(length),
-        Written::Refused(refusal) => StoredAnswer::Refused(refusal),
-    }
-}
-
-// The ledger and the table after an accept.
-fn write_accepted(accepted: AcceptedTable, out: &mut [u8]) -> StoredAccept
+// The ledger and the table after an accept, which alone has an acceptance to hand back beside the length.
+fn write_accepted(
+    accepted: AcceptedTable,
+    out: &mut [u8],
+) -> Result<StoredAcceptance, StoredRefusal>
     requires { (accepted.ledger.count ≤ most_schemes) × (accepted.ledger.entries ≤ most_entries) }
     ensures result_value { of_stored_accept result ≡ (end_by (of_accept accepted.answer) (form_end accepted.ledger accepted.parties out.old) out.old).answer }
     ensures out_after { out.new ≡ (end_by (of_accept accepted.answer) (form_end accepted.ledger accepted.parties out.old) out.old).output }
 {
-    let answer = accepted.answer;
-    match answer {
-        AcceptAnswer::Accepted(acceptance) => {
-            let ledger = accepted.ledger;
-            let parties = accepted.parties;
-            let written = stored_writing::write_form(ledger, parties, out);
-            written_accept(acceptance, written)
-        }
-        AcceptAnswer::NotAccepted(refusal) => StoredAccept::NotAccepted(refusal),
-    }
+    let acceptance = accepted.answer.map_err(StoredRefusal::NotMade)?;
+    let length = stored_writing::write_form(&accepted.ledger, &accepted.parties, out).map_err(
+        StoredRefusal::NotMade,
+    )?;
+    Ok(StoredAcceptance { acceptance, length })
 }
 
 // The ledger, which the other calls leave as it is, with the table after a call.
-fn write_changed(ledger: Ledger, changed: ChangedTable, out: &mut [u8]) -> StoredAnswer
+fn write_changed(
+    ledger: Ledger,
+    changed: ChangedTable,
+    out: &mut [u8],
+) -> Result<usize, StoredRefusal>
     requires { (ledger.count ≤ most_schemes) × (ledger.entries ≤ most_entries) }
     ensures result_value { of_stored_answer result ≡ (end_by (of_entry_call changed.answer) (form_end ledger changed.parties out.old) out.old).answer }
     ensures out_after { out.new ≡ (end_by (of_entry_call changed.answer) (form_end ledger changed.parties out.old) out.old).output }
 {
-    let answer = changed.answer;
-    match answer {
-        Answer::Done => {
-            let parties = changed.parties;
-            let written = stored_writing::write_form(ledger, parties, out);
-            written_call(written)
-        }
-        Answer::Refused(refusal) => StoredAnswer::Refused(refusal),
-    }
+    changed.answer.map_err(StoredRefusal::NotMade)?;
+    stored_writing::write_form(&ledger, &changed.parties, out).map_err(StoredRefusal::NotMade)
 }
 
+// Each of the three calls reads, decides and writes, a line for each: one function over a closure for the decision would be no shorter.
 pub fn accept_stored(
     file: &[u8],
     room: usize,
     book: &[u8],
     request: &[u8],
     out: &mut [u8],
-) -> StoredAccept
+) -> Result<StoredAcceptance, StoredRefusal>
     ensures result_value { of_stored_accept result ≡ (stored_call_of file.now room (accept book.now request.now) out.old).answer }
     ensures out_after { out.new ≡ (stored_call_of file.now room (accept book.now request.now) out.old).output }
 {
-    let read = read_stored(file, room);
-    let answer = read.answer;
-    match answer {
-        FileAnswer::Stands => {
-            let ledger = read.ledger;
-            let parties = read.parties;
-            let accepted = calls_by_value::accept_sound(ledger, parties, room, book, request);
-            write_accepted(accepted, out)
-        }
-        FileAnswer::Refused(refusal) => StoredAccept::NotRead(refusal),
-    }
+    let Stored { ledger, parties } = read_stored(file, room).map_err(StoredRefusal::NotRead)?;
+    let accepted = calls_by_value::accept_sound(ledger, parties, room, book, request);
+    write_accepted(accepted, out)
 }
 
 pub fn pay_out_stored(
@@ -152,21 +110,13 @@ pub fn pay_out_stored(
     entry: u32,
     amount: u64,
     out: &mut [u8],
-) -> StoredAnswer
+) -> Result<usize, StoredRefusal>
     ensures result_value { of_stored_answer result ≡ (stored_call_of file.now room (pay_out entry amount) out.old).answer }
     ensures out_after { out.new ≡ (stored_call_of file.now room (pay_out entry amount) out.old).output }
 {
-    let read = read_stored(file, room);
-    let answer = read.answer;
-    match answer {
-        FileAnswer::Stands => {
-            let ledger = read.ledger;
-            let parties = read.parties;
-            let changed = calls_by_value::pay_out_sound(ledger, parties, room, entry, amount);
-            write_changed(ledger, changed, out)
-        }
-        FileAnswer::Refused(refusal) => StoredAnswer::NotRead(refusal),
-    }
+    let read = read_stored(file, room).map_err(StoredRefusal::NotRead)?;
+    let changed = calls_by_value::pay_out_sound(read.ledger, read.parties, room, entry, amount);
+    write_changed(read.ledger, changed, out)
 }
 
 pub fn hand_over_stored(
@@ -175,56 +125,43 @@ pub fn hand_over_stored(
     entry: u32,
     person: u32,
     out: &mut [u8],
-) -> StoredAnswer
+) -> Result<usize, StoredRefusal>
     ensures result_value { of_stored_answer result ≡ (stored_call_of file.now room (hand_over entry person) out.old).answer }
     ensures out_after { out.new ≡ (stored_call_of file.now room (hand_over entry person) out.old).output }
 {
-    let read = read_stored(file, room);
-    let answer = read.answer;
-    match answer {
-        FileAnswer::Stands => {
-            let ledger = read.ledger;
-            let parties = read.parties;
-            let changed = calls_by_value::hand_over_sound(ledger, parties, room, entry, person);
-            write_changed(ledger, changed, out)
-        }
-        FileAnswer::Refused(refusal) => StoredAnswer::NotRead(refusal),
-    }
+    let read = read_stored(file, room).map_err(StoredRefusal::NotRead)?;
+    let changed = calls_by_value::hand_over_sound(read.ledger, read.parties, room, entry, person);
+    write_changed(read.ledger, changed, out)
 }
 
 // The stored form of a new ledger, which every list of calls starts from.
-pub fn new_stored(out: &mut [u8]) -> StoredAnswer
+pub fn new_stored(out: &mut [u8]) -> Result<usize, StoredRefusal>
     ensures result_value { of_stored_answer result ≡ (new_stored_of out.old).answer }
     ensures out_after { out.new ≡ (new_stored_of out.old).output }
 {
+    let ledger = ledger::records::new_ledger();
     let parties = ledger::records::no_parties();
-    let written = stored_writing::write_form(ledger::records::new_ledger(), parties, out);
-    written_call(written)
+    stored_writing::write_form(&ledger, &parties, out).map_err(StoredRefusal::NotMade)
 }
 
-fn counts_of(ledger: Ledger) -> StoredCounts
-    ensures { result ≡ counts_of ledger }
-{
-    StoredCounts {
-        month: ledger.month,
-        connections: ledger.connections,
-        charged: ledger.charged,
-        borne: ledger.borne,
-        schemes: ledger.count,
-        entries: ledger.entries,
+impl From<&Ledger> for StoredCounts {
+    ghost from_gives = { λ ledger counts. counts ≡ counts_of ledger.now };
+
+    fn from(ledger: &Ledger) -> StoredCounts {
+        StoredCounts {
+            month: ledger.month,
+            connections: ledger.connections,
+            charged: ledger.charged,
+            borne: ledger.borne,
+            schemes: ledger.count,
+            entries: ledger.entries,
+        }
     }
 }
 
-pub fn check_stored(file: &[u8], room: usize) -> StoredCheck
+pub fn check_stored(file: &[u8], room: usize) -> Result<StoredCounts, Refusal>
     ensures { result ≡ check_stored_of file.now room }
 {
-    let read = read_stored(file, room);
-    let answer = read.answer;
-    match answer {
-        FileAnswer::Stands => {
-            let ledger = read.ledger;
-            StoredCheck::Sound(counts_of(ledger))
-        }
-        FileAnswer::Refused(refusal) => StoredCheck::NotRead(refusal),
-    }
+    let read = read_stored(file, room)?;
+    Ok(StoredCounts::from(&read.ledger))
 }

@@ -1,6 +1,5 @@
 -- The laws that the functions of src/ are there for, one statement each; the proofs stand in proofs/.
-use Rattle.std.specs.Prelude.{ℕ, ◌≤◌, ◌≡◌, List, [], length, take}
-use Rattle.tagged.specs.declared.file.FileAnswer.TheVariants as FileAnswer
+use Rattle.std.specs.Prelude.{ℕ, ◌≤◌, ◌≡◌, List, [], length, take, Ok}
 use Rattle.ledger.specs.Records.{no_parties, new_ledger}
 use Rattle.ledger.specs.Lists.{at_start}
 use Rattle.calls.specs.Decision.{Call, CallAnswer}
@@ -17,7 +16,7 @@ KeptReadsBack =
     StoredTrace room (stored_form new_ledger []) calls answers after →
     let start = take room no_parties in
     let history = history_of (length start) calls in
-    stored_read after room ≡ record { answer = FileAnswer.Stands; ledger = ledger_in history; table = at_start (parties_in history) start }
+    stored_read after room ≡ record { answer = Ok tt; ledger = ledger_in history; table = at_start (parties_in history) start }
 
 -- every list of calls has such a trace, from any bytes and with any output that has room for the longest form
 abbrev pub StoredTraceExists : Type 0

@@ -4,8 +4,9 @@ use mathlib.Core.Path.{◌≡◌, refl, sym, ap, ap₂, subst, ◌∙◌}
 use mathlib.Core.List.{List, [], ◌∷◌, ◌++◌, map, append_assoc, append-nil, Memᴰ}
 use native.Mathlib.Omega.{arith}
 use lib.ListN.{length, get_or, set, drop, length-append, length-take, length-drop}
-use Rattle.field_walk.specs.Walk.{FieldAt, FieldsWalk, value_of}
-use Rattle.tagged.specs.Find.{fields_of, fields_with, value_place, rest_place, part_of}
+use Rattle.std.specs.Prelude.{Bool, true, false, cond, ◌-◌, None}
+use Rattle.field_walk.specs.Walk.{FieldAt, FieldsWalk, value_of, length_at}
+use Rattle.tagged.specs.Find.{fields_of, fields_with, whole_field, value_place, rest_place, place_at, part_of}
 use Rattle.tagged.proofs.Theorems.FieldsWith.{with_this, with_past}
 use Rattle.tagged.specs.WalkRelations.{Fields}
 use Rattle.tagged.proofs.Theorems.Walk.{walk_fields}
@@ -134,3 +135,12 @@ module _ {A : Type 0} {read : List ℕ → A} {tag size : ℕ} {s : List ℕ} {n
                   ∙ at_start_one_more so_far.done none element room;
               count_is = omega (arith, so_far.count_is, length-append so_far.done (element ∷ []));
             }
+
+-- the rest after the next field is shorter
+rest_by : (s : List ℕ) (whole : Bool) → 0 < length s →
+    length (part_of (cond whole (place_at (length_at s + 3) (length s - (length_at s + 3))) None) s) < length s
+rest_by s true more = simp (length-take, length-drop) (omega arith)
+rest_by s false more = more
+
+pub rest_shorter : (s : List ℕ) → 0 < length s → length (part_of (rest_place s) s) < length s
+rest_shorter s more = rest_by s (whole_field s) more

@@ -1,146 +1,158 @@
 // Reading a stored ledger: the ledger and its entries, or the refusal.
 #![tactic(auto)]
 
-ghost use Rattle.std.specs.Prelude.{◌≡◌, ◌≤◌, length};
-ghost use Rattle.field_walk.specs.Walk.{FieldsWalk};
+ghost use Rattle.std.specs.Prelude.{◌≡◌, ◌≤◌, ℕ, List, length, Ok};
+ghost use mathlib.Core.List.{Memᴰ};
+ghost use Rattle.field_walk.specs.Walk.{FieldAt, FieldsWalk, walk, walked};
+ghost use Rattle.tagged.specs.Find.{fields_of};
 ghost use Rattle.ledger.specs.Lists.{at_start};
 ghost use Rattle.ledger.specs.Limits.{most_schemes, most_entries};
-ghost use Rattle.ledger.specs.Records.{no_parties};
 ghost use Rattle.ledger.specs.Sound.{sound};
 ghost use Rattle.stored.specs.StoredRows.{stored_rows};
-ghost use Rattle.stored.specs.Form.{scheme_of_bytes, party_of_bytes, stored_schemes, stored_entries, no_schemes, stored_ledger};
-ghost use Rattle.stored.specs.Reading.{table_answer, fields_answer, refused_read, read_by, read_back};
+ghost use Rattle.stored.specs.Form.{scheme_of_bytes, party_of_bytes, each_with, stored_entries, no_schemes, stored_ledger};
+ghost use Rattle.stored.specs.Reading.{table_answer, read_by, read_back, of_reading};
+ghost use Rattle.std.proofs.Common.{rules};
+ghost use Rattle.stored.proofs.Theorems.StoredFields.{scheme_sized, party_sized, few_schemes_collected, few_entries_collected};
 
-use field_values::judged::Judged;
-use ledger::limits::{Parties, Schemes};
+use ledger::limits::{MOST_SCHEMES, Parties, Schemes};
 use ledger::records::{Ledger, Party, Scheme};
-use numbers::big_endian::{read_u16, read_u32, read_u64};
-use stored::reading::ReadBack;
-use tagged::file::{FileAnswer, Refusal};
+use numbers::big_endian::BigEndian;
+use tagged::file::Refusal;
 use tagged::refusals::{LEDGER_UNSOUND, NO_ENTRY_LEFT, VALUE_NOT_LISTED};
 
-// The schemes of a file, in the first `count` places.
-#[derive(Clone, Copy)]
-struct SchemesRead {
-    schemes: Schemes,
-    count: usize,
+// A record that a stored ledger has a field for each of.
+trait StoredRecord: Copy {
+    ghost TAG: { ℕ };
+
+    const TAG: u8;
+
+    // how long its value is, and how many of them a ledger holds
+    ghost size: { ℕ };
+
+    ghost most: { ℕ };
+
+    ghost of_bytes: { List ℕ → Self };
+
+    fn read(value: &[u8]) -> Self
+        requires { size ≤ length value.now }
+        ensures { result ≡ of_bytes value.now };
+
+    ghost sized: { (s : List ℕ) → FieldsWalk stored_rows s → (f : FieldAt) → Memᴰ f (fields_of s) → f.tag ≡ TAG → f.len ≡ size };
+
+    ghost few: { (s : List ℕ) → FieldsWalk stored_rows s → length (each_with of_bytes TAG s (fields_of s)) ≤ most };
+
+    ghost most_fits: { most ≤ most_entries };
 }
 
-// The entries of a file, in the first `count` places.
-#[derive(Clone, Copy)]
-struct EntriesRead {
-    parties: Parties,
-    count: usize,
+impl StoredRecord for Scheme {
+    ghost TAG = { 3 };
+
+    const TAG: u8 = 3;
+
+    ghost size = { 24 };
+
+    ghost most = { most_schemes };
+
+    ghost of_bytes = { scheme_of_bytes };
+
+    fn read(value: &[u8]) -> Scheme {
+        Scheme {
+            cost: u32::read(value, 0),
+            fee: u32::read(value, 4),
+            minimum: u32::read(value, 8),
+            opening: u16::read(value, 12),
+            term: u16::read(value, 14),
+            fees: u64::read(value, 16),
+        }
+    }
+
+    ghost sized = { scheme_sized };
+
+    ghost few = { few_schemes_collected };
+
+    ghost most_fits = { Prim.search rules };
+}
+
+impl StoredRecord for Party {
+    ghost TAG = { 4 };
+
+    const TAG: u8 = 4;
+
+    ghost size = { 30 };
+
+    ghost most = { most_entries };
+
+    ghost of_bytes = { party_of_bytes };
+
+    fn read(value: &[u8]) -> Party {
+        Party {
+            scheme: u16::read(value, 0),
+            person: u32::read(value, 2),
+            capacity: u32::read(value, 6),
+            put_in: u32::read(value, 10),
+            credited: u64::read(value, 14),
+            paid_out: u64::read(value, 22),
+        }
+    }
+
+    ghost sized = { party_sized };
+
+    ghost few = { few_entries_collected };
+
+    ghost most_fits = { Prim.search rules };
 }
 
 fn no_schemes() -> Schemes
     ensures { result ≡ no_schemes }
 {
-    let new = ledger::records::new_ledger();
-    new.schemes
+    [Scheme::default(); MOST_SCHEMES]
 }
 
-fn read_scheme(value: &[u8]) -> Scheme
-    requires { 24 ≤ length value.now }
-    ensures { result ≡ scheme_of_bytes value.now }
-{
-    Scheme {
-        cost: read_u32(value, 0),
-        fee: read_u32(value, 4),
-        minimum: read_u32(value, 8),
-        opening: read_u16(value, 12),
-        term: read_u16(value, 14),
-        fees: read_u64(value, 16),
-    }
+// The fields of a stored ledger, which walk.
+#[derive(Clone, Copy)]
+struct StoredFields<'a> {
+    fields: &'a [u8],
+    ghost walks: { walked (walk stored_rows fields.now) ≡ Ok tt },
 }
 
-fn read_party(value: &[u8]) -> Party
-    requires { 30 ≤ length value.now }
-    ensures { result ≡ party_of_bytes value.now }
-{
-    Party {
-        scheme: read_u16(value, 0),
-        person: read_u32(value, 2),
-        capacity: read_u32(value, 6),
-        put_in: read_u32(value, 10),
-        credited: read_u64(value, 14),
-        paid_out: read_u64(value, 22),
-    }
-}
-
-// `inline(never)`, here and below: in a caller's frame the copies of the records would stay on the
-// stack.
-#[inline(never)]
-fn read_schemes(fields: &[u8]) -> SchemesRead
-    requires { FieldsWalk stored_rows fields.now }
-    ensures { (result.schemes ≡ at_start (stored_schemes fields.now) no_schemes) × (result.count ≡ length (stored_schemes fields.now)) × (result.count ≤ most_schemes) }
-{
-    let mut schemes = no_schemes();
-    let mut count: usize = 0;
-    let mut rest = fields;
-    while 0 < rest.len() {
-        if rest[0] == 3 {
-            let value = tagged::find::next_value(rest);
-            schemes[count] = read_scheme(value);
-            count += 1;
+impl<'a> StoredFields<'a> {
+    // The records of a file, in the first places, and how many they are. `inline(never)`, here and below:
+    // in a caller's frame the copies of the records would stay on the stack.
+    #[inline(never)]
+    fn read_records<R: StoredRecord>(self, records: &mut [R]) -> usize
+        requires places { R.most ≤ length records.old }
+        ensures stored { records.new ≡ at_start (each_with R.of_bytes R.TAG self.entry.fields.now (fields_of self.entry.fields.now)) records.old }
+        ensures count { result ≡ length (each_with R.of_bytes R.TAG self.entry.fields.now (fields_of self.entry.fields.now)) }
+    {
+        let mut count: usize = 0;
+        let mut rest = self.fields;
+        // Document 01 names the form: the part from a field's end onward goes on to the next step.
+        while !rest.is_empty() {
+            if rest[0] == R::TAG {
+                records[count] = R::read(tagged::find::next_value(rest));
+                count += 1;
+            }
+            rest = tagged::find::next_rest(rest);
         }
-        let next = tagged::find::next_rest(rest);
-        rest = next;
+        count
     }
-    SchemesRead {
-        schemes: schemes,
-        count: count,
-    }
-}
 
-#[inline(never)]
-fn read_entries(fields: &[u8]) -> EntriesRead
-    requires { FieldsWalk stored_rows fields.now }
-    ensures { (result.parties ≡ at_start (stored_entries fields.now) no_parties) × (result.count ≡ length (stored_entries fields.now)) × (result.count ≤ most_entries) }
-{
-    let mut parties = ledger::records::no_parties();
-    let mut count: usize = 0;
-    let mut rest = fields;
-    while 0 < rest.len() {
-        if rest[0] == 4 {
-            let value = tagged::find::next_value(rest);
-            parties[count] = read_party(value);
-            count += 1;
+    fn read_ledger(self, entries: usize) -> Ledger
+        requires { (entries ≡ length (stored_entries self.fields.now)) × (entries ≤ most_entries) }
+        ensures { result ≡ stored_ledger self.entry.fields.now }
+    {
+        let head = tagged::find::find(self.fields, 2);
+        let mut schemes = no_schemes();
+        let count = self.read_records(&mut schemes);
+        Ledger {
+            month: u16::read(head, 0),
+            connections: u32::read(head, 2),
+            charged: u64::read(head, 6),
+            borne: u64::read(head, 14),
+            entries: entries as u32,
+            count: count as u32,
+            schemes,
         }
-        let next = tagged::find::next_rest(rest);
-        rest = next;
-    }
-    EntriesRead {
-        parties: parties,
-        count: count,
-    }
-}
-
-fn read_ledger(fields: &[u8], entries: usize) -> Ledger
-    requires { FieldsWalk stored_rows fields.now × (entries ≡ length (stored_entries fields.now)) × (entries ≤ most_entries) }
-    ensures { result ≡ stored_ledger fields.now }
-{
-    let head = tagged::find::find(fields, 2);
-    let read = read_schemes(fields);
-    let schemes = read.schemes;
-    Ledger {
-        month: read_u16(head, 0),
-        connections: read_u32(head, 2),
-        charged: read_u64(head, 6),
-        borne: read_u64(head, 14),
-        entries: entries as u32,
-        count: read.count as u32,
-        schemes: schemes,
-    }
-}
-
-fn refused(ledger: Ledger, refusal: Refusal) -> ReadBack
-    ensures { result ≡ refused_read refusal ledger }
-{
-    ReadBack {
-        answer: FileAnswer::Refused(refusal),
-        ledger: ledger,
-        parties: ledger::records::no_parties(),
     }
 }
 
@@ -149,70 +161,34 @@ fn refused(ledger: Ledger, refusal: Refusal) -> ReadBack
 fn is_sound(ledger: &Ledger, parties: &Parties, room: usize) -> bool
     ensures { result ≡ sound ledger.now parties.now room }
 {
-    ledger::sound::sound(*ledger, *parties, room)
+    ledger::sound::sound(ledger, parties, room)
 }
 
 // The ledger and the entries of a file's fields, where they are sound in a table of `room` records.
-fn read_values(ledger: Ledger, room: usize, fields: &[u8]) -> ReadBack
-    requires { FieldsWalk stored_rows fields.now }
-    ensures { result ≡ read_by (table_answer room fields.now) ledger fields.now }
+fn read_values(ledger: &mut Ledger, room: usize, stored: StoredFields) -> Result<Parties, Refusal>
+    ensures { of_reading result ledger.new ≡ read_by (table_answer room stored.entry.fields.now) ledger.old stored.entry.fields.now }
 {
-    let entries = read_entries(fields);
-    let parties = entries.parties;
-    if room < entries.count {
-        return refused(
-            ledger,
-            Refusal {
-                number: NO_ENTRY_LEFT,
-                file: 0,
-                place: 0,
-            },
-        );
+    let mut parties = ledger::records::no_parties();
+    let entries = stored.read_records(&mut parties);
+    if room < entries {
+        return Err(Refusal::of_call(NO_ENTRY_LEFT));
     }
-    let read = read_ledger(fields, entries.count);
+    let read = stored.read_ledger(entries);
     if !is_sound(&read, &parties, room) {
-        return refused(
-            ledger,
-            Refusal {
-                number: LEDGER_UNSOUND,
-                file: 0,
-                place: 0,
-            },
-        );
+        return Err(Refusal::of_call(LEDGER_UNSOUND));
     }
-    ReadBack {
-        answer: FileAnswer::Stands,
-        ledger: read,
-        parties: parties,
-    }
+    *ledger = read;
+    Ok(parties)
 }
 
-fn read_fields(ledger: Ledger, room: usize, fields: &[u8]) -> ReadBack
-    requires { FieldsWalk stored_rows fields.now }
-    ensures { result ≡ read_by (fields_answer room fields.now) ledger fields.now }
+// The stored ledger and its entries, or the refusal, which leaves the present ledger; `room` is the table's length.
+pub fn read(ledger: &mut Ledger, room: usize, file: &[u8]) -> Result<Parties, Refusal>
+    ensures { of_reading result ledger.new ≡ read_back ledger.old room file.now }
 {
-    let judged = field_values::judged::judge_letters(fields, b"PION");
-    match judged {
-        Judged::Passes => read_values(ledger, room, fields),
-        Judged::Fails(at) => refused(
-            ledger,
-            Refusal {
-                number: VALUE_NOT_LISTED,
-                file: 1,
-                place: at,
-            },
-        ),
+    stored::rows::stored_stands(1, file)?;
+    let fields = tagged::file::fields_part(file);
+    if let Err(place) = field_values::judged::judge_letters(fields, b"PION") {
+        return Err(Refusal::of_file(VALUE_NOT_LISTED, 1, place));
     }
-}
-
-// The stored ledger and its entries, or the refusal; `ledger` is the present one, `room` the
-// table's length.
-pub fn read(ledger: Ledger, room: usize, file: &[u8]) -> ReadBack
-    ensures { result ≡ read_back ledger room file.now }
-{
-    let standing = stored::rows::stored_stands(1, file);
-    match standing {
-        FileAnswer::Stands => read_fields(ledger, room, tagged::file::fields_part(file)),
-        FileAnswer::Refused(refusal) => refused(ledger, refusal),
-    }
+    read_values(ledger, room, StoredFields { fields })
 }

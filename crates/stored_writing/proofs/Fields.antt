@@ -3,9 +3,12 @@ use Prim.Native.Nat.{ℕ, ◌+◌, ◌*◌, ◌<◌, ◌≤◌}
 use mathlib.Core.Path.{◌≡◌, refl, ap, ◌∙◌}
 use mathlib.Core.List.{List, [], ◌∷◌, ◌++◌, append_assoc, append-nil, flat_map, map, map-append}
 use native.Mathlib.Nat.{div-one}
+use Rattle.std.proofs.Math.Nat.{mul-le-mul_left}
 use native.Mathlib.Numerals.{add-one}
 use native.Mathlib.Omega.{arith}
-use lib.ListN.{length, get_or, take}
+use lib.ListN.{length, get_or, take, length-append}
+use Rattle.std.proofs.Common.{drop-drop}
+use borrow.Rule.Slice.PartMut.{put_mid}
 use lib.Seq.{take-suc, length-take-le}
 use Rattle.ledger.specs.Lists.{at_start}
 use Rattle.ledger.specs.Columns.{sum_of}
@@ -19,12 +22,17 @@ use Rattle.ledger.specs.declared.records.Ledger.{Ledger}
 use Rattle.stored.specs.Layout.{record_bytes, head_values}
 use Rattle.stored.proofs.Theorems.Layout.{length_record_bytes, written_each, written_each_lem, written_at_start}
 use Rattle.stored.specs.Form.{letters_part, head_part, scheme_part, party_part, scheme_parts, party_parts, stored_parts, header_length, scheme_length, check_length, form_length}
-use Rattle.stored.proofs.Theorems.Form.{length_one, length_encoded_parts, length_each, length_front, length_until_entries, length_fields}
+use Rattle.stored.proofs.Theorems.Form.{length_one, length_encoded_parts, length_front, length_until_entries, length_fields}
 
 -- a number as one byte is that byte
 bytes_of_one : (n : ℕ) → bytes_of 1 n ≡ n ∷ []
 unfolding bytes_of
 bytes_of_one n = rw div-one
+
+-- bytes copied to a place are written there
+pub written_part : (out : List ℕ) (at : ℕ) (bytes : List ℕ) → put_mid at (length bytes) out bytes ≡ written out at bytes
+unfolding written
+written_part out at bytes = rw drop-drop refl
 
 -- a field's tag and length
 pub written_start : (out : List ℕ) (at tag len : ℕ) → at + 3 ≤ length out →
@@ -52,17 +60,31 @@ pub written_more : (out : List ℕ) (at : ℕ) (parts others : List (ℕ × List
 written_more out at parts others next place fits =
     rw (place, encoded_parts_append) (written_written out at (encoded_parts parts) (encoded_parts others) (omega arith))
 
--- one field more of those of a list, whose values have one size
-pub one_more : {A : Type 0} (part : A → ℕ × List ℕ) (size : ℕ) → ((x : A) → length (part x).1 ≡ size) →
-    (out : List ℕ) (at : ℕ) (xs : List A) (i : ℕ) (none : A) → i < length xs → at + (size + 3) * (i + 1) ≤ length out →
-    written (written out at (encoded_parts (map part (take i xs)))) (at + (size + 3) * i) (encoded_parts (part (get_or xs i none) ∷ []))
+-- how long fields are whose length is the same
+length_whole : {A : Type 0} (part : A → ℕ × List ℕ) (long : ℕ) → ((x : A) → length (part x).1 + 3 ≡ long) → (xs : List A) →
+    length (encoded_parts (map part xs)) ≡ long * length xs
+unfolding flat_map
+length_whole part long sized [] = omega arith
+length_whole part long sized (x ∷ xs) =
+    simp (length-append, length_bytes_of) (omega (arith, sized x, length_whole part long sized xs))
+
+the_next : (i count : ℕ) → i < count → i + 1 ≤ count
+the_next i count more = omega arith
+
+-- there is room for the next
+pub room_for_next : (at long i count room : ℕ) → i < count → at + long * count ≤ room → at + long * i + long ≤ room
+room_for_next at long i count room more fits = omega (arith, mul-le-mul_left long (the_next i count more))
+
+-- one field more of those of a list, which all have this length
+pub one_record_more : {A : Type 0} (part : A → ℕ × List ℕ) (long : ℕ) → ((x : A) → length (part x).1 + 3 ≡ long) →
+    (out : List ℕ) (at : ℕ) (xs : List A) (i : ℕ) (x : A) → x ≡ get_or xs i x → i < length xs → at + long * length xs ≤ length out →
+    written (written out at (encoded_parts (map part (take i xs)))) (at + long * i) (encoded_parts (part x ∷ []))
     ≡ written out at (encoded_parts (map part (take (i + 1) xs)))
-one_more part size sized out at xs i none more fits =
-    let x = get_or xs i none in
-    let long : length (encoded_parts (map part (take i xs))) ≡ (size + 3) * i =
-    length_each part size sized (take i xs) ∙ ap (λ n. (size + 3) * n) (length-take-le i xs (omega arith)) in
-    rw (add-one, take-suc xs i none, map-append)
-    (written_more out at (map part (take i xs)) (part x ∷ []) (at + (size + 3) * i) (omega arith) (omega (arith, length_one (part x), sized x)))
+one_record_more part long sized out at xs i x here more fits =
+    let ends : length (encoded_parts (map part (take i xs))) ≡ long * i =
+    length_whole part long sized (take i xs) ∙ ap (λ n. long * n) (length-take-le i xs (omega arith)) in
+    rw (add-one, take-suc xs i x, map-append, ← here)
+    (written_more out at (map part (take i xs)) (part x ∷ []) (at + long * i) (omega arith) (omega (arith, length_one (part x), sized x, room_for_next at long i (length xs) (length out) more fits)))
 
 -- all fields but the last
 pub written_stored : (ledger : Ledger) (parties : List Party) (out : List ℕ) → ledger.count ≤ length ledger.schemes → ledger.entries ≤ length parties →

@@ -1,46 +1,33 @@
 // Writing a ledger and its entries as their stored form.
 #![tactic(auto)]
 
-ghost use Rattle.std.specs.Prelude.{◌≡◌, [], ◌∷◌, ◌++◌, map, ◌+◌, ◌*◌, ◌≤◌, length, take};
+ghost use Rattle.std.specs.Prelude.{◌≡◌, ℕ, List, [], ◌∷◌, ◌++◌, map, ◌+◌, ◌*◌, ◌≤◌, length, take};
+ghost use Rattle.std.proofs.Common.{ap};
 ghost use Rattle.numbers.specs.BigEndian.{bytes_of, written};
 ghost use Rattle.numbers.specs.Check.{check};
-ghost use Rattle.tagged.specs.File.{refusal};
 ghost use Rattle.tagged.specs.Encoded.{encoded_parts};
-ghost use Rattle.ledger.specs.Limits.{most_schemes, most_entries};
+ghost use Rattle.ledger.specs.Limits.{most_schemes};
 ghost use Rattle.stored.specs.Form.{letters_part, head_part, scheme_part, party_part, stored_parts, header_length, scheme_length, entry_length, check_length, form_length};
-ghost use Rattle.stored.specs.Writing.{form_answer, form_output, written_answer, written_output};
+ghost use Rattle.stored.specs.Layout.{head_values};
+ghost use Rattle.stored.proofs.Theorems.Form.{scheme_size, party_size};
+ghost use Rattle.stored.specs.Writing.{form_answer, form_output, write_of};
 
-use ledger::limits::{Parties, Schemes};
 use ledger::records::{Ledger, Party, Scheme};
-use numbers::big_endian::{write_u8, write_u16, write_u32, write_u64};
+use numbers::big_endian::BigEndian;
 use stored::lengths::{CHECK_LENGTH, ENTRY_LENGTH, HEADER_LENGTH, SCHEME_LENGTH, SHORTEST_FORM};
 use stored::writing::Written;
 use tagged::file::Refusal;
 use tagged::refusals::{LEDGER_UNSOUND, OUTPUT_TOO_SHORT};
 
-fn refused(number: u8) -> Written
-    ensures { result ≡ Written.Refused (refusal number 0 0) }
-{
-    Written::Refused(Refusal {
-        number,
-        file: 0,
-        place: 0,
-    })
-}
-
-fn form_length(count: u32, entries: u32) -> usize
-    ensures { result ≡ form_length count entries }
-{
-    SHORTEST_FORM + SCHEME_LENGTH * count as usize + ENTRY_LENGTH * entries as usize
-}
-
+// The output and the place go through all writers together, since each promise is of the whole output.
 // A field's tag and length.
+#[tactic(auto, using(crate::proofs::Fields::written_start))]
 fn write_start(out: &mut [u8], at: usize, tag: u8, len: u16)
     requires { at + 3 ≤ length out.old }
     ensures { out.new ≡ written out.old at (tag ∷ bytes_of 2 len) }
 {
-    write_u8(out, at, tag);
-    write_u16(out, at + 1, len);
+    tag.write(out, at);
+    len.write(out, at + 1);
 }
 
 // Field 01, which the form starts with.
@@ -49,97 +36,107 @@ fn write_letters(out: &mut [u8])
     ensures { out.new ≡ written out.old 0 (encoded_parts (letters_part ∷ [])) }
 {
     write_start(out, 0, 1, 4);
-    write_u8(out, 3, b'P');
-    write_u8(out, 4, b'I');
-    write_u8(out, 5, b'O');
-    write_u8(out, 6, b'N');
+    out[3..7].copy_from_slice(b"PION");
 }
 
 // Field 02, which stands after it.
-fn write_head(out: &mut [u8], month: u16, connections: u32, charged: u64, borne: u64)
+fn write_head(out: &mut [u8], ledger: &Ledger)
     requires { header_length ≤ length out.old }
-    ensures { out.new ≡ written out.old 7 (encoded_parts (head_part (month ∷ connections ∷ charged ∷ borne ∷ []) ∷ [])) }
+    ensures { out.new ≡ written out.old 7 (encoded_parts (head_part (head_values ledger.now) ∷ [])) }
 {
     write_start(out, 7, 2, 22);
-    write_u16(out, 10, month);
-    write_u32(out, 12, connections);
-    write_u64(out, 16, charged);
-    write_u64(out, 24, borne);
+    ledger.month.write(out, 10);
+    ledger.connections.write(out, 12);
+    ledger.charged.write(out, 16);
+    ledger.borne.write(out, 24);
 }
 
-fn write_scheme(out: &mut [u8], at: usize, scheme: Scheme)
-    requires { at + scheme_length ≤ length out.old }
-    ensures { out.new ≡ written out.old at (encoded_parts (scheme_part scheme ∷ [])) }
-{
-    write_start(out, at, 3, 24);
-    write_u32(out, at + 3, scheme.cost);
-    write_u32(out, at + 7, scheme.fee);
-    write_u32(out, at + 11, scheme.minimum);
-    write_u16(out, at + 15, scheme.opening);
-    write_u16(out, at + 17, scheme.term);
-    write_u64(out, at + 19, scheme.fees);
+// A record that has a field of its own.
+trait StoredRecord: Copy {
+    ghost LENGTH: { ℕ };
+
+    // of the field, with its tag and length
+    const LENGTH: usize;
+
+    ghost part: { Self → ℕ × List ℕ };
+
+    fn write(self, out: &mut [u8], at: usize)
+        requires { at + LENGTH ≤ length out.old }
+        ensures { out.new ≡ written out.old at (encoded_parts (part self ∷ [])) };
+
+    ghost sized: { (x : Self) → length (part x).1 + 3 ≡ LENGTH };
 }
 
-fn write_party(out: &mut [u8], at: usize, party: Party)
-    requires { at + entry_length ≤ length out.old }
-    ensures { out.new ≡ written out.old at (encoded_parts (party_part party ∷ [])) }
-{
-    write_start(out, at, 4, 30);
-    write_u16(out, at + 3, party.scheme);
-    write_u32(out, at + 5, party.person);
-    write_u32(out, at + 9, party.capacity);
-    write_u32(out, at + 13, party.put_in);
-    write_u64(out, at + 17, party.credited);
-    write_u64(out, at + 25, party.paid_out);
-}
+impl StoredRecord for Scheme {
+    ghost LENGTH = { scheme_length };
 
-fn write_schemes(out: &mut [u8], at: usize, schemes: Schemes, count: usize)
-    requires { (count ≤ most_schemes) × (at + scheme_length * count ≤ length out.old) }
-    ensures { out.new ≡ written out.old at (encoded_parts (map scheme_part (take count schemes))) }
-{
-    let mut i: usize = 0;
-    while i < count {
-        write_scheme(out, at + SCHEME_LENGTH * i, schemes[i]);
-        i += 1;
+    const LENGTH: usize = SCHEME_LENGTH;
+
+    ghost part = { scheme_part };
+
+    fn write(self, out: &mut [u8], at: usize) {
+        write_start(out, at, 3, 24);
+        self.cost.write(out, at + 3);
+        self.fee.write(out, at + 7);
+        self.minimum.write(out, at + 11);
+        self.opening.write(out, at + 15);
+        self.term.write(out, at + 17);
+        self.fees.write(out, at + 19);
     }
+
+    ghost sized = { λ scheme. ap (λ n. n + 3) (scheme_size scheme) };
 }
 
-fn write_entries(out: &mut [u8], at: usize, parties: Parties, entries: usize)
-    requires { (entries ≤ most_entries) × (at + entry_length * entries ≤ length out.old) }
-    ensures { out.new ≡ written out.old at (encoded_parts (map party_part (take entries parties))) }
+impl StoredRecord for Party {
+    ghost LENGTH = { entry_length };
+
+    const LENGTH: usize = ENTRY_LENGTH;
+
+    ghost part = { party_part };
+
+    fn write(self, out: &mut [u8], at: usize) {
+        write_start(out, at, 4, 30);
+        self.scheme.write(out, at + 3);
+        self.person.write(out, at + 5);
+        self.capacity.write(out, at + 9);
+        self.put_in.write(out, at + 13);
+        self.credited.write(out, at + 17);
+        self.paid_out.write(out, at + 25);
+    }
+
+    ghost sized = { λ party. ap (λ n. n + 3) (party_size party) };
+}
+
+// The fields of these records, one after the other.
+fn write_records<R: StoredRecord>(out: &mut [u8], at: usize, records: &[R])
+    requires { at + R.LENGTH * length records.now ≤ length out.old }
+    ensures { out.new ≡ written out.old at (encoded_parts (map R.part records.now)) }
 {
-    let mut i: usize = 0;
-    while i < entries {
-        write_party(out, at + ENTRY_LENGTH * i, parties[i]);
-        i += 1;
+    for (i, record) in records.iter().enumerate() {
+        record.write(out, at + R::LENGTH * i);
     }
 }
 
 // All fields but the last, from the start of the output on.
-fn write_fields(out: &mut [u8], ledger: Ledger, parties: Parties)
-    requires { (ledger.count ≤ most_schemes) × (ledger.entries ≤ most_entries) × (form_length ledger.count ledger.entries ≤ length out.old) }
-    ensures { out.new ≡ written out.old 0 (encoded_parts (stored_parts ledger parties)) }
+#[tactic(auto, using(crate::proofs::Fields::written_stored))]
+fn write_fields(out: &mut [u8], ledger: &Ledger, table: &[Party])
+    requires { (ledger.now.count ≤ most_schemes) × (ledger.now.entries ≤ length table.now) × (form_length ledger.now.count ledger.now.entries ≤ length out.old) }
+    ensures { out.new ≡ written out.old 0 (encoded_parts (stored_parts ledger.now table.now)) }
 {
-    let schemes = ledger.schemes;
     let count = ledger.count as usize;
+    let entries = ledger.entries as usize;
     write_letters(out);
-    write_head(
-        out,
-        ledger.month,
-        ledger.connections,
-        ledger.charged,
-        ledger.borne,
-    );
-    write_schemes(out, HEADER_LENGTH, schemes, count);
-    write_entries(
+    write_head(out, ledger);
+    write_records(out, HEADER_LENGTH, &ledger.schemes[..count]);
+    write_records(
         out,
         HEADER_LENGTH + SCHEME_LENGTH * count,
-        parties,
-        ledger.entries as usize,
+        &table[..entries],
     );
 }
 
 // The last field, at the end of the others: the check of all bytes before its value.
+#[tactic(auto, using(crate::proofs::Fields::written_check))]
 fn write_check(out: &mut [u8], at: usize)
     requires { at + check_length ≤ length out.old }
     ensures { out.new ≡ written out.old at (255 ∷ 0 ∷ 2 ∷ bytes_of 2 (check (take at out.old ++ 255 ∷ 0 ∷ 2 ∷ []))) }
@@ -147,31 +144,35 @@ fn write_check(out: &mut [u8], at: usize)
     write_start(out, at, 255, 2);
     let end = at + 3;
     let check = numbers::check::check(&out[..end]);
-    write_u16(out, end, check as u16);
+    (check as u16).write(out, end);
 }
 
-// The stored form at the start of a lent buffer, of a ledger that was tested already.
-pub fn write_form(ledger: Ledger, parties: Parties, out: &mut [u8]) -> Written
-    requires { (ledger.count ≤ most_schemes) × (ledger.entries ≤ most_entries) }
-    ensures value { result ≡ form_answer ledger parties out.old }
-    ensures out_after { out.new ≡ form_output ledger parties out.old }
+// The stored form at the start of a lent buffer, of a ledger that was tested already. The table's first records are its entries.
+// Apart from `write`, so that a ledger that a call has left sound isn't tested again.
+pub fn write_form(ledger: &Ledger, table: &[Party], out: &mut [u8]) -> Written
+    requires { (ledger.now.count ≤ most_schemes) × (ledger.now.entries ≤ length table.now) }
+    ensures value { result ≡ form_answer ledger.now table.now out.old }
+    ensures out_after { out.new ≡ form_output ledger.now table.now out.old }
 {
-    let size = form_length(ledger.count, ledger.entries);
+    let schemes = &ledger.schemes[..ledger.count as usize];
+    let entries = &table[..ledger.entries as usize];
+    let size = SHORTEST_FORM + SCHEME_LENGTH * schemes.len() + ENTRY_LENGTH * entries.len();
     if out.len() < size {
-        return refused(OUTPUT_TOO_SHORT);
+        return Err(Refusal::of_call(OUTPUT_TOO_SHORT));
     }
-    write_fields(out, ledger, parties);
+    write_fields(out, ledger, table);
     write_check(out, size - CHECK_LENGTH);
-    Written::Length(size)
+    Ok(size)
 }
 
-// The same once the ledger is found to be sound; `room` is the table's length.
-pub fn write(ledger: Ledger, parties: Parties, room: usize, out: &mut [u8]) -> Written
-    ensures value { result ≡ written_answer ledger parties room out.old }
-    ensures out_after { out.new ≡ written_output ledger parties room out.old }
+// The same once the ledger is found to be sound.
+#[tactic(auto, using(ledger::proofs::Theorems::Sound::sound_means), unfolding(stored::specs::Writing::written_answer))]
+pub fn write(ledger: &Ledger, table: &[Party], out: &mut [u8]) -> Written
+    ensures value { result ≡ (write_of ledger.now table.now out.old).answer }
+    ensures out_after { out.new ≡ (write_of ledger.now table.now out.old).output }
 {
-    if !ledger::sound::sound(ledger, parties, room) {
-        return refused(LEDGER_UNSOUND);
+    if !ledger::sound::is_sound(ledger, table) {
+        return Err(Refusal::of_call(LEDGER_UNSOUND));
     }
-    write_form(ledger, parties, out)
+    write_form(ledger, table, out)
 }

@@ -4,6 +4,7 @@ use mathlib.Core.List.{List, [], flat_map}
 use Rattle.numbers.specs.BigEndian.{number, bytes_of}
 use Rattle.numbers.specs.Check.{check_from}
 use Rattle.field_walk.specs.Walk.{due_from, all_had, front_of, walk_from}
+use Rattle.tagged.specs.File.{answer_of}
 use Rattle.tagged.specs.Find.{fields_from, first_with, fields_with}
 use Rattle.field_values.specs.Judged.{judge_numbers, same_bytes}
 use Rattle.book_zones.specs.Zones.{judge_zones_from}
@@ -13,10 +14,10 @@ use Rattle.charge.specs.Cases.MarkedFigures.{slip_book, slip_request, scheme_req
 use Rattle.fikrem_files.specs.FileResult.{file_read_alone, file_result}
 
 abbrev book_result : List ℕ → ℕ
-book_result file = file_result (book_of file_read_alone file).answer
+book_result file = file_result (answer_of (book_of file_read_alone file))
 
 abbrev request_result : List ℕ → ℕ
-request_result file = file_result (request_of file_read_alone file).answer
+request_result file = file_result (answer_of (request_of file_read_alone file))
 
 -- the slip's files; each as the other kind, whose field 02 at 7 has another length; no bytes; a request's capacity at 153 at its lowest and one below
 pub file_results :

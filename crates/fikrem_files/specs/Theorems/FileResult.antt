@@ -1,9 +1,8 @@
 -- Document 01, 'How calls end', for a caller that looks at the result: it is 0 exactly where the file stands, and otherwise has number 1, 2 or 3.
-use Rattle.std.specs.Prelude.{ℕ, ◌≡◌, refl, List}
+use Rattle.std.specs.Prelude.{ℕ, ◌≡◌, refl, List, Err, Ok}
 use Rattle.tagged.specs.Refusals.{value_not_listed}
 use Rattle.tagged.proofs.Theorems.File.{RefusesTo}
-use Rattle.tagged.specs.declared.file.FileAnswer.{FileAnswer}
-use Rattle.tagged.specs.declared.file.FileAnswer.TheVariants.{Stands, Refused}
+use Rattle.tagged.specs.File.{answer_of, FileAnswer}
 use Rattle.rate_book.specs.Book.{book_of}
 use Rattle.rate_book.proofs.Theorems.Book.{book_refusal_numbers}
 use Rattle.request.specs.Request.{request_of}
@@ -16,14 +15,14 @@ use Rattle.fikrem_files.specs.FileResult.{file_read_alone, file_result}
 
 -- the result of a reading, by its answer
 abbrev FileResults : FileAnswer → Type 0
-FileResults answer = Results (answer ≡ Stands) (one_to value_not_listed) (file_result answer)
+FileResults answer = Results (answer ≡ Ok tt) (one_to value_not_listed) (file_result answer)
 
 reading_results : (answer : FileAnswer) → RefusesTo value_not_listed file_read_alone answer → FileResults answer
-reading_results Stands h = is_done refl
-reading_results (Refused r) h = is_refused r 0 refl (λ d. cc d) (within_one_to value_not_listed r.number h.0 h.1)
+reading_results (Ok _) h = is_done refl
+reading_results (Err r) h = is_refused r 0 refl (λ d. cc d) (within_one_to value_not_listed r.number h.0 h.1)
 
-pub book_read_alone : (book : List ℕ) → FileResults (book_of file_read_alone book).answer
-book_read_alone book = reading_results (book_of file_read_alone book).answer (book_refusal_numbers file_read_alone book)
+pub book_read_alone : (book : List ℕ) → FileResults (answer_of (book_of file_read_alone book))
+book_read_alone book = reading_results (answer_of (book_of file_read_alone book)) (book_refusal_numbers file_read_alone book)
 
-pub request_read_alone : (request : List ℕ) → FileResults (request_of file_read_alone request).answer
-request_read_alone request = reading_results (request_of file_read_alone request).answer (request_refusal_numbers file_read_alone request)
+pub request_read_alone : (request : List ℕ) → FileResults (answer_of (request_of file_read_alone request))
+request_read_alone request = reading_results (answer_of (request_of file_read_alone request)) (request_refusal_numbers file_read_alone request)

@@ -1,51 +1,44 @@
 -- Where no file is longer than `size`, no place of a refusal is above it.
 use Prim.Native.Nat.{ℕ, zero, suc, ◌+◌, ◌*◌, ◌-◌, ◌≤◌}
-use Rattle.std.specs.Prelude.{◌≡◌, refl, List, [], ◌∷◌, Bool, true, false, cond, ltb, leb, eqb, length, get_or, take, drop}
+use Rattle.std.specs.Prelude.{◌≡◌, refl, List, [], ◌∷◌, Bool, true, false, cond, ltb, leb, eqb, length, get_or, take, drop, Err, Ok, Some, None}
 use Rattle.std.proofs.Common.{sym, subst, arith, length-take, length-drop, ltb-false, leb-true}
 use Rattle.numbers.specs.BigEndian.{number}
-use Rattle.field_walk.specs.Walk.{least_of, tag_of, permitted_by, length_at, field_of, front_of, all_had, due_from, FieldAt, Walk, fields, stops, and_then, on_front, walk_from, first_form, second_form, neither_form, row_in, rows_in, walk_by, by_forms, walk, FieldsWalk, EndsWithin}
-use Rattle.field_walk.specs.declared.walk.Due.{Due}
-use Rattle.field_walk.specs.declared.walk.Due.TheVariants.{NotDue, Row}
+use Rattle.field_walk.specs.Walk.{Due, least_of, tag_of, permitted_by, length_at, field_of, front_of, all_had, due_from, FieldAt, Walk, fields, stops, and_then, on_front, walk_from, first_form, second_form, neither_form, row_in, rows_in, walk_by, by_forms, walk, FieldsWalk, EndsWithin}
 use Rattle.field_walk.specs.declared.walk.Front.{Front}
 use Rattle.field_walk.specs.declared.walk.Front.TheVariants.{End, Field, CannotStand}
-use Rattle.tagged.specs.Refusals.{value_not_listed, file_does_not_walk, check_differs}
+use Rattle.tagged.specs.Refusals.{file_does_not_walk, check_differs}
 use Rattle.tagged.specs.Find.{field_start, field_value}
-use Rattle.tagged.specs.File.{file_answer, tail_stands, check_stands, fields_part, of_walk, refusal}
+use Rattle.tagged.specs.File.{file_answer, tail_stands, check_stands, fields_part, of_walk, refusal, answer_of, FileAnswer}
 use Rattle.tagged.proofs.Theorems.File.{stands_means}
 use Rattle.tagged.proofs.Theorems.Walk.{by_test}
 use Rattle.tagged.specs.RisingTags.{rising_tags}
 use Rattle.tagged.proofs.Theorems.FoundFields.{walk_sized}
-use Rattle.tagged.specs.declared.file.Refusal.{Refusal}
-use Rattle.tagged.specs.declared.file.FileAnswer.{FileAnswer}
-use Rattle.tagged.specs.declared.file.FileAnswer.TheVariants.{Stands, Refused}
 use Rattle.field_values.specs.Limits.{highest_threshold, highest_minimum, lowest_term, highest_rate}
-use Rattle.field_values.specs.Judged.{judge, first_failure, width_of, within, judge_numbers, judge_field, same_bytes}
+use Rattle.field_values.specs.Judged.{judge, first_failure, width_of, within, judge_numbers, judge_field, same_bytes, Judged}
 use Rattle.field_values.specs.Factors.{factor_limits}
 use Rattle.field_values.specs.Reading.{reading_of}
-use Rattle.field_values.specs.declared.judged.Judged.{Judged}
-use Rattle.field_values.specs.declared.judged.Judged.TheVariants.{Passes, Fails}
 use Rattle.book_zones.specs.BookRows.{book_rows}
 use Rattle.book_zones.specs.Cases.BookRows.{book_rows_rise}
 use Rattle.book_zones.specs.Zones.{number_width, zone_starts, first_zone, zones_apart, zone_number, rate_row, row_judgements, judge_row, judge_zones_from}
 use Rattle.book_zones.proofs.Theorems.ZoneFields.{every, zones_stand}
 use Rattle.rate_book.specs.Fields.{rate_limits, sums_in, sum_judgements, terms_in, term_judgements, charged_limits}
-use Rattle.rate_book.specs.Book.{book_letters, book_judgements, judge_book, book_values, refused_book, accepted_book, book_of}
+use Rattle.rate_book.specs.Book.{book_letters, book_judgements, judge_book, book_values, book_of}
 use Rattle.request.specs.RequestRows.{request_rows}
 use Rattle.request.specs.Cases.RequestRows.{request_rows_rise}
 use Rattle.request.specs.Fields.{class_limits, class_in, amount_limits, five_tier_limits, added_limits, revenue_limits, connection_limits}
-use Rattle.request.specs.Request.{request_letters, charge_judgements, request_judgements, judge_request, request_values, refused_request, accepted_request, request_of}
+use Rattle.request.specs.Request.{request_letters, charge_judgements, request_judgements, judge_request, request_values, request_of}
 use Rattle.stored.specs.StoredRows.{stored_rows}
 use Rattle.stored.specs.Cases.StoredRows.{stored_rows_rise}
 use Rattle.quoting_unit.specs.RefusalPlaces.{FileAnswerBy}
 
 -- ---- judgements: the place at which one fails
 abbrev FailsBy : ℕ → Judged → Type 0
-FailsBy size Passes = Unit {0}
-FailsBy size (Fails at) = at ≤ size
+FailsBy size (Ok _) = Unit {0}
+FailsBy size (Err at) = at ≤ size
 
 fails_more : {low high : ℕ} (judged : Judged) → low ≤ high → FailsBy low judged → FailsBy high judged
-fails_more Passes h f = tt
-fails_more (Fails at) h f = omega arith
+fails_more (Ok _) h f = tt
+fails_more (Err at) h f = omega arith
 
 pub judge_fails : (size : ℕ) (listed : Bool) (at : ℕ) → at ≤ size → FailsBy size (judge listed at)
 judge_fails size true at h = tt
@@ -57,8 +50,8 @@ data AllFailBy (size : ℕ) : List Judged → Type 0 where
 
 first_fails : (size : ℕ) (judgements : List Judged) → AllFailBy size judgements → FailsBy size (first_failure judgements)
 first_fails size [] none = tt
-first_fails size (Passes ∷ later) (also h more) = first_fails size later more
-first_fails size (Fails at ∷ later) (also h more) = h
+first_fails size ((Ok _) ∷ later) (also h more) = first_fails size later more
+first_fails size (Err at ∷ later) (also h more) = h
 
 numbers_fail : (limits : List (List ℕ)) (at : ℕ) (value : List ℕ) → FailsBy (at + length value) (judge_numbers limits at value)
 unfolding judge_numbers
@@ -165,8 +158,8 @@ then_stops size f (fields fs) h = tt
 then_stops size f (stops at) h = h
 
 field_ends : (due : Due) (rows : List (List ℕ)) (s : List ℕ) → EndsWithin (length s) (field_of due rows s)
-field_ends NotDue rows s = tt
-field_ends (Row k n) rows s =
+field_ends None rows s = tt
+field_ends (Some (k, n)) rows s =
     by_test (EndsWithin (length s)) (permitted_by (get_or rows k []) (length_at s)) _ _
     (λ _. by_test (EndsWithin (length s)) (leb (length_at s + 3) (length s)) _ _ (λ fits. leb-true (length_at s + 3) (length s) fits) (λ _. tt))
     (λ _. tt)
@@ -216,24 +209,23 @@ file_answer_placed rows number file known =
 
     by : (tail checked : Bool) (w : Walk) → StopsBy (length file) w →
         FileAnswerBy (length file)
-        (cond tail (cond checked (of_walk number w) (Refused (refusal check_differs number (length file - 2)))) (Refused (refusal file_does_not_walk number 0)))
+        (cond tail (cond checked (of_walk number w) (Err (refusal check_differs number (length file - 2)))) (Err (refusal file_does_not_walk number 0)))
     by false checked w h = (known, omega arith)
     by true false w h = (known, omega arith)
     by true true (fields fs) h = tt
     by true true (stops at) h = (known, h)
 
 -- a reading, where the place of a value that fails is known of a file that stands
-reading_placed : {Read : Type 0} (refused : Refusal → Read) (answer : Read → FileAnswer) → ((r : Refusal) → answer (refused r) ≡ Refused r) →
-    (size number : ℕ) → number ≤ 2 → (stands : FileAnswer) (judged : Judged) (read : Read) → answer read ≡ Stands →
-    FileAnswerBy size stands → (stands ≡ Stands → FailsBy size judged) → FileAnswerBy size (answer (reading_of refused number stands judged read))
-reading_placed refused answer answers size number known Stands Passes read accepted placed fails = rw accepted tt
-reading_placed refused answer answers size number known Stands (Fails at) read accepted placed fails = rw (answers (refusal value_not_listed number at)) (known, fails refl)
-reading_placed refused answer answers size number known (Refused r) judged read accepted placed fails = rw (answers r) placed
+reading_placed : {Values : Type 0} (size number : ℕ) → number ≤ 2 → (stands : FileAnswer) (judged : Judged) (values : Values) →
+    FileAnswerBy size stands → (stands ≡ Ok tt → FailsBy size judged) → FileAnswerBy size (answer_of (reading_of number stands judged values))
+reading_placed size number known (Ok _) (Ok _) values placed fails = tt
+reading_placed size number known (Ok _) (Err at) values placed fails = (known, fails refl)
+reading_placed size number known (Err r) judged values placed fails = placed
 
-pub book_placed : (file : List ℕ) → FileAnswerBy (length file) (book_of 1 file).answer
+pub book_placed : (file : List ℕ) → FileAnswerBy (length file) (answer_of (book_of 1 file))
 unfolding book_of
 book_placed file =
-    reading_placed refused_book (λ read. read.answer) (λ r. refl) (length file) 1 (omega arith) (file_answer book_rows 1 file) (judge_book s) (accepted_book (book_values s)) refl
+    reading_placed (length file) 1 (omega arith) (file_answer book_rows 1 file) (judge_book s) (book_values s)
     (file_answer_placed book_rows 1 file (omega arith))
     (λ e.
     let means = stands_means book_rows 1 file e in
@@ -242,11 +234,11 @@ book_placed file =
     s : List ℕ
     s = fields_part file
 
-pub request_placed : (file : List ℕ) → FileAnswerBy (length file) (request_of 2 file).answer
+pub request_placed : (file : List ℕ) → FileAnswerBy (length file) (answer_of (request_of 2 file))
 unfolding request_of
 request_placed file =
-    reading_placed refused_request (λ read. read.answer) (λ r. refl) (length file) 2 (omega arith) (file_answer request_rows 2 file) (judge_request s)
-    (accepted_request (request_values s)) refl (file_answer_placed request_rows 2 file (omega arith))
+    reading_placed (length file) 2 (omega arith) (file_answer request_rows 2 file) (judge_request s) (request_values s)
+    (file_answer_placed request_rows 2 file (omega arith))
     (λ e.
     let means = stands_means request_rows 2 file e in
     fails_more (judge_request s) (fields_within file) (request_fails s (means.field_list, means.walks)))
@@ -255,7 +247,7 @@ request_placed file =
     s = fields_part file
 
 -- the letters of a stored ledger
-pub letters_within : (file : List ℕ) → file_answer stored_rows 1 file ≡ Stands → field_start 1 (fields_part file) ≤ length file
+pub letters_within : (file : List ℕ) → file_answer stored_rows 1 file ≡ Ok tt → field_start 1 (fields_part file) ≤ length file
 letters_within file e =
     let means = stands_means stored_rows 1 file e in
     let start = start_within stored_rows (fields_part file) stored_rows_rise (means.field_list, means.walks) 0 (omega arith) (omega arith) in

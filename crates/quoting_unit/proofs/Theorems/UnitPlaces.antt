@@ -1,28 +1,22 @@
 -- Every refusal is told whole: its number, its file and whether it is of the stored ledger always, its place where no file has 2^56 bytes or more.
 use Prim.Native.Nat.{ℕ, zero, suc, ◌+◌, ◌≤◌}
-use Rattle.std.specs.Prelude.{◌≡◌, refl, List, [], ◌∷◌, Bool, true, false, cond, ltb, leb, eqb, length, get_or, take}
+use Rattle.std.specs.Prelude.{◌≡◌, refl, List, [], ◌∷◌, Bool, true, false, cond, ltb, leb, eqb, length, get_or, take, Err, None, Ok, Option, Some, Result}
 use Rattle.std.proofs.Common.{sym, subst, ap, ◌∙◌}
 use native.Mathlib.Omega.{arith}
-use Rattle.tagged.specs.File.{file_answer, fields_part, refusal}
+use Rattle.tagged.specs.File.{file_answer, answer_of, fields_part, refusal, FileAnswer}
 use Rattle.tagged.specs.Find.{field_start, field_value}
 use Rattle.tagged.proofs.Theorems.Walk.{by_test}
 use Rattle.tagged.specs.Refusals.{bespoke_not_allowed, no_entry_left, pay_out_above_credit, ledger_unsound, output_too_short}
 use Rattle.tagged.specs.declared.file.Refusal.{Refusal}
-use Rattle.tagged.specs.declared.file.FileAnswer.{FileAnswer}
-use Rattle.tagged.specs.declared.file.FileAnswer.TheVariants.{Stands, Refused}
 use Rattle.field_values.specs.Judged.{judge, same_bytes}
 use Rattle.rate_book.specs.Book.{book_of}
 use Rattle.rate_book.specs.declared.book.Book.{Book}
 use Rattle.request.specs.Request.{request_of}
 use Rattle.request.specs.declared.values.Request.{Request}
 use Rattle.capacity.specs.Capacity.{tier_allowed, first_not_allowed}
-use Rattle.capacity.specs.declared.BespokeRates.{BespokeRates}
-use Rattle.capacity.specs.declared.BespokeRates.TheVariants.{Allowed, NotAllowed}
-use Rattle.charge.specs.Price.{zone_found, tiers_of, if_allowed, in_zone, if_stands, values_priced, request_priced, price_of}
+use Rattle.charge.specs.Price.{zone_found, tiers_of, if_allowed, in_zone, if_stands, values_priced, request_priced, price_of, Pricing}
 use Rattle.charge.proofs.Theorems.PriceRefusals.{pricing_refusal_numbers}
 use Rattle.charge.specs.declared.Bill.{Bill}
-use Rattle.charge.specs.declared.Pricing.{Pricing}
-use Rattle.charge.specs.declared.Pricing.TheVariants.{Priced, NotPriced}
 use Rattle.slip_text.specs.Slip.{slip_of}
 use Rattle.ledger.specs.Lists.{Found, none, found}
 use Rattle.ledger.specs.Books.{EntryParticulars, Books, entry_at}
@@ -32,24 +26,19 @@ use Rattle.ledger.proofs.Theorems.RefusalNumbers.{one_of_more, one_to_within}
 use Rattle.ledger.specs.Sound.{sound}
 use Rattle.ledger.specs.declared.records.Party.{Party}
 use Rattle.ledger.specs.declared.records.Ledger.{Ledger}
-use Rattle.calls.specs.Verdict.{verdict}
+use Rattle.calls.specs.Verdict.{verdict, Verdict}
 use Rattle.calls.specs.Decision.{Call, accept, pay_out, hand_over, decided_by, accept_by, pay_out_by, hand_over_by, decided, CallAnswer, is_accepted, is_done, is_refused, answer_to}
 use Rattle.calls.specs.Carried.{State, books_on}
 use Rattle.calls.specs.Calls.{state_of, answered, leaves}
-use Rattle.calls.specs.declared.courses.Verdict.{Verdict}
-use Rattle.calls.specs.declared.courses.Verdict.TheVariants.{Accepts, Refuses}
 use Rattle.stored.specs.StoredRows.{stored_rows}
 use Rattle.stored.specs.Form.{letters, stored_entries, stored_ledger, stored_form}
 use Rattle.stored.specs.Reading.{in_turn, letters_answer, table_answer, read_answer, reading_numbers}
 use Rattle.stored.specs.Writing.{write_of}
-use Rattle.stored.specs.declared.writing.Written.{Written}
 use Rattle.stored_calls.specs.StoredCalls.{StoredCallAnswer, not_read, not_made, made_accepted, made_done, stored_read, written_answer, end_by, once_read, new_stored_of, stored_call_of, check_by}
 use Rattle.stored_calls.specs.StoredRefusals.{StoredRefuses, stored_numbers}
 use Rattle.stored_calls.proofs.Theorems.StoredCalls.{answer_of_read, stored_refusal_numbers, check_refusal_numbers, StoredCheckRefuses}
 use Rattle.stored_calls.proofs.Theorems.StoredCallsRefusals.{new_refusal_numbers}
-use Rattle.slip_text.specs.declared.SlipWritten.TheVariants as SlipWritten
 use Rattle.stored.specs.Writing as writing
-use Rattle.stored.specs.declared.writing.Written.TheVariants as Written
 use Rattle.quoting_unit.specs.Interface.{last_number, highest_place, UnitEnding, place_in, outcome_of, Lent}
 use Rattle.quoting_unit.specs.Unit.{UnitCall, price, slip_text, on_ledger, check_ledger, too_short, price_made, unit_slip_ending, unit_call_ending, check_ending, made, unit_call}
 use Rattle.quoting_unit.proofs.Theorems.UnitBuffers.{leaves_if}
@@ -62,15 +51,15 @@ use Rattle.quoting_unit.specs.Interface as unit
 use Rattle.quoting_unit.specs.Unit as calls
 
 -- ---- pricing
-abbrev TierBy : BespokeRates → Type 0
-TierBy Allowed = Unit {0}
-TierBy (NotAllowed tier) = tier ≤ 5
+abbrev TierBy : Option ℕ → Type 0
+TierBy None = Unit {0}
+TierBy (Some tier) = tier ≤ 5
 
 tiers_placed : (first second third fourth fifth : Bool) →
     TierBy
     (cond first
-    (cond second (cond third (cond fourth (cond fifth Allowed (NotAllowed 5)) (NotAllowed 4)) (NotAllowed 3)) (NotAllowed 2))
-    (NotAllowed 1))
+    (cond second (cond third (cond fourth (cond fifth None (Some 5)) (Some 4)) (Some 3)) (Some 2))
+    (Some 1))
 tiers_placed false second third fourth fifth = omega arith
 tiers_placed true false third fourth fifth = omega arith
 tiers_placed true true false fourth fifth = omega arith
@@ -79,13 +68,13 @@ tiers_placed true true true true false = omega arith
 tiers_placed true true true true true = tt
 
 abbrev PricingBy : ℕ → Pricing → Type 0
-PricingBy size (Priced bill) = Unit {0}
-PricingBy size (NotPriced r) = PlacedBy size r
+PricingBy size (Ok bill) = Unit {0}
+PricingBy size (Err r) = PlacedBy size r
 
 module _ (size : ℕ) (five : 5 ≤ size) where
-  if_allowed_lem : (allowed : BespokeRates) (bill : Bill) → TierBy allowed → PricingBy size (if_allowed allowed bill)
-  if_allowed_lem Allowed bill h = tt
-  if_allowed_lem (NotAllowed tier) bill h = (omega arith, omega arith)
+  if_allowed_lem : (allowed : Option ℕ) (bill : Bill) → TierBy allowed → PricingBy size (if_allowed allowed bill)
+  if_allowed_lem None bill h = tt
+  if_allowed_lem (Some tier) bill h = (omega arith, omega arith)
 
   in_zone_lem : (k zones : ℕ) (numbers : List ℕ) (number : ℕ) (priced : ℕ → Pricing) → ((zone : ℕ) → PricingBy size (priced zone)) →
       PricingBy size (in_zone (zone_found k zones numbers number) priced)
@@ -95,10 +84,10 @@ module _ (size : ℕ) (five : 5 ≤ size) where
       by_test (λ zone. PricingBy size (in_zone zone priced)) (eqb (get_or numbers k 0) number) _ _ (λ _. h k)
       (λ _. in_zone_lem (k + 1) zones numbers number priced h)
 
-  if_stands_lem : (low : ℕ) (answer : FileAnswer) (priced : Pricing) → low ≤ size → FileAnswerBy low answer → PricingBy size priced →
-      PricingBy size (if_stands answer priced)
-  if_stands_lem low Stands priced within h p = p
-  if_stands_lem low (Refused r) priced within h p = (h.0, omega (arith, h.1))
+  if_stands_lem : {Values : Type 0} (low : ℕ) (read : Result Values Refusal) (priced : Values → Pricing) → low ≤ size → FileAnswerBy low (answer_of read) →
+      ((values : Values) → PricingBy size (priced values)) → PricingBy size (if_stands read priced)
+  if_stands_lem low (Ok values) priced within h p = p values
+  if_stands_lem low (Err r) priced within h p = (h.0, omega (arith, h.1))
 
   values_placed : (book : Book) (rates : List (List ℕ)) (request : Request) (distribution transmission : ℕ) →
       PricingBy size (values_priced book rates request distribution transmission)
@@ -113,12 +102,12 @@ module _ (size : ℕ) (five : 5 ≤ size) where
   request_priced_placed : (book : Book) (rates : List (List ℕ)) (file : List ℕ) → length file ≤ size → PricingBy size (request_priced book rates file)
   unfolding request_priced
   request_priced_placed book rates file within =
-      if_stands_lem (length file) (request_of 2 file).answer _ within (request_placed file) (values_placed _ _ _ _ _)
+      if_stands_lem (length file) (request_of 2 file) _ within (request_placed file) (λ request. values_placed _ _ request _ _)
 
   price_placed : (book request : List ℕ) → length book ≤ size → length request ≤ size → PricingBy size (price_of book request)
   unfolding price_of
   price_placed book request within within' =
-      if_stands_lem (length book) (book_of 1 book).answer _ within (book_placed book) (request_priced_placed _ _ request within')
+      if_stands_lem (length book) (book_of 1 book) _ within (book_placed book) (λ values. request_priced_placed values _ request within')
 
 -- ---- the calls on a ledger
 abbrev AnswerBy : ℕ → CallAnswer → Type 0
@@ -128,12 +117,12 @@ AnswerBy size (is_refused r) = PlacedBy size r
 
 module _ (size : ℕ) (five : 5 ≤ size) (books : Books) where
   by_verdict : (bill : Bill) (v : Verdict) → AnswerBy size (answer_to books (decided_by books bill v))
-  by_verdict bill (Accepts course) = tt
-  by_verdict bill (Refuses number) = (omega arith, omega arith)
+  by_verdict bill (Ok course) = tt
+  by_verdict bill (Err number) = (omega arith, omega arith)
 
   by_pricing : (pricing : Pricing) → PricingBy size pricing → AnswerBy size (answer_to books (accept_by books pricing))
-  by_pricing (Priced bill) h = by_verdict bill (verdict books bill)
-  by_pricing (NotPriced r) h = h
+  by_pricing (Ok bill) h = by_verdict bill (verdict books bill)
+  by_pricing (Err r) h = h
 
   pay_out_placed : (at : Found EntryParticulars) (amount : ℕ) → AnswerBy size (answer_to books (pay_out_by at amount))
   pay_out_placed none amount = (omega arith, omega arith)
@@ -165,9 +154,9 @@ read_placed room file = by (file_answer stored_rows 1 file) refl (file_answer_pl
     s : List ℕ
     s = fields_part file
 
-    by_fields : file_answer stored_rows 1 file ≡ Stands → (same fits holds : Bool) →
+    by_fields : file_answer stored_rows 1 file ≡ Ok tt → (same fits holds : Bool) →
         FileAnswerBy (length file)
-        (in_turn (letters_answer (judge same (field_start 1 s))) (cond fits (cond holds Stands (Refused (refusal ledger_unsound 0 0))) (Refused (refusal no_entry_left 0 0))))
+        (in_turn (letters_answer (judge same (field_start 1 s))) (cond fits (cond holds (Ok tt) (Err (refusal ledger_unsound 0 0))) (Err (refusal no_entry_left 0 0))))
     by_fields e false fits holds = (omega arith, letters_within file e)
     by_fields e true true true = tt
     by_fields e true true false = (omega arith, omega arith)
@@ -175,8 +164,8 @@ read_placed room file = by (file_answer stored_rows 1 file) refl (file_answer_pl
 
     by : (stands : FileAnswer) → file_answer stored_rows 1 file ≡ stands → FileAnswerBy (length file) stands →
         FileAnswerBy (length file) (in_turn stands (in_turn (letters_answer (judge (same_bytes (field_value 1 s) letters) (field_start 1 s))) (table_answer room s)))
-    by (Refused r) e h = h
-    by Stands e h = by_fields e (same_bytes (field_value 1 s) letters) (leb (length (stored_entries s)) room) (sound (stored_ledger s) (stored_entries s) room)
+    by (Err r) e h = h
+    by (Ok _) e h = by_fields e (same_bytes (field_value 1 s) letters) (leb (length (stored_entries s)) room) (sound (stored_ledger s) (stored_entries s) room)
 
 abbrev StoredBy : ℕ → StoredCallAnswer → Type 0
 StoredBy size (not_read r) = PlacedBy size r
@@ -191,7 +180,7 @@ written_placed size told done ledger table out =
     by (sound ledger table (length table)) (leb (length (stored_form ledger table)) (length out)) (length (stored_form ledger table))
   where
     by : (holds fits : Bool) (n : ℕ) →
-        StoredBy size (written_answer told (cond holds (cond fits (Written.Length n) (Written.Refused (refusal output_too_short 0 0))) (Written.Refused (refusal ledger_unsound 0 0))))
+        StoredBy size (written_answer told (cond holds (cond fits (Ok n) (Err (refusal output_too_short 0 0))) (Err (refusal ledger_unsound 0 0))))
     by true true n = done n
     by true false n = (omega arith, omega arith)
     by false fits n = (omega arith, omega arith)
@@ -205,8 +194,8 @@ module _ (size : ℕ) (five : 5 ≤ size) (call : Call) (files : CallFiles size 
   end_placed state (is_refused r) h = h
 
   read_call_placed : (low : ℕ) (state : State) (read : FileAnswer) → low ≤ size → FileAnswerBy low read → StoredBy size (once_read read state call out).answer
-  read_call_placed low state Stands within h = end_placed state (answered state call) (call_placed size five state call files)
-  read_call_placed low state (Refused r) within h = (h.0, omega (arith, h.1))
+  read_call_placed low state (Ok _) within h = end_placed state (answered state call) (call_placed size five state call files)
+  read_call_placed low state (Err r) within h = (h.0, omega (arith, h.1))
 
 stored_read_placed : (file : List ℕ) (room : ℕ) → FileAnswerBy (length file) (stored_read file room).answer
 stored_read_placed file room = subst (FileAnswerBy (length file)) (sym (answer_of_read file room)) (read_placed (length (take room no_parties)) file)
@@ -219,12 +208,12 @@ EndingBy size (unit.is_refused r of_ledger) = (r.number ≤ last_number) × Plac
 within_table : (numbers : List ℕ) (n : ℕ) → Among numbers (one_to last_number) → one_of numbers n ≡ true → n ≤ last_number
 within_table numbers n among told = (one_to_within last_number n (one_of_more numbers (one_to last_number) n among told)).1
 
-price_ending : (size : ℕ) (pricing : Pricing) (lent : Lent) → ((r : Refusal) → pricing ≡ NotPriced r → (1 ≤ r.number) × (r.number ≤ bespoke_not_allowed)) →
+price_ending : (size : ℕ) (pricing : Pricing) (lent : Lent) → ((r : Refusal) → pricing ≡ Err r → (1 ≤ r.number) × (r.number ≤ bespoke_not_allowed)) →
     PricingBy size pricing → EndingBy size (price_made pricing lent).ending
-price_ending size (Priced bill) lent numbers h = tt
-price_ending size (NotPriced r) lent numbers h = let both = numbers r refl in (omega arith, h, omega arith)
+price_ending size (Ok bill) lent numbers h = tt
+price_ending size (Err r) lent numbers h = let both = numbers r refl in (omega arith, h, omega arith)
 
-slip_ending : (size : ℕ) (short : Bool) (n : ℕ) → EndingBy size (unit_slip_ending (cond short (SlipWritten.Refused (refusal output_too_short 0 0)) (SlipWritten.Written n)))
+slip_ending : (size : ℕ) (short : Bool) (n : ℕ) → EndingBy size (unit_slip_ending (cond short (Err (refusal output_too_short 0 0)) (Ok n)))
 slip_ending size true n = (omega arith, (omega arith, omega arith), omega arith)
 slip_ending size false n = tt
 
@@ -237,8 +226,8 @@ stored_ending size numbers (made_done n) among number h = tt
 
 check_ending_lem : (size low : ℕ) (file : List ℕ) (room : ℕ) (read : FileAnswer) → low ≤ size → FileAnswerBy low read →
     StoredCheckRefuses reading_numbers (check_by read (stored_read file room).ledger) → EndingBy size (check_ending (check_by read (stored_read file room).ledger))
-check_ending_lem size low file room Stands within h number = tt
-check_ending_lem size low file room (Refused r) within h number =
+check_ending_lem size low file room (Ok _) within h number = tt
+check_ending_lem size low file room (Err r) within h number =
     (within_table reading_numbers r.number refl number, (h.0, omega (arith, h.1)), omega arith)
 
 in_table : (call : Call) → Among (stored_numbers call) (one_to last_number)

@@ -1,13 +1,9 @@
 -- Document 01, 'How calls end': "A refusal .. changes nothing". Whatever isn't done leaves every lent buffer as it was.
-use Rattle.std.specs.Prelude.{ℕ, ◌≡◌, refl, Bool, true, false, List, ◌≢◌, ℤ}
+use Rattle.std.specs.Prelude.{ℕ, ◌≡◌, refl, Bool, true, false, List, ◌≢◌, ℤ, Err, Ok}
 use Rattle.std.proofs.Common.{true≢false, ne_eqb}
-use Rattle.charge.specs.Price.{price_of}
-use Rattle.charge.specs.declared.Pricing.{Pricing}
-use Rattle.charge.specs.declared.Pricing.TheVariants.{Priced, NotPriced}
-use Rattle.slip_text.specs.Slip.{slip_written, slip_buffer}
+use Rattle.charge.specs.Price.{price_of, Pricing}
+use Rattle.slip_text.specs.Slip.{slip_written, slip_buffer, SlipWritten}
 use Rattle.slip_text.proofs.Theorems.Slip.{refused_slip_changes_nothing}
-use Rattle.slip_text.specs.declared.SlipWritten.{SlipWritten}
-use Rattle.slip_text.specs.declared.SlipWritten.TheVariants.{Written, Refused}
 use Rattle.stored_calls.specs.StoredCalls.{StoredCallAnswer, not_read, not_made, made_accepted, made_done, new_stored_of, stored_call_of}
 use Rattle.stored_calls.specs.StoredRefusals.{is_made}
 use Rattle.stored_calls.proofs.Theorems.StoredCalls.{stored_refused_changes_nothing, new_refused_changes_nothing}
@@ -20,13 +16,13 @@ abbrev Left : Made → Lent → Type 0
 Left call lent = (call.output ≡ lent.output) × (call.figures ≡ lent.figures)
 
 price_left : (pricing : Pricing) (lent : Lent) → (outcome_of (price_made pricing lent).ending).result ≢ 0 → Left (price_made pricing lent) lent
-price_left (Priced bill) lent refused = absurd (refused refl)
-price_left (NotPriced r) lent refused = (refl, refl)
+price_left (Ok bill) lent refused = absurd (refused refl)
+price_left (Err r) lent refused = (refl, refl)
 
 slip_left : (pricing : Pricing) (text : List ℕ) (written : SlipWritten) → slip_written pricing text ≡ written → (outcome_of (unit_slip_ending written)).result ≢ 0 →
     slip_buffer pricing text ≡ text
-slip_left pricing text (Written size) e refused = absurd (refused refl)
-slip_left pricing text (Refused r) e refused = refused_slip_changes_nothing pricing text r e
+slip_left pricing text (Ok size) e refused = absurd (refused refl)
+slip_left pricing text (Err r) e refused = refused_slip_changes_nothing pricing text r e
 
 -- a call on a stored ledger whose result isn't 0 was not made
 not_made_lem : (told : StoredCallAnswer) → (outcome_of (unit_call_ending told)).result ≢ 0 → is_made told ≡ false

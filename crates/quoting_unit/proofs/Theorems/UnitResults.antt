@@ -1,28 +1,23 @@
 -- Document 01, 'How calls end', for a caller that looks at the result: it is 0 exactly where the call is done, and otherwise has the number of a refusal
 -- that this call can come to.
-use Rattle.std.specs.Prelude.{ℕ, ◌≤◌, ◌≡◌, refl, Bool, true, false, cond, List, [], ◌∷◌, ltb, length}
+use Rattle.std.specs.Prelude.{ℕ, ◌≤◌, ◌≡◌, refl, Bool, true, false, cond, List, [], ◌∷◌, ltb, length, Err, Ok}
 use Rattle.std.proofs.Common.{ap, arith}
 use Rattle.tagged.specs.File.{refusal}
 use Rattle.tagged.specs.Refusals.{bespoke_not_allowed, output_too_short}
 use Rattle.tagged.specs.declared.file.Refusal.{Refusal}
-use Rattle.charge.specs.Price.{price_of}
+use Rattle.charge.specs.Price.{price_of, Pricing}
 use Rattle.charge.proofs.Theorems.PriceRefusals.{pricing_refusal_numbers}
 use Rattle.charge.specs.declared.Bill.{Bill}
-use Rattle.charge.specs.declared.Pricing.{Pricing}
-use Rattle.charge.specs.declared.Pricing.TheVariants.{Priced, NotPriced}
 use Rattle.ledger.specs.RefusalNumbers.{one_of, Among, one_to}
 use Rattle.ledger.proofs.Theorems.RefusalNumbers.{one_of_more, within_one_to, one_to_within}
 use Rattle.slip_text.specs.Slip.{slip_of}
-use Rattle.slip_text.specs.declared.SlipWritten.TheVariants.{Written, Refused}
 use Rattle.stored.specs.Reading.{reading_numbers}
 use Rattle.calls.specs.Decision.{Call, accept, pay_out, hand_over}
-use Rattle.stored_calls.specs.StoredCalls.{StoredCallAnswer, not_read, not_made, made_accepted, made_done, new_stored_of, stored_call_of, check_stored_of}
+use Rattle.stored_calls.specs.StoredCalls.{StoredCheck, StoredCallAnswer, not_read, not_made, made_accepted, made_done, new_stored_of, stored_call_of, check_stored_of}
 use Rattle.stored_calls.specs.StoredRefusals.{is_made, stored_numbers, StoredRefuses}
 use Rattle.stored_calls.proofs.Theorems.StoredCalls.{StoredCheckRefuses, stored_refusal_numbers, check_refusal_numbers}
 use Rattle.stored_calls.proofs.Theorems.StoredCallsRefusals.{new_refusal_numbers}
 use Rattle.stored_calls.specs.declared.StoredCounts.{StoredCounts}
-use Rattle.stored_calls.specs.declared.StoredCheck.{StoredCheck}
-use Rattle.stored_calls.specs.declared.StoredCheck.TheVariants as StoredCheck
 use Rattle.quoting_unit.specs.Interface.{last_number, result_of, number_in, outcome_of, Lent}
 use Rattle.quoting_unit.specs.Unit.{UnitCall, price, slip_text, new_ledger, on_ledger, check_ledger, too_short, price_made, unit_slip_ending, unit_call_ending, check_ending, made, unit_call}
 use Rattle.quoting_unit.proofs.Theorems.UnitBuffers.{leaves_if}
@@ -50,17 +45,17 @@ is_refused {refusals} r of_ledger numbers not_done told =
       in_table = rw same within.1;
     }
 
-priced_results : (pricing : Pricing) (lent : Lent) → ((r : Refusal) → pricing ≡ NotPriced r → (1 ≤ r.number) × (r.number ≤ bespoke_not_allowed)) →
-    Results ((bill : Bill) × (pricing ≡ Priced bill)) pricing_numbers (outcome_of (price_made pricing lent).ending).result
-priced_results (Priced bill) lent within = is_done (bill, refl)
-priced_results (NotPriced r) lent within =
+priced_results : (pricing : Pricing) (lent : Lent) → ((r : Refusal) → pricing ≡ Err r → (1 ≤ r.number) × (r.number ≤ bespoke_not_allowed)) →
+    Results ((bill : Bill) × (pricing ≡ Ok bill)) pricing_numbers (outcome_of (price_made pricing lent).ending).result
+priced_results (Ok bill) lent within = is_done (bill, refl)
+priced_results (Err r) lent within =
     let both = within r refl in
     is_refused r 0 refl (λ d. cc d.1)
     (one_of_more (one_to bespoke_not_allowed) pricing_numbers r.number refl (within_one_to bespoke_not_allowed r.number both.0 both.1))
 
 slip_results : (short : Bool) (size : ℕ) →
-    let written = cond short (Refused (refusal output_too_short 0 0)) (Written size) in
-    Results ((length : ℕ) × (written ≡ Written length)) (output_too_short ∷ []) (outcome_of (unit_slip_ending written)).result
+    let written = cond short (Err (refusal output_too_short 0 0)) (Ok size) in
+    Results ((length : ℕ) × (written ≡ Ok length)) (output_too_short ∷ []) (outcome_of (unit_slip_ending written)).result
 slip_results true size = is_refused (refusal output_too_short 0 0) 0 refl (λ d. cc d.1) refl
 slip_results false size = is_done (size, refl)
 
@@ -78,10 +73,10 @@ ledger_results stored table_size call lent numbers =
     stored_results (stored_call_of stored table_size call lent.output).answer numbers (stored_refusal_numbers stored table_size call lent.output)
 
 checked_results : (told : StoredCheck) → StoredCheckRefuses reading_numbers told →
-    Results ((counts : StoredCounts) × (told ≡ StoredCheck.Sound counts)) check_numbers (outcome_of (check_ending told)).result
-checked_results (StoredCheck.NotRead r) h =
+    Results ((counts : StoredCounts) × (told ≡ Ok counts)) check_numbers (outcome_of (check_ending told)).result
+checked_results (Err r) h =
     is_refused r 1 refl (λ d. cc d.1) (one_of_more reading_numbers check_numbers r.number refl h)
-checked_results (StoredCheck.Sound counts) h = is_done (counts, refl)
+checked_results (Ok counts) h = is_done (counts, refl)
 
 -- ---- every call
 made_results : (call : UnitCall) (lent : Lent) → Results (IsDone call lent) (refusals_of call) (outcome_of (made call lent).ending).result

@@ -10,6 +10,6 @@ write_figures-requires c =
     let book : Bytes args.book.now = λ k. (c.type_inv.book k).fits in
     let request : Bytes args.request.now = λ k. (c.type_inv.request k).fits in (
       accepted_bounded args.stored.now args.table_size args.book.now args.request.now args.out.now _ _ book request
-          (sym (rw c.in-Accepted.is at c.accept_stored-called.ensures.result_value)),
+          (sym (rw c.in-Ok.is at c.accept_stored.ensures.result_value)),
       omega arith,
     )

@@ -9,6 +9,6 @@ write_figures-requires c =
     let args = c.args in
     let book : Bytes args.book.now = λ k. (c.type_inv.book k).fits in
     let request : Bytes args.request.now = λ k. (c.type_inv.request k).fits in (
-      (priced_within _ _ _ book request (sym c.price-pricing.ensures ∙ c.in-Priced.is)).figures,
+      (priced_within _ _ _ book request (sym c.price.ensures ∙ c.in-Ok.is)).figures,
       omega arith,
     )

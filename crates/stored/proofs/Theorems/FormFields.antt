@@ -1,6 +1,6 @@
 -- The stored form stands, and its fields hold what was stored.
 use Prim.Native.Nat.{ℕ, ◌<◌, ◌≤◌}
-use Rattle.std.specs.Prelude.{◌≡◌, true, length, get_or, drop}
+use Rattle.std.specs.Prelude.{◌≡◌, true, length, get_or, drop, Ok}
 use Rattle.std.proofs.Math.Path.{refl, ap, subst}
 use Rattle.std.proofs.Common.{sym, ◌∙◌, inl, arith, take-append-drop}
 use mathlib.Core.List.Memᴰ
@@ -15,7 +15,6 @@ use Rattle.tagged.proofs.Theorems.FoundFields.{walk_fields_of}
 use Rattle.tagged.specs.WalkEncoded.{places_from}
 use Rattle.tagged.proofs.Theorems.WalkEncoded.{Stand-parts, Stand-short, walk_in_form, walk_of_encoded, walk_parts_of_encoded}
 use Rattle.tagged.proofs.Theorems.ClosedFiles.{fields_of_closed, closed_stands}
-use Rattle.tagged.specs.declared.file.FileAnswer.TheVariants.{Stands}
 use Rattle.ledger.specs.Limits.{most_schemes, most_entries}
 use Rattle.ledger.specs.declared.records.Scheme.{Scheme}
 use Rattle.ledger.specs.declared.records.Party.{Party}
@@ -118,7 +117,7 @@ module _ (ledger : Ledger) (parties : List Party) (count : ledger.count ≤ most
       ∙ ap (λ parts. (get_or {A = ℕ × List ℕ} parts 1 (0, [])).1) (walk_parts_of_encoded (stored_parts ledger parties))
 
 module _ (ledger : Ledger) (parties : List Party) (handed : FormFits ledger parties) (count : ledger.count ≤ most_schemes) (entries : ledger.entries ≤ most_entries) where
-  pub form_stands : file_answer stored_rows 1 (stored_form ledger parties) ≡ Stands
+  pub form_stands : file_answer stored_rows 1 (stored_form ledger parties) ≡ Ok tt
   unfolding stored_form
   form_stands = closed_stands (stored_parts ledger parties) stored_rows 1 _ (form_walks ledger parties count entries)
 

@@ -1,11 +1,9 @@
 -- What a reading comes to: its answer, and a table as long as before; a ledger that is read has 64 places and is sound with its table.
-use Rattle.std.specs.Prelude.{ℕ, ◌≡◌, refl, List, true, length}
+use Rattle.std.specs.Prelude.{ℕ, ◌≡◌, refl, List, true, length, Err, Ok}
 use Rattle.std.proofs.Common.{sym, ap, ◌∙◌, arith}
 use Rattle.std.proofs.lemmas.List.{length-replicate}
-use Rattle.tagged.specs.File.{fields_part}
+use Rattle.tagged.specs.File.{fields_part, FileAnswer}
 use Rattle.tagged.specs.declared.file.Refusal.{Refusal}
-use Rattle.tagged.specs.declared.file.FileAnswer.{FileAnswer}
-use Rattle.tagged.specs.declared.file.FileAnswer.TheVariants.{Stands, Refused}
 use Rattle.ledger.specs.Limits.{most_schemes}
 use Rattle.ledger.specs.Lists.{at_start}
 use Rattle.ledger.specs.Records.{no_scheme}
@@ -41,25 +39,25 @@ module _ (ledger : Ledger) (table : List Party) (file : List ℕ) where
   read_answer_lem = by_answer (read_answer (length table) file)
     where
       by_answer : (answer : FileAnswer) → (table_by answer ledger table s).answer ≡ answer
-      by_answer Stands = refl
-      by_answer (Refused r) = refl
+      by_answer (Ok _) = refl
+      by_answer (Err r) = refl
 
-  module _ (stands : (read_of ledger table file).answer ≡ Stands) where
+  module _ (stands : (read_of ledger table file).answer ≡ Ok tt) where
     pub read_accepted : StoredAccepted (length table) file
     read_accepted = accepted_means (length table) file (sym read_answer_lem ∙ stands)
 
-    pub read_stands : read_of ledger table file ≡ record { answer = Stands; ledger = stored_ledger s; table = at_start (stored_entries s) table }
+    pub read_stands : read_of ledger table file ≡ record { answer = Ok tt; ledger = stored_ledger s; table = at_start (stored_entries s) table }
     read_stands = ap (λ answer. table_by answer ledger table s) (sym read_answer_lem ∙ stands)
 
   -- by the answer, with what it says of the file
-  by_read : (P : FileAnswer → Type 0) → (StoredAccepted (length table) file → P Stands) → ((r : Refusal) → P (Refused r)) → P (read_answer (length table) file)
+  by_read : (P : FileAnswer → Type 0) → (StoredAccepted (length table) file → P (Ok tt)) → ((r : Refusal) → P (Err r)) → P (read_answer (length table) file)
   by_read P stood refused = by_answer (read_answer (length table) file) refl
     where
       by_answer : (answer : FileAnswer) → read_answer (length table) file ≡ answer → P answer
-      by_answer Stands e = stood (accepted_means (length table) file e)
-      by_answer (Refused r) e = refused r
+      by_answer (Ok _) e = stood (accepted_means (length table) file e)
+      by_answer (Err r) e = refused r
 
-  table_placed : StoredAccepted (length table) file → length (table_by Stands ledger table s).table ≡ length table
+  table_placed : StoredAccepted (length table) file → length (table_by (Ok tt) ledger table s).table ≡ length table
   table_placed accepted = length_at_start (stored_entries s) table accepted.fits
 
   pub read_length : length (read_of ledger table file).table ≡ length table
@@ -68,11 +66,11 @@ module _ (ledger : Ledger) (table : List Party) (file : List ℕ) where
   pub read_places : length ledger.schemes ≡ most_schemes → length (read_of ledger table file).ledger.schemes ≡ most_schemes
   read_places places = by_read (λ answer. length (table_by answer ledger table s).ledger.schemes ≡ most_schemes) (stored_places (length table) file) (λ r. places)
 
-  pub read_sound : (read_of ledger table file).answer ≡ Stands →
+  pub read_sound : (read_of ledger table file).answer ≡ Ok tt →
       sound (read_of ledger table file).ledger (read_of ledger table file).table (length (read_of ledger table file).table) ≡ true
   read_sound stands =
       let accepted = read_accepted stands in
       ap (λ end. sound end.ledger end.table (length end.table)) (read_stands stands)
-      ∙ ap (sound (stored_ledger s) (table_by Stands ledger table s).table) (table_placed accepted)
+      ∙ ap (sound (stored_ledger s) (table_by (Ok tt) ledger table s).table) (table_placed accepted)
       ∙ sound_placed s table (length table)
       ∙ accepted.holds

@@ -1,5 +1,5 @@
 -- Demand 2: "A written ledger reads back as itself, and an accepted stored ledger writes back as the same bytes."
-use Rattle.std.specs.Prelude.{ℕ, ◌+◌, ◌-◌, ◌≤◌, ◌≡◌, List, ◌++◌, true, get_or, take, drop, replicate, leb}
+use Rattle.std.specs.Prelude.{ℕ, ◌+◌, ◌-◌, ◌≤◌, ◌≡◌, List, ◌++◌, true, get_or, take, drop, replicate, leb, Err, Ok}
 use Rattle.std.proofs.Common.{sym, ap₂, ◌∙◌, ⊎_elim, arith, length-drop, take-append-drop, take-take, get_or-drop, ext_get_or, leb-true, leb-false}
 use Rattle.std.proofs.Math.Path.{ap}
 use mathlib.Mathlib.Data.Bool.Basic.{dichotomy}
@@ -11,10 +11,8 @@ use Rattle.numbers.specs.BigEndian.{Bytes}
 use Rattle.tagged.specs.Find.{field_start, field_value}
 use Rattle.tagged.specs.Encoded.{encoded_parts}
 use Rattle.tagged.specs.declared.file.Refusal.{Refusal}
-use Rattle.tagged.specs.declared.file.FileAnswer.TheVariants.{Stands}
 use Rattle.field_values.specs.Judged.{judge, judge_letters, same_bytes}
 use Rattle.field_values.proofs.Theorems.Judged.{same_bytes_refl}
-use Rattle.field_values.specs.declared.judged.Judged.TheVariants.{Passes}
 use Rattle.ledger.specs.Limits.{most_schemes}
 use Rattle.ledger.specs.Lists.{at_start}
 use Rattle.ledger.specs.Records.{no_scheme}
@@ -37,18 +35,16 @@ use Rattle.stored.specs.Reading.{fields_answer, read_answer, table_by, read_of}
 use Rattle.stored.proofs.Theorems.Reading.{read_done, read_lettered, read_standing}
 use Rattle.stored.proofs.Theorems.StoredAccepted.{form_of_accepted}
 use Rattle.stored.proofs.Theorems.ReadLedger.{read_accepted, read_stands, read_sound}
-use Rattle.stored.specs.declared.writing.Written.TheVariants.{Length}
-use Rattle.stored.specs.declared.writing.Written.TheVariants as Written
 
 -- ---- what was written
 
 -- a refusal is no length
-refused_no_length : {A : Type 0} {r : Refusal} {size : ℕ} → Written.Refused r ≡ Length size → A
+refused_no_length : {A : Type 0} {r : Refusal} {size : ℕ} → Err r ≡ Ok size → A
 refused_no_length e = impossible cc
 
 -- a write that answers a length was of a sound ledger, and the length is the form's
 module _ (ledger : Ledger) (parties : List Party) (room : ℕ) (out : List ℕ) (size : ℕ)
-    (written : written_answer ledger parties room out ≡ Length size) where
+    (written : written_answer ledger parties room out ≡ Ok size) where
   pub written_sound : sound ledger parties room ≡ true
   written_sound =
       ⊎_elim
@@ -105,10 +101,10 @@ module _ (ledger : Ledger) (parties : List Party) (handed : FormFits ledger part
       ap (λ l. at_start l no_schemes) schemes ∙ zeros_placed ledger.count ledger.schemes handed.places facts.schemes facts.rest_zero in
       λ i. ledger_from (values i) (entries_counted i) (counted i) (places i)
 
-  form_accepted : (room : ℕ) → ledger.entries ≤ room → read_answer room (stored_form ledger parties) ≡ Stands
+  form_accepted : (room : ℕ) → ledger.entries ≤ room → read_answer room (stored_form ledger parties) ≡ Ok tt
   form_accepted room fits =
       let s = encoded_parts (stored_parts ledger parties) in
-      let lettered : judge_letters letters s ≡ Passes =
+      let lettered : judge_letters letters s ≡ (Ok tt) =
       ap (λ value. judge (same_bytes value letters) (field_start 1 s)) (letters_of_form ledger parties facts.schemes facts.entries)
       ∙ ap (λ same. judge same (field_start 1 s)) (same_bytes_refl letters) in
       let kept = take-take ledger.entries ledger.entries parties (omega arith) in
@@ -123,16 +119,16 @@ module _ (ledger : Ledger) (parties : List Party) (handed : FormFits ledger part
   -- The form of a sound ledger reads back as the ledger and its entries.
   pub read_of_form : (before : Ledger) (other : List Party) → ledger.entries ≤ length other →
       read_of before other (stored_form ledger parties) ≡
-      record { answer = Stands; ledger = ledger; table = at_start (take ledger.entries parties) other }
+      record { answer = Ok tt; ledger = ledger; table = at_start (take ledger.entries parties) other }
   read_of_form before other fits =
       ap₂ (λ answer s. table_by answer before other s) (form_accepted (length other) fits) (fields_of_form ledger parties)
-      ∙ (λ i. record { answer = Stands; ledger = ledger_back i; table = at_start (entries_back i) other })
+      ∙ (λ i. record { answer = Ok tt; ledger = ledger_back i; table = at_start (entries_back i) other })
 
 -- What was written reads back into any table that has room for the entries, whatever ledger there was before.
 pub read_of_write : (ledger before : Ledger) (table other : List Party) (out : List ℕ) (size : ℕ) → FormFits ledger table →
-    (write_of ledger table out).answer ≡ Length size → ledger.entries ≤ length other →
+    (write_of ledger table out).answer ≡ Ok size → ledger.entries ≤ length other →
     read_of before other (take size (write_of ledger table out).output) ≡
-    record { answer = Stands; ledger = ledger; table = at_start (take ledger.entries table) other }
+    record { answer = Ok tt; ledger = ledger; table = at_start (take ledger.entries table) other }
 read_of_write ledger before table other out size handed written fits =
     let form = stored_form ledger table in
     let holds = written_sound ledger table (length table) out size written in
@@ -142,7 +138,7 @@ read_of_write ledger before table other out size handed written fits =
     ap (read_of before other) file ∙ read_of_form ledger table handed holds before other fits
 
 -- ---- what was read
-module _ (before : Ledger) (table : List Party) (file : List ℕ) (bytes : Bytes file) (stands : (read_of before table file).answer ≡ Stands) where
+module _ (before : Ledger) (table : List Party) (file : List ℕ) (bytes : Bytes file) (stands : (read_of before table file).answer ≡ Ok tt) where
   -- the form of what was read is the file
   form_of_read : stored_form (read_of before table file).ledger (read_of before table file).table ≡ file
   form_of_read =
@@ -151,20 +147,20 @@ module _ (before : Ledger) (table : List Party) (file : List ℕ) (bytes : Bytes
 
 -- A file that was read writes back as itself, with any output that has room for it.
 pub write_of_read : (before : Ledger) (table : List Party) (file out : List ℕ) → Bytes file →
-    (read_of before table file).answer ≡ Stands → length file ≤ length out →
-    write_of (read_of before table file).ledger (read_of before table file).table out ≡ record { answer = Length (length file); output = at_start file out }
+    (read_of before table file).answer ≡ Ok tt → length file ≤ length out →
+    write_of (read_of before table file).ledger (read_of before table file).table out ≡ record { answer = Ok (length file); output = at_start file out }
 write_of_read before table file out bytes stands fits =
     let end = read_of before table file in
     let form = form_of_read before table file bytes stands in
     let room : length (stored_form end.ledger end.table) ≤ length out = omega (arith, ap length form) in
     let done = write_done end.ledger end.table (length end.table) out (read_sound before table file stands) room in
     let output = output_done end.ledger end.table (length end.table) out done ∙ ap (λ bytes. at_start bytes out) form in
-    λ i. record { answer = (done ∙ ap (λ bytes. Length (length bytes)) form) i; output = output i }
+    λ i. record { answer = (done ∙ ap (λ bytes. Ok (length bytes)) form) i; output = output i }
 
 -- So no two files are the same ledger: accepted files that read as one ledger with the same entries, whatever ledgers and tables there were before,
 -- are the same bytes.
 pub stored_ledgers_differ : (before before' : Ledger) (table table' : List Party) (file file' : List ℕ) → Bytes file → Bytes file' →
-    (read_of before table file).answer ≡ Stands → (read_of before' table' file').answer ≡ Stands →
+    (read_of before table file).answer ≡ Ok tt → (read_of before' table' file').answer ≡ Ok tt →
     (read_of before table file).ledger ≡ (read_of before' table' file').ledger →
     take (read_of before table file).ledger.entries (read_of before table file).table ≡
     take (read_of before' table' file').ledger.entries (read_of before' table' file').table →

@@ -1,5 +1,5 @@
 -- What reading accepts is the form of the ledger and the entries that are read.
-use Rattle.std.specs.Prelude.{ℕ, ◌-◌, ◌≤◌, ◌≡◌, refl, true, length, drop, leb}
+use Rattle.std.specs.Prelude.{ℕ, ◌-◌, ◌≤◌, ◌≡◌, refl, true, length, drop, leb, Err, Ok}
 use Rattle.std.proofs.Math.Path.{sym, ap, ap₂, subst}
 use Rattle.std.proofs.Common.{◌∙◌, ⊎_elim, arith, length-take, length-drop}
 use mathlib.Core.List.Memᴰ
@@ -12,20 +12,15 @@ use Rattle.tagged.proofs.Theorems.Impossible.{impossible}
 use Rattle.numbers.specs.BigEndian.{Bytes}
 use Rattle.numbers.proofs.Theorems.BigEndian.{Bytes-take, Bytes-drop}
 use Rattle.field_walk.specs.Walk.{FieldAt, value_of, FieldsWalk}
-use Rattle.tagged.specs.Find.{fields_of, first_with, first_place, part_of, field_start, field_value}
-use Rattle.tagged.specs.File.{fields_part}
+use Rattle.tagged.specs.Find.{place_at, fields_of, first_with, first_place, part_of, field_start, field_value}
+use Rattle.tagged.specs.File.{fields_part, FileAnswer}
 use Rattle.tagged.proofs.Theorems.File.{stands_means}
 use Rattle.tagged.specs.Encoded.{closed, parts_of}
 use Rattle.tagged.proofs.Theorems.FoundFields.{walk_inside, walk_fields_of, Bytes-part}
 use Rattle.tagged.proofs.Theorems.ClosedFiles.{stands_closed}
-use Rattle.tagged.specs.declared.find.Place.TheVariants.{At}
 use Rattle.tagged.specs.declared.file.Refusal.{Refusal}
-use Rattle.tagged.specs.declared.file.FileAnswer.{FileAnswer}
-use Rattle.tagged.specs.declared.file.FileAnswer.TheVariants.{Stands, Refused}
-use Rattle.field_values.specs.Judged.{judge_letters, same_bytes}
+use Rattle.field_values.specs.Judged.{judge_letters, same_bytes, Judged}
 use Rattle.field_values.proofs.Theorems.Judged.{judge_passes, same_bytes_equal}
-use Rattle.field_values.specs.declared.judged.Judged.{Judged}
-use Rattle.field_values.specs.declared.judged.Judged.TheVariants.{Passes, Fails}
 use Rattle.ledger.specs.Lists.{at_start}
 use Rattle.ledger.specs.Sound.{sound}
 use Rattle.ledger.specs.declared.records.Party.{Party}
@@ -39,18 +34,18 @@ use Rattle.stored.proofs.Theorems.Reading.{read_refused_9, read_refused_13}
 use Rattle.stored.specs.StoredAccepted.{StoredAccepted}
 
 -- a refusal is another answer
-refused_not_stands : {A : Type 0} {r : Refusal} → Refused r ≡ Stands → A
+refused_not_stands : {A : Type 0} {r : Refusal} → ◌≡◌ {A = FileAnswer} (Err r) (Ok tt) → A
 refused_not_stands e = impossible cc
 
-pub in_turn_stands : (first second : FileAnswer) → in_turn first second ≡ Stands → (first ≡ Stands) × (second ≡ Stands)
-in_turn_stands Stands second e = (refl, e)
-in_turn_stands (Refused r) second e = refused_not_stands e
+pub in_turn_stands : (first second : FileAnswer) → in_turn first second ≡ Ok tt → (first ≡ Ok tt) × (second ≡ Ok tt)
+in_turn_stands (Ok _) second e = (refl, e)
+in_turn_stands (Err r) second e = refused_not_stands e
 
-letters_pass : (judged : Judged) → letters_answer judged ≡ Stands → judged ≡ Passes
-letters_pass Passes e = refl
-letters_pass (Fails at) e = refused_not_stands e
+letters_pass : (judged : Judged) → letters_answer judged ≡ Ok tt → judged ≡ Ok tt
+letters_pass (Ok _) e = refl
+letters_pass (Err at) e = refused_not_stands e
 
-module _ (room : ℕ) (s : List ℕ) (stands : table_answer room s ≡ Stands) where
+module _ (room : ℕ) (s : List ℕ) (stands : table_answer room s ≡ Ok tt) where
   table_fits : length (stored_entries s) ≤ room
   table_fits =
       ⊎_elim
@@ -65,7 +60,7 @@ module _ (room : ℕ) (s : List ℕ) (stands : table_answer room s ≡ Stands) w
       (λ holds. holds)
       (dichotomy (sound (stored_ledger s) (stored_entries s) room))
 
-pub accepted_means : (room : ℕ) (file : List ℕ) → read_answer room file ≡ Stands → StoredAccepted room file
+pub accepted_means : (room : ℕ) (file : List ℕ) → read_answer room file ≡ Ok tt → StoredAccepted room file
 unfolding read_answer
 accepted_means room file e =
     let s = fields_part file in
@@ -113,7 +108,7 @@ module _ (s : List ℕ) (bytes : Bytes s) (walks : FieldsWalk stored_rows s) whe
   unfolding first_with
   letters_part_lem =
       let later = stored.head ∷ stored.schemes ++ stored.parties in
-      let here : first_with 1 (stored.letters ∷ later) ≡ At stored.letters.start stored.letters.len =
+      let here : first_with 1 (stored.letters ∷ later) ≡ place_at stored.letters.start stored.letters.len =
       rw (eq-eqb _ _ stored.of_letters.tag) in
       let value : field_value 1 s ≡ value_of s stored.letters = ap (λ place. part_of place s) (ap (first_with 1) stored.are ∙ here) in
       ap₂ (λ tag value. (tag, value)) stored.of_letters.tag (sym value)
@@ -123,7 +118,7 @@ module _ (s : List ℕ) (bytes : Bytes s) (walks : FieldsWalk stored_rows s) whe
   head_part_lem =
       let past : eqb stored.letters.tag 2 ≡ false = ne_eqb stored.letters.tag 2 (λ e. omega (arith, stored.of_letters.tag)) in
       let later = stored.schemes ++ stored.parties in
-      let here : first_with 2 (stored.letters ∷ stored.head ∷ later) ≡ At stored.head.start stored.head.len =
+      let here : first_with 2 (stored.letters ∷ stored.head ∷ later) ≡ place_at stored.head.start stored.head.len =
       rw (past, eq-eqb _ _ stored.of_head.tag) in
       let value : field_value 2 s ≡ value_of s stored.head = ap (λ place. part_of place s) (ap (first_with 2) stored.are ∙ here) in
       let spelt = record_of_values head_widths (field_value 2 s) (Bytes-part (first_place 2 s) s bytes) (head_sized s walks) in

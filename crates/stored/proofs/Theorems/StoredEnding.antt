@@ -1,54 +1,52 @@
 -- The endings tell the answers: done or refused by the number, and two different answers never end alike.
-use Rattle.std.specs.Prelude.{ℕ, ◌≤◌, ◌≡◌, refl, List, cond, pos, nat_abs, get_or}
+use Rattle.std.specs.Prelude.{ℕ, ◌≤◌, ◌≡◌, refl, List, cond, pos, nat_abs, get_or, Err, Ok}
 use Rattle.std.proofs.Common.{sym, ap, ◌∙◌}
 use Rattle.tagged.specs.Ending.{Ending, file_ending, number_is_0, stands, Numbered}
 use Rattle.tagged.proofs.Theorems.Ending.{refusal_in, refused_by_number, file_answer_by_number}
-use Rattle.tagged.specs.declared.file.FileAnswer.{FileAnswer}
+use Rattle.tagged.specs.File.{FileAnswer}
 use Rattle.ledger.proofs.Theorems.RefusalNumbers.{one_of_positive}
 use Rattle.ledger.specs.declared.records.Party.{Party}
 use Rattle.ledger.specs.declared.records.Ledger.{Ledger}
 use Rattle.stored.specs.Reading.{read_answer, reading_numbers, ReadRefuses}
 use Rattle.stored.proofs.Theorems.Reading.{read_refusal_numbers}
-use Rattle.stored.specs.Writing.{written_answer, writing_numbers, WriteRefuses}
+use Rattle.stored.specs.Writing.{written_answer, writing_numbers, WriteRefuses, Written}
 use Rattle.stored.proofs.Theorems.Writing.{write_refusal_numbers}
 use Rattle.stored.specs.StoredEnding.{written_ending, is_written}
-use Rattle.stored.specs.declared.writing.Written.{Written}
-use Rattle.stored.specs.declared.writing.Written.TheVariants.{Length, Refused}
 
 pub read_numbered : (answer : FileAnswer) → ReadRefuses answer → Numbered answer
-read_numbered FileAnswer.Stands told = tt
-read_numbered (FileAnswer.Refused r) told = one_of_positive reading_numbers r.number refl told
+read_numbered (Ok _) told = tt
+read_numbered (Err r) told = one_of_positive reading_numbers r.number refl told
 
 pub read_by_number : (room : ℕ) (file : List ℕ) → number_is_0 (file_ending (read_answer room file)) ≡ stands (read_answer room file)
 read_by_number room file = file_answer_by_number (read_answer room file) (read_numbered (read_answer room file) (read_refusal_numbers room file))
 
 abbrev pub WriteNumbered : Written → Type 0
-WriteNumbered (Length size) = Unit {0}
-WriteNumbered (Refused r) = 1 ≤ r.number
+WriteNumbered (Ok size) = Unit {0}
+WriteNumbered (Err r) = 1 ≤ r.number
 
 module _ (ledger : Ledger) (parties : List Party) (room : ℕ) (out : List ℕ) where
   pub write_numbered : WriteNumbered (written_answer ledger parties room out)
   write_numbered = by (written_answer ledger parties room out) (write_refusal_numbers ledger parties room out)
     where
       by : (written : Written) → WriteRefuses written → WriteNumbered written
-      by (Length size) told = tt
-      by (Refused r) told = one_of_positive writing_numbers r.number refl told
+      by (Ok size) told = tt
+      by (Err r) told = one_of_positive writing_numbers r.number refl told
 
   pub write_by_number : number_is_0 (written_ending (written_answer ledger parties room out)) ≡ is_written (written_answer ledger parties room out)
   write_by_number = by (written_answer ledger parties room out) write_numbered
     where
       by : (written : Written) → WriteNumbered written → number_is_0 (written_ending written) ≡ is_written written
-      by (Length size) numbered = refl
-      by (Refused r) numbered = refused_by_number r numbered
+      by (Ok size) numbered = refl
+      by (Err r) numbered = refused_by_number r numbered
 
 -- ---- the ending tells writing's answer
 abbrev written_from : Ending → Written
 written_from ending =
-    cond (number_is_0 ending) (Length (nat_abs (get_or ending.values 0 (pos 0)))) (Refused (refusal_in ending))
+    cond (number_is_0 ending) (Ok (nat_abs (get_or ending.values 0 (pos 0)))) (Err (refusal_in ending))
 
 written_from_lem : (written : Written) → number_is_0 (written_ending written) ≡ is_written written → written_from (written_ending written) ≡ written
-written_from_lem (Length size) numbered = refl
-written_from_lem (Refused r) numbered = rw numbered
+written_from_lem (Ok size) numbered = refl
+written_from_lem (Err r) numbered = rw numbered
 
 pub write_by_ending : (ledger other_ledger : Ledger) (parties other_parties : List Party) (room other_room : ℕ) (out other_out : List ℕ) →
     let answer = written_answer ledger parties room out in

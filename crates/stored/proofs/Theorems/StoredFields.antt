@@ -12,7 +12,7 @@ use Rattle.tagged.proofs.Theorems.FoundFields.{walk_fields_of, walk_sized}
 use Rattle.ledger.specs.Limits.{most_schemes, most_entries}
 use Rattle.stored.specs.StoredRows.{stored_rows}
 use Rattle.stored.specs.Cases.StoredRows.{stored_rows_rise}
-use Rattle.stored.specs.Form.{stored_schemes, stored_entries}
+use Rattle.stored.specs.Form.{scheme_of_bytes, party_of_bytes, each_with, stored_schemes, stored_entries}
 
 -- row k of the table
 abbrev pub row_at : ℕ → List ℕ
@@ -110,3 +110,18 @@ unfolding stored_entries
 few_entries s walks =
     let stored = stored_fields s walks in
     rw (length-map (fields_with 4 (fields_of s)), parties_with stored) stored.few_parties
+
+-- ---- the schemes and the entries, as they are collected
+pub schemes_collected : (s : List ℕ) → stored_schemes s ≡ each_with scheme_of_bytes 3 s (fields_of s)
+unfolding stored_schemes
+schemes_collected s = refl
+
+pub entries_collected : (s : List ℕ) → stored_entries s ≡ each_with party_of_bytes 4 s (fields_of s)
+unfolding stored_entries
+entries_collected s = refl
+
+pub few_schemes_collected : (s : List ℕ) → FieldsWalk stored_rows s → length (each_with scheme_of_bytes 3 s (fields_of s)) ≤ most_schemes
+few_schemes_collected s walks = omega (arith, few_schemes s walks, ap length (schemes_collected s))
+
+pub few_entries_collected : (s : List ℕ) → FieldsWalk stored_rows s → length (each_with party_of_bytes 4 s (fields_of s)) ≤ most_entries
+few_entries_collected s walks = omega (arith, few_entries s walks, ap length (entries_collected s))

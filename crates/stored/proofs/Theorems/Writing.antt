@@ -1,5 +1,5 @@
 -- The cases of writing, in document 01's order; what is written fits; what a refused one changes, and its numbers.
-use Rattle.std.specs.Prelude.{ℕ, ◌<◌, ◌≤◌, ◌≡◌, List, Bool}
+use Rattle.std.specs.Prelude.{ℕ, ◌<◌, ◌≤◌, ◌≡◌, List, Bool, Err, Ok}
 use Rattle.std.proofs.Math.Path.{refl}
 use Rattle.std.proofs.Common.{ap, ◌∙◌, arith}
 use Rattle.std.proofs.Math.Bool.{true, false, cond}
@@ -16,18 +16,17 @@ use Rattle.ledger.specs.declared.records.Party.{Party}
 use Rattle.ledger.specs.declared.records.Ledger.{Ledger}
 use Rattle.stored.specs.Form.{stored_form}
 use Rattle.stored.specs.Writing.{form_answer, written_answer, output_by, written_output, write_of, WriteRefuses}
-use Rattle.stored.specs.declared.writing.Written.TheVariants.{Length, Refused}
 
 -- without the soundness test
 module _ (ledger : Ledger) (parties : List Party) (out : List ℕ) where
-  pub form_refused_14 : length out < length (stored_form ledger parties) → form_answer ledger parties out ≡ Refused (refusal output_too_short 0 0)
+  pub form_refused_14 : length out < length (stored_form ledger parties) → form_answer ledger parties out ≡ Err (refusal output_too_short 0 0)
   form_refused_14 short = rw (lt-leb (length (stored_form ledger parties)) (length out) short)
 
-  pub form_done : length (stored_form ledger parties) ≤ length out → form_answer ledger parties out ≡ Length (length (stored_form ledger parties))
+  pub form_done : length (stored_form ledger parties) ≤ length out → form_answer ledger parties out ≡ Ok (length (stored_form ledger parties))
   form_done fits = rw (le-leb (length (stored_form ledger parties)) (length out) fits)
 
 module _ (ledger : Ledger) (parties : List Party) (room : ℕ) (out : List ℕ) where
-  pub write_refused_13 : sound ledger parties room ≡ false → written_answer ledger parties room out ≡ Refused (refusal ledger_unsound 0 0)
+  pub write_refused_13 : sound ledger parties room ≡ false → written_answer ledger parties room out ≡ Err (refusal ledger_unsound 0 0)
   unfolding written_answer
   write_refused_13 unsound = rw unsound
 
@@ -36,20 +35,20 @@ module _ (ledger : Ledger) (parties : List Party) (room : ℕ) (out : List ℕ) 
   write_sound holds = rw holds
 
   pub write_refused_14 : sound ledger parties room ≡ true → length out < length (stored_form ledger parties) →
-      written_answer ledger parties room out ≡ Refused (refusal output_too_short 0 0)
+      written_answer ledger parties room out ≡ Err (refusal output_too_short 0 0)
   write_refused_14 holds short = write_sound holds ∙ form_refused_14 ledger parties out short
 
   pub write_done : sound ledger parties room ≡ true → length (stored_form ledger parties) ≤ length out →
-      written_answer ledger parties room out ≡ Length (length (stored_form ledger parties))
+      written_answer ledger parties room out ≡ Ok (length (stored_form ledger parties))
   write_done holds fits = write_sound holds ∙ form_done ledger parties out fits
 
   -- what is written fits the output
-  pub written_within : {size : ℕ} → written_answer ledger parties room out ≡ Length size → size ≤ length out
+  pub written_within : {size : ℕ} → written_answer ledger parties room out ≡ Ok size → size ≤ length out
   unfolding written_answer
   written_within done = by (sound ledger parties room) (leb (length (stored_form ledger parties)) (length out)) refl done
     where
       by : {size : ℕ} (holds fits : Bool) → leb (length (stored_form ledger parties)) (length out) ≡ fits →
-          cond holds (cond fits (Length (length (stored_form ledger parties))) (Refused (refusal output_too_short 0 0))) (Refused (refusal ledger_unsound 0 0)) ≡ Length size →
+          cond holds (cond fits (Ok (length (stored_form ledger parties))) (Err (refusal output_too_short 0 0))) (Err (refusal ledger_unsound 0 0)) ≡ Ok size →
           size ≤ length out
       by {size} true true t e =
           let same : length (stored_form ledger parties) ≡ size = cc in
@@ -58,15 +57,15 @@ module _ (ledger : Ledger) (parties : List Party) (room : ℕ) (out : List ℕ) 
       by false fits t e = impossible cc
 
   -- the output, by the answer
-  pub output_refused : {r : Refusal} → written_answer ledger parties room out ≡ Refused r → written_output ledger parties room out ≡ out
+  pub output_refused : {r : Refusal} → written_answer ledger parties room out ≡ Err r → written_output ledger parties room out ≡ out
   output_refused refused = ap (λ answer. output_by answer (stored_form ledger parties) out) refused
 
-  pub output_done : {size : ℕ} → written_answer ledger parties room out ≡ Length size → written_output ledger parties room out ≡ at_start (stored_form ledger parties) out
+  pub output_done : {size : ℕ} → written_answer ledger parties room out ≡ Ok size → written_output ledger parties room out ≡ at_start (stored_form ledger parties) out
   output_done done = ap (λ answer. output_by answer (stored_form ledger parties) out) done
 
 -- a refused write leaves the output as it was
 pub refused_write_changes_nothing : (ledger : Ledger) (table : List Party) (out : List ℕ) (r : Refusal) →
-    (write_of ledger table out).answer ≡ Refused r → (write_of ledger table out).output ≡ out
+    (write_of ledger table out).answer ≡ Err r → (write_of ledger table out).output ≡ out
 refused_write_changes_nothing ledger table out r e = output_refused ledger table (length table) out e
 
 pub write_refusal_numbers : (ledger : Ledger) (parties : List Party) (room : ℕ) (out : List ℕ) → WriteRefuses (written_answer ledger parties room out)
@@ -74,7 +73,7 @@ unfolding written_answer
 write_refusal_numbers ledger parties room out = by (sound ledger parties room) (leb (length (stored_form ledger parties)) (length out))
   where
     by : (holds fits : Bool) →
-        WriteRefuses (cond holds (cond fits (Length (length (stored_form ledger parties))) (Refused (refusal output_too_short 0 0))) (Refused (refusal ledger_unsound 0 0)))
+        WriteRefuses (cond holds (cond fits (Ok (length (stored_form ledger parties))) (Err (refusal output_too_short 0 0))) (Err (refusal ledger_unsound 0 0)))
     by true true = tt
     by true false = refl
     by false fits = refl

@@ -1,12 +1,11 @@
 -- The stored form's bytes, and how small files read: each refusal of reading and of writing, at its limit and one past it.
-use Rattle.std.specs.Prelude.{ℕ, ◌-◌, ◌≡◌, refl, length, take, replicate}
+use Rattle.std.specs.Prelude.{ℕ, ◌-◌, ◌≡◌, refl, length, take, replicate, Err, Ok}
 use mathlib.Core.List.{List, [], ◌∷◌, ◌++◌, map, flat_map}
 use Rattle.numbers.specs.BigEndian.{number, bytes_of}
 use Rattle.numbers.specs.Check.{check_from}
 use Rattle.field_walk.specs.Walk.{due_from, all_had, front_of, walk_from}
 use Rattle.tagged.specs.Find.{fields_from, first_with, fields_with}
-use Rattle.tagged.specs.File.{refusal}
-use Rattle.tagged.specs.declared.file.FileAnswer.{FileAnswer}
+use Rattle.tagged.specs.File.{refusal, FileAnswer}
 use Rattle.field_values.specs.Judged.{same_bytes}
 use Rattle.ledger.specs.Lists.{at_start}
 use Rattle.ledger.specs.Records.{no_scheme, no_party, new_ledger}
@@ -15,12 +14,10 @@ use Rattle.ledger.specs.Sound.{parties_sound, schemes_sound, all_zero, sound}
 use Rattle.ledger.specs.Lookup.{scheme_place}
 use Rattle.ledger.specs.declared.records.Party.{Party}
 use Rattle.ledger.specs.declared.records.Ledger.{Ledger}
-use Rattle.tagged.specs.declared.file.FileAnswer.TheVariants as standing
 use Rattle.stored.specs.Layout.{record_bytes, values_at}
 use Rattle.stored.specs.Form.{scheme_parts, party_parts, stored_form, stored_schemes, stored_entries, no_schemes, stored_ledger}
 use Rattle.stored.specs.Writing.{written_answer, write_of}
 use Rattle.stored.specs.Reading.{table_answer, read_answer, read_of}
-use Rattle.stored.specs.declared.writing.Written.TheVariants as written
 
 -- a ledger of one scheme and its first entry
 abbrev pub one_scheme : Ledger
@@ -82,7 +79,7 @@ unfolding stored_form scheme_parts party_parts record_bytes bytes_of check_from 
 forms = (refl, refl, refl)
 
 abbrev refused : ℕ → ℕ → ℕ → FileAnswer
-refused n file place = standing.Refused (refusal n file place)
+refused n file place = Err (refusal n file place)
 
 -- a file, the table's length, and the answer
 abbrev pub read_cases : List ((ℕ × List ℕ) × FileAnswer)
@@ -90,10 +87,10 @@ read_cases =
     ((0, []), refused 1 1 0) ∷
     ((0, form_with new_form 0 [] (90 ∷ 115 ∷ [])), refused 2 1 35) ∷
     ((0, form_with new_form 6 (77 ∷ []) (253 ∷ 157 ∷ [])), refused 3 1 3) ∷
-    ((0, new_form), standing.Stands) ∷
-    ((1, one_form), standing.Stands) ∷
+    ((0, new_form), Ok tt) ∷
+    ((1, one_form), Ok tt) ∷
     ((0, one_form), refused 9 0 0) ∷
-    ((2, joined_form), standing.Stands) ∷
+    ((2, joined_form), Ok tt) ∷
     ((1, joined_form), refused 9 0 0) ∷
     ((1, unsound_form), refused 13 0 0) ∷
     -- 3 before 9, and 9 before 13
@@ -106,15 +103,15 @@ unfolding read_answer table_answer stored_entries stored_schemes stored_ledger n
 read_cases_hold = refl
 
 -- what is read, with a table of two records: the second, past the last entry, stays
-pub read_case_holds : read_of new_ledger (no_party ∷ one_party ∷ []) one_form ≡ record { answer = standing.Stands; ledger = one_scheme; table = one_party ∷ one_party ∷ [] }
+pub read_case_holds : read_of new_ledger (no_party ∷ one_party ∷ []) one_form ≡ record { answer = Ok tt; ledger = one_scheme; table = one_party ∷ one_party ∷ [] }
 unfolding read_answer table_answer stored_entries stored_schemes stored_ledger no_schemes values_at number check_from due_from all_had front_of walk_from fields_from first_with fields_with same_bytes sound parties_sound scheme_place schemes_sound all_zero sum_over first_put_in
 read_case_holds = refl
 
 -- an output as long as the form, one byte longer and one byte shorter; a table shorter than the entries
 pub write_cases_hold :
-    (write_of one_scheme (one_party ∷ []) (replicate 97 7) ≡ record { answer = written.Length 97; output = one_form }) ×
-    (write_of one_scheme (one_party ∷ []) (replicate 98 7) ≡ record { answer = written.Length 97; output = one_form ++ (7 ∷ []) }) ×
-    (write_of one_scheme (one_party ∷ []) (replicate 96 7) ≡ record { answer = written.Refused (refusal 14 0 0); output = replicate 96 7 }) ×
-    (write_of one_scheme [] (replicate 97 7) ≡ record { answer = written.Refused (refusal 13 0 0); output = replicate 97 7 })
+    (write_of one_scheme (one_party ∷ []) (replicate 97 7) ≡ record { answer = Ok 97; output = one_form }) ×
+    (write_of one_scheme (one_party ∷ []) (replicate 98 7) ≡ record { answer = Ok 97; output = one_form ++ (7 ∷ []) }) ×
+    (write_of one_scheme (one_party ∷ []) (replicate 96 7) ≡ record { answer = Err (refusal 14 0 0); output = replicate 96 7 }) ×
+    (write_of one_scheme [] (replicate 97 7) ≡ record { answer = Err (refusal 13 0 0); output = replicate 97 7 })
 unfolding written_answer stored_form scheme_parts party_parts record_bytes bytes_of check_from flat_map sound parties_sound scheme_place schemes_sound all_zero sum_over first_put_in
 write_cases_hold = (refl, refl, refl, refl)

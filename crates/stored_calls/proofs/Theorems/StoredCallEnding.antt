@@ -1,9 +1,9 @@
 -- The endings tell the answers: done or refused by the number, and two different answers never end alike.
-use Rattle.std.specs.Prelude.{ℕ, ◌≡◌, refl, List, Bool, true, false, cond, pos, nat_abs, get_or, drop, length}
+use Rattle.std.specs.Prelude.{ℕ, ◌≡◌, refl, List, Bool, true, false, cond, pos, nat_abs, get_or, drop, length, Err, Ok}
 use Rattle.std.proofs.Common.{sym, ap, ◌∙◌}
 use Rattle.tagged.specs.Ending.{Ending, number_is_0}
 use Rattle.tagged.proofs.Theorems.Ending.{refusal_in, refused_by_number}
-use Rattle.tagged.specs.declared.file.FileAnswer.{FileAnswer}
+use Rattle.tagged.specs.File.{FileAnswer}
 use Rattle.ledger.specs.Records.{no_parties, new_ledger}
 use Rattle.ledger.proofs.Theorems.RefusalNumbers.{one_of_positive}
 use Rattle.calls.specs.Decision.{Call, CallAnswer, is_accepted, is_done, is_refused}
@@ -12,21 +12,16 @@ use Rattle.calls.specs.CallEnding.{call_ending, Numbered}
 use Rattle.calls.proofs.Theorems.CallEnding.{answered_numbered, answer_by_ending}
 use Rattle.stored.specs.Reading.{reading_numbers, ReadRefuses}
 use Rattle.stored.proofs.Theorems.StoredEnding.{read_numbered, write_numbered, WriteNumbered}
-use Rattle.stored.specs.Writing.{WriteEnd, write_of}
-use Rattle.stored.specs.declared.writing.Written.{Written}
-use Rattle.tagged.specs.declared.file.FileAnswer.TheVariants as FileAnswer
-use Rattle.stored.specs.declared.writing.Written.TheVariants as Written
-use Rattle.stored_calls.specs.StoredCalls.{StoredCallAnswer, not_read, not_made, made_accepted, made_done, stored_read, written_answer, end_by, once_read, stored_call_of, new_stored_of, check_stored_of}
+use Rattle.stored.specs.Writing.{WriteEnd, write_of, Written}
+use Rattle.stored_calls.specs.StoredCalls.{StoredCheck, StoredCallAnswer, not_read, not_made, made_accepted, made_done, stored_read, written_answer, end_by, once_read, stored_call_of, new_stored_of, check_stored_of}
 use Rattle.stored_calls.specs.StoredRefusals.{is_made}
 use Rattle.stored_calls.proofs.Theorems.StoredCalls.{stored_read_refuses, StoredCheckRefuses, check_refusal_numbers}
 use Rattle.stored_calls.specs.StoredCallEnding.{stored_call_ending, of_stored_ledger, stored_check_ending, call_answer_in, is_sound}
-use Rattle.stored_calls.specs.declared.StoredCheck.{StoredCheck}
-use Rattle.stored_calls.specs.declared.StoredCheck.TheVariants as StoredCheck
 
 written_numbered : (told : ℕ → StoredCallAnswer) → ((size : ℕ) → Numbered (call_answer_in (told size))) → (written : Written) → WriteNumbered written →
     Numbered (call_answer_in (written_answer told written))
-written_numbered told tells (Written.Length size) numbered = tells size
-written_numbered told tells (Written.Refused r) numbered = numbered
+written_numbered told tells (Ok size) numbered = tells size
+written_numbered told tells (Err r) numbered = numbered
 
 end_numbered : (answer : CallAnswer) (written : WriteEnd) (out : List ℕ) → Numbered answer → WriteNumbered written.answer →
     Numbered (call_answer_in (end_by answer written out).answer)
@@ -39,12 +34,12 @@ stored_numbered file room call out = by (stored_read file room).answer (stored_r
   where
     by : (answer : FileAnswer) → ReadRefuses answer →
         Numbered (call_answer_in (once_read answer (state_of (stored_read file room).ledger (stored_read file room).table) call out).answer)
-    by FileAnswer.Stands reads =
+    by (Ok _) reads =
         let state = state_of (stored_read file room).ledger (stored_read file room).table in
         let after = leaves state call in
         end_numbered (answered state call) (write_of after.ledger after.table out) out (answered_numbered state call)
         (write_numbered after.ledger after.table (length after.table) out)
-    by (FileAnswer.Refused r) reads = read_numbered (FileAnswer.Refused r) reads
+    by (Err r) reads = read_numbered (Err r) reads
 
 pub new_numbered : (out : List ℕ) → Numbered (call_answer_in (new_stored_of out).answer)
 new_numbered out =
@@ -69,8 +64,8 @@ pub check_by_number : (file : List ℕ) (room : ℕ) → number_is_0 (stored_che
 check_by_number file room = by (check_stored_of file room) (check_refusal_numbers file room)
   where
     by : (check : StoredCheck) → StoredCheckRefuses reading_numbers check → number_is_0 (stored_check_ending check) ≡ is_sound check
-    by (StoredCheck.NotRead r) told = refused_by_number r (one_of_positive reading_numbers r.number refl told)
-    by (StoredCheck.Sound counts) told = refl
+    by (Err r) told = refused_by_number r (one_of_positive reading_numbers r.number refl told)
+    by (Ok counts) told = refl
 
 -- ---- flag and ending tell the answer, whichever calls these are
 
@@ -111,13 +106,13 @@ abbrev stored_check_from : Ending → StoredCheck
 stored_check_from ending =
     let value : ℕ → ℕ = λ place. nat_abs (get_or ending.values place (pos 0)) in
     cond (number_is_0 ending)
-    (StoredCheck.Sound
+    (Ok
     (record { month = value 0; connections = value 1; charged = value 2; borne = value 3; schemes = value 4; entries = value 5 }))
-    (StoredCheck.NotRead (refusal_in ending))
+    (Err (refusal_in ending))
 
 check_from : (check : StoredCheck) → number_is_0 (stored_check_ending check) ≡ is_sound check → stored_check_from (stored_check_ending check) ≡ check
-check_from (StoredCheck.NotRead r) numbered = rw numbered
-check_from (StoredCheck.Sound counts) numbered = refl
+check_from (Err r) numbered = rw numbered
+check_from (Ok counts) numbered = refl
 
 pub check_by_ending : (file other_file : List ℕ) (room other_room : ℕ) →
     stored_check_ending (check_stored_of file room) ≡ stored_check_ending (check_stored_of other_file other_room) →

@@ -1,7 +1,7 @@
 -- How long the table is, what a refused call on a stored ledger changes, and that it refuses with these numbers alone.
-use Rattle.std.specs.Prelude.{ℕ, min, ◌≡◌, refl, List, true, false, length, take}
+use Rattle.std.specs.Prelude.{ℕ, min, ◌≡◌, refl, List, true, false, length, take, Err, Ok}
 use Rattle.std.proofs.Common.{sym, subst, ◌∙◌, true≢false}
-use Rattle.tagged.specs.declared.file.FileAnswer.{FileAnswer}
+use Rattle.tagged.specs.File.{FileAnswer}
 use Rattle.ledger.specs.Limits.{most_entries}
 use Rattle.ledger.specs.Records.{no_parties, new_ledger}
 use Rattle.ledger.specs.RefusalNumbers.{one_of, Among}
@@ -19,16 +19,11 @@ use Rattle.stored.specs.Form.{stored_form}
 use Rattle.stored.proofs.Theorems.ReadLedger.{read_answer_lem, read_length}
 use Rattle.stored.specs.Reading.{reading_numbers, ReadRefuses, read_answer}
 use Rattle.stored.proofs.Theorems.Reading.{read_refusal_numbers}
-use Rattle.stored.specs.Writing.{output_by, write_of, writing_numbers, WriteRefuses}
+use Rattle.stored.specs.Writing.{output_by, write_of, writing_numbers, WriteRefuses, Written}
 use Rattle.stored.proofs.Theorems.Writing.{write_refusal_numbers}
-use Rattle.stored.specs.declared.writing.Written.{Written}
-use Rattle.tagged.specs.declared.file.FileAnswer.TheVariants as FileAnswer
 use Rattle.stored.specs.Writing as writing
-use Rattle.stored.specs.declared.writing.Written.TheVariants as Written
-use Rattle.stored_calls.specs.StoredCalls.{StoredCallAnswer, made_accepted, made_done, stored_read, written_answer, written_end, end_by, once_read, stored_call_of, new_stored_of, check_by, check_stored_of}
+use Rattle.stored_calls.specs.StoredCalls.{StoredCheck, StoredCallAnswer, made_accepted, made_done, stored_read, written_answer, written_end, end_by, once_read, stored_call_of, new_stored_of, check_by, check_stored_of}
 use Rattle.stored_calls.specs.StoredRefusals.{is_made, stored_numbers, StoredRefuses}
-use Rattle.stored_calls.specs.declared.StoredCheck.{StoredCheck}
-use Rattle.stored_calls.specs.declared.StoredCheck.TheVariants as StoredCheck
 
 -- ---- the table has as many records as there is room for, and 512 at most
 pub length_room : (room : ℕ) → length (take room no_parties) ≡ min room most_entries
@@ -47,8 +42,8 @@ written_changes_nothing : (told : ℕ → StoredCallAnswer) → Tells told → (
 written_changes_nothing told tells ledger table out = by_written (writing.written_answer ledger table (length table) out)
   where
     by_written : (written : Written) → is_made (written_answer told written) ≡ false → output_by written (stored_form ledger table) out ≡ out
-    by_written (Written.Length size) h = absurd (true≢false (sym (tells size) ∙ h))
-    by_written (Written.Refused r) h = refl
+    by_written (Ok size) h = absurd (true≢false (sym (tells size) ∙ h))
+    by_written (Err r) h = refl
 
 module _ (state : State) (call : Call) (out : List ℕ) where
   end_changes_nothing : (answer : CallAnswer) →
@@ -59,8 +54,8 @@ module _ (state : State) (call : Call) (out : List ℕ) where
   end_changes_nothing (is_refused r) h = refl
 
   read_changes_nothing : (read : FileAnswer) → is_made (once_read read state call out).answer ≡ false → (once_read read state call out).output ≡ out
-  read_changes_nothing FileAnswer.Stands h = end_changes_nothing (answered state call) h
-  read_changes_nothing (FileAnswer.Refused r) h = refl
+  read_changes_nothing (Ok _) h = end_changes_nothing (answered state call) h
+  read_changes_nothing (Err r) h = refl
 
 pub stored_refused_changes_nothing : (file : List ℕ) (room : ℕ) (call : Call) (out : List ℕ) → is_made (stored_call_of file room call out).answer ≡ false →
     (stored_call_of file room call out).output ≡ out
@@ -72,8 +67,8 @@ pub new_refused_changes_nothing : (out : List ℕ) → is_made (new_stored_of ou
 new_refused_changes_nothing out = written_changes_nothing made_done (λ size. refl) new_ledger no_parties out
 
 abbrev pub StoredCheckRefuses : List ℕ → StoredCheck → Type 0
-StoredCheckRefuses numbers (StoredCheck.NotRead r) = one_of numbers r.number ≡ true
-StoredCheckRefuses numbers (StoredCheck.Sound counts) = Unit {0}
+StoredCheckRefuses numbers (Err r) = one_of numbers r.number ≡ true
+StoredCheckRefuses numbers (Ok counts) = Unit {0}
 
 pub answer_of_read : (file : List ℕ) (room : ℕ) → (stored_read file room).answer ≡ read_answer (length (take room no_parties)) file
 unfolding stored_read
@@ -101,8 +96,8 @@ module _ (state : State) (call : Call) (out numbers : List ℕ) (within : Covere
       (write_refusal_numbers (leaves state call).ledger (leaves state call).table (length (leaves state call).table) out)
     where
       by_written : (written : Written) → WriteRefuses written → StoredRefuses numbers (written_answer told written)
-      by_written (Written.Length size) h = tells size
-      by_written (Written.Refused r) h = one_of_more writing_numbers numbers r.number within.writes h
+      by_written (Ok size) h = tells size
+      by_written (Err r) h = one_of_more writing_numbers numbers r.number within.writes h
 
   end_refuses : (answer : CallAnswer) → Refuses (call_numbers call) answer →
       StoredRefuses numbers (end_by answer (write_of (leaves state call).ledger (leaves state call).table out) out).answer
@@ -111,8 +106,8 @@ module _ (state : State) (call : Call) (out numbers : List ℕ) (within : Covere
   end_refuses (is_refused r) h = one_of_more (call_numbers call) numbers r.number within.calling h
 
   read_refuses : (read : FileAnswer) → ReadRefuses read → StoredRefuses numbers (once_read read state call out).answer
-  read_refuses FileAnswer.Stands h = end_refuses (answered state call) (refusal_numbers state call)
-  read_refuses (FileAnswer.Refused r) h = one_of_more reading_numbers numbers r.number within.reading h
+  read_refuses (Ok _) h = end_refuses (answered state call) (refusal_numbers state call)
+  read_refuses (Err r) h = one_of_more reading_numbers numbers r.number within.reading h
 
 pub stored_refusal_numbers : (file : List ℕ) (room : ℕ) (call : Call) (out : List ℕ) →
     StoredRefuses (stored_numbers call) (stored_call_of file room call out).answer
@@ -124,5 +119,5 @@ pub check_refusal_numbers : (file : List ℕ) (room : ℕ) → StoredCheckRefuse
 check_refusal_numbers file room = by_read (stored_read file room).answer (stored_read_refuses file room)
   where
     by_read : (answer : FileAnswer) → ReadRefuses answer → StoredCheckRefuses reading_numbers (check_by answer (stored_read file room).ledger)
-    by_read FileAnswer.Stands h = tt
-    by_read (FileAnswer.Refused r) h = h
+    by_read (Ok _) h = tt
+    by_read (Err r) h = h

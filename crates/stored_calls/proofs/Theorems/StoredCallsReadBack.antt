@@ -1,6 +1,6 @@
 -- What a done call writes reads back as the ledger and the table that the call leaves: a stored ledger that was read has each value within its width, and
 -- calls keep it so.
-use Rattle.std.specs.Prelude.{ℕ, zero, suc, ◌-◌, ◌^◌, ◌<◌, ◌≤◌, ◌≡◌, List, true, length, take, drop}
+use Rattle.std.specs.Prelude.{ℕ, zero, suc, ◌-◌, ◌^◌, ◌<◌, ◌≤◌, ◌≡◌, List, true, length, take, drop, Err, Ok}
 use Rattle.std.proofs.Math.Path.{refl, ap}
 use Rattle.std.proofs.Common.{sym, subst, ◌∙◌, arith, length-take}
 use Rattle.std.proofs.lemmas.Bool.{false≢true}
@@ -8,9 +8,8 @@ use Rattle.numbers.specs.BigEndian.{Bytes, number_at}
 use Rattle.numbers.proofs.Theorems.BigEndian.{Bytes-take, Bytes-drop, number_below}
 use Rattle.field_walk.specs.Walk.{value_of}
 use Rattle.tagged.specs.Find.{fields_of, fields_with, first_place, field_value}
-use Rattle.tagged.specs.File.{fields_part}
+use Rattle.tagged.specs.File.{fields_part, FileAnswer}
 use Rattle.tagged.proofs.Theorems.FoundFields.{Bytes-part}
-use Rattle.tagged.specs.declared.file.FileAnswer.{FileAnswer}
 use Rattle.ledger.specs.Limits.{most_schemes}
 use Rattle.ledger.specs.Lists.{All, at_start}
 use Rattle.ledger.specs.Records.{no_parties, new_ledger}
@@ -28,11 +27,8 @@ use Rattle.stored.proofs.Theorems.Layout.{take_at_start}
 use Rattle.stored.specs.Form.{scheme_of_bytes, party_of_bytes, stored_schemes, stored_entries, no_schemes, stored_ledger}
 use Rattle.stored.proofs.Theorems.StoredAccepted.{value_bytes}
 use Rattle.stored.proofs.Theorems.ReadLedger.{read_stands}
-use Rattle.stored.specs.Writing.{write_of}
+use Rattle.stored.specs.Writing.{write_of, Written}
 use Rattle.stored.proofs.Theorems.RoundTrips.{written_sound, read_of_write}
-use Rattle.stored.specs.declared.writing.Written.{Written}
-use Rattle.tagged.specs.declared.file.FileAnswer.TheVariants as FileAnswer
-use Rattle.stored.specs.declared.writing.Written.TheVariants as Written
 use Rattle.stored_calls.specs.StoredCalls.{StoredCallAnswer, not_read, not_made, made_accepted, made_done, CallEnd, stored_read, written_answer, end_by, once_read, stored_call_of}
 use Rattle.stored_calls.proofs.Theorems.StoredCalls.{length_room, table_length}
 use Rattle.stored_calls.specs.StoredRefusals.{is_made}
@@ -56,7 +52,7 @@ within_width value at width bytes =
       more_bytes (length part) width (omega (arith, length-take width (drop at value))),
     )
 
-module _ (file : List ℕ) (room : ℕ) (bytes : Bytes file) (stands : (stored_read file room).answer ≡ FileAnswer.Stands) where
+module _ (file : List ℕ) (room : ℕ) (bytes : Bytes file) (stands : (stored_read file room).answer ≡ Ok tt) where
   abbrev s : List ℕ
   s = fields_part file
 
@@ -134,32 +130,32 @@ module _ (file : List ℕ) (room : ℕ) (call : Call) (out : List ℕ) where
   abbrev ReadsBack : CallEnd → Type 0
   ReadsBack end =
       is_made end.answer ≡ true →
-      stored_read (take (length_in end.answer) end.output) room ≡ record { answer = FileAnswer.Stands; ledger = after.ledger; table = after.table }
+      stored_read (take (length_in end.answer) end.output) room ≡ record { answer = Ok tt; ledger = after.ledger; table = after.table }
 
   -- From any stored ledger and with any output: of the bytes only that they are below 256, and of the call that its values are within their widths.
   pub call_reads_back : Bytes file → Fits call → ReadsBack (stored_call_of file room call out)
   unfolding stored_read
   call_reads_back bytes fits = by_read (stored_read file room).answer refl
     where
-      by_size : (stored_read file room).answer ≡ FileAnswer.Stands → (size : ℕ) → (write_of after.ledger after.table out).answer ≡ Written.Length size →
+      by_size : (stored_read file room).answer ≡ Ok tt → (size : ℕ) → (write_of after.ledger after.table out).answer ≡ Ok size →
           stored_read (take size (write_of after.ledger after.table out).output) room
-          ≡ record { answer = FileAnswer.Stands; ledger = after.ledger; table = after.table }
+          ≡ record { answer = Ok tt; ledger = after.ledger; table = after.table }
       by_size stands size w =
           let kept = call_kept (kept_of_read file room bytes stands) call fits in
           let holds = written_sound after.ledger after.table (length after.table) out size w in
           let facts = sound_means after.ledger after.table (length after.table) holds in
           read_of_write after.ledger new_ledger after.table (take room no_parties) out size (form_fits_of_kept room after kept facts) w
           (omega (arith, facts.in_table, kept.as_long))
-          ∙ ap (λ table. record { answer = FileAnswer.Stands; ledger = after.ledger; table = table }) (sym kept.rest)
+          ∙ ap (λ table. record { answer = Ok tt; ledger = after.ledger; table = table }) (sym kept.rest)
 
-      by_written : (stored_read file room).answer ≡ FileAnswer.Stands → (told : ℕ → StoredCallAnswer) → ((size : ℕ) → length_in (told size) ≡ size) →
+      by_written : (stored_read file room).answer ≡ Ok tt → (told : ℕ → StoredCallAnswer) → ((size : ℕ) → length_in (told size) ≡ size) →
           (written : Written) → (write_of after.ledger after.table out).answer ≡ written →
           ReadsBack (record { answer = written_answer told written; output = (write_of after.ledger after.table out).output })
-      by_written stands told tells (Written.Length size) w h =
+      by_written stands told tells (Ok size) w h =
           ap (λ n. stored_read (take n (write_of after.ledger after.table out).output) room) (tells size) ∙ by_size stands size w
-      by_written stands told tells (Written.Refused r) w h = absurd (false≢true h)
+      by_written stands told tells (Err r) w h = absurd (false≢true h)
 
-      by_answer : (stored_read file room).answer ≡ FileAnswer.Stands → (answer : CallAnswer) →
+      by_answer : (stored_read file room).answer ≡ Ok tt → (answer : CallAnswer) →
           ReadsBack (end_by answer (write_of after.ledger after.table out) out)
       by_answer stands (is_accepted acceptance) h =
           by_written stands (made_accepted acceptance) (λ size. refl) (write_of after.ledger after.table out).answer refl h
@@ -167,5 +163,5 @@ module _ (file : List ℕ) (room : ℕ) (call : Call) (out : List ℕ) where
       by_answer stands (is_refused r) h = absurd (false≢true h)
 
       by_read : (answer : FileAnswer) → (stored_read file room).answer ≡ answer → ReadsBack (once_read answer (state_read file room) call out)
-      by_read FileAnswer.Stands stands h = by_answer stands (answered (state_read file room) call) h
-      by_read (FileAnswer.Refused r) stands h = absurd (false≢true h)
+      by_read (Ok _) stands h = by_answer stands (answered (state_read file room) call) h
+      by_read (Err r) stands h = absurd (false≢true h)

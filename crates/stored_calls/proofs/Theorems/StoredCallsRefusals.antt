@@ -1,6 +1,6 @@
 -- Once a stored ledger is read and the call itself is not refused, the one refusal left is 14: the calls keep a ledger sound. And when the table's length
 -- makes it 9.
-use Rattle.std.specs.Prelude.{ℕ, ◌+◌, ◌<◌, ◌≤◌, min, ◌≡◌, refl, List, [], ◌∷◌, Bool, true, false, cond, length, take, leb, ltb}
+use Rattle.std.specs.Prelude.{ℕ, ◌+◌, ◌<◌, ◌≤◌, min, ◌≡◌, refl, List, [], ◌∷◌, Bool, true, false, cond, length, take, leb, ltb, Err, Ok}
 use Rattle.std.proofs.Common.{sym, ◌∙◌, ⊎_elim, arith}
 use Rattle.std.proofs.Math.Path.{ap, ap₂}
 use mathlib.Mathlib.Data.Bool.Basic.{dichotomy}
@@ -9,11 +9,9 @@ use borrow.Author.Tests.{leb-true, leb-false, lt-leb, le-ltb, lt-ltb, ne_eqb}
 use Rattle.tagged.specs.File.{file_answer, fields_part, refusal}
 use Rattle.tagged.specs.Refusals.{no_entry_left, output_too_short}
 use Rattle.tagged.specs.declared.file.Refusal.{Refusal}
-use Rattle.tagged.specs.declared.file.FileAnswer.{FileAnswer}
 use Rattle.field_values.specs.Judged.{judge_letters}
 use Rattle.charge.specs.Price.{price_of}
 use Rattle.charge.specs.declared.Bill.{Bill}
-use Rattle.charge.specs.declared.Pricing.TheVariants.{Priced}
 use Rattle.ledger.specs.Limits.{most_schemes, most_entries, most_connections}
 use Rattle.ledger.specs.Records.{no_scheme, no_parties, new_ledger}
 use Rattle.ledger.specs.Sound.{sound}
@@ -27,7 +25,6 @@ use Rattle.calls.specs.Decision.{Call, accept, CallAnswer, is_accepted, is_done,
 use Rattle.calls.specs.Carried.{State, books_on}
 use Rattle.calls.specs.Calls.{state_of, answered, leaves, Fits}
 use Rattle.calls.proofs.Theorems.ByPlace.{entries_shown}
-use Rattle.calls.specs.declared.courses.Verdict.TheVariants.{Refuses}
 use Rattle.kept_sound.proofs.Theorems.KeptSound.{leaves_length, call_keeps_sound}
 use Rattle.stored.specs.StoredRows.{stored_rows}
 use Rattle.stored.specs.Form.{letters, stored_form, stored_entries, stored_ledger}
@@ -35,20 +32,16 @@ use Rattle.stored.proofs.Theorems.ReadLedger.{entries_count, read_stands, read_p
 use Rattle.stored.proofs.Theorems.StoredAccepted.{in_turn_stands, accepted_means}
 use Rattle.stored.specs.Reading.{in_turn, letters_answer, table_answer, read_answer}
 use Rattle.stored.proofs.Theorems.Reading.{read_refused_9, read_done}
-use Rattle.stored.specs.Writing.{write_of}
+use Rattle.stored.specs.Writing.{write_of, Written}
 use Rattle.stored.proofs.Theorems.Writing.{write_refused_14, write_done}
-use Rattle.stored.specs.declared.writing.Written.{Written}
-use Rattle.tagged.specs.declared.file.FileAnswer.TheVariants as FileAnswer
-use Rattle.stored.specs.declared.writing.Written.TheVariants as Written
 use Rattle.stored_calls.specs.StoredCalls.{StoredCallAnswer, not_read, not_made, made_accepted, made_done, stored_read, written_answer, end_by, once_read, stored_call_of, new_stored_of, check_by, check_stored_of}
 use Rattle.stored_calls.proofs.Theorems.StoredCalls.{length_room, table_length, answer_of_read}
 use Rattle.stored_calls.specs.StoredRefusals.{StoredRefuses}
 use Rattle.stored_calls.specs.StoredCallsRefusals.{EntryNeeded}
-use Rattle.stored_calls.specs.declared.StoredCheck.TheVariants as StoredCheck
 
 -- a sound ledger's
 pub write_refusal : (ledger : Ledger) (table : List Party) (out : List ℕ) (r : Refusal) → sound ledger table (length table) ≡ true →
-    (write_of ledger table out).answer ≡ Written.Refused r → r ≡ refusal output_too_short 0 0
+    (write_of ledger table out).answer ≡ Err r → r ≡ refusal output_too_short 0 0
 write_refusal ledger table out r holds refused =
     ⊎_elim
     (λ short. let told = write_refused_14 ledger table (length table) out holds (leb-false _ _ short) in cc)
@@ -62,9 +55,9 @@ pub new_refusal_numbers : (out : List ℕ) → StoredRefuses (output_too_short �
 new_refusal_numbers out =
     by (write_of new_ledger no_parties out).answer (λ r. write_refusal new_ledger no_parties out r (new_ledger_sound no_parties (length no_parties)))
   where
-    by : (written : Written) → ((r : Refusal) → written ≡ Written.Refused r → r ≡ refusal output_too_short 0 0) → StoredRefuses (output_too_short ∷ []) (written_answer made_done written)
-    by (Written.Length size) only_14 = tt
-    by (Written.Refused r) only_14 = rw (only_14 r refl)
+    by : (written : Written) → ((r : Refusal) → written ≡ Err r → r ≡ refusal output_too_short 0 0) → StoredRefuses (output_too_short ∷ []) (written_answer made_done written)
+    by (Ok size) only_14 = tt
+    by (Err r) only_14 = rw (only_14 r refl)
 
 -- ---- a ledger that was read has 64 places for schemes, and is sound
 module _ (file : List ℕ) (room : ℕ) where
@@ -75,7 +68,7 @@ module _ (file : List ℕ) (room : ℕ) where
   unfolding stored_read
   places_read = read_places new_ledger (take room no_parties) file (length-replicate most_schemes no_scheme)
 
-  pub sound_read : (stored_read file room).answer ≡ FileAnswer.Stands → sound state_read.ledger state_read.table (length state_read.table) ≡ true
+  pub sound_read : (stored_read file room).answer ≡ Ok tt → sound state_read.ledger state_read.table (length state_read.table) ≡ true
   unfolding stored_read
   sound_read stands = read_sound new_ledger (take room no_parties) file stands
 
@@ -84,7 +77,7 @@ module _ (file : List ℕ) (room : ℕ) (call : Call) where
   abbrev after : State
   after = leaves (state_read file room) call
 
-  pub stored_refused_14 : (out : List ℕ) (r : Refusal) → Fits call → (stored_read file room).answer ≡ FileAnswer.Stands →
+  pub stored_refused_14 : (out : List ℕ) (r : Refusal) → Fits call → (stored_read file room).answer ≡ Ok tt →
       ((other : Refusal) → answered (state_read file room) call ≡ is_refused other → ⊥) → (stored_call_of file room call out).answer ≡ not_made r →
       r ≡ refusal output_too_short 0 0
   stored_refused_14 out r fits stands not_refused refused =
@@ -94,24 +87,24 @@ module _ (file : List ℕ) (room : ℕ) (call : Call) where
       (by_answer (answered (state_read file room) call) refl (ap (λ read. (once_read read (state_read file room) call out).answer) (sym stands) ∙ refused))
     where
       by_written : (told : ℕ → StoredCallAnswer) → ((size : ℕ) → told size ≡ not_made r → ⊥) → (written : Written) → written_answer told written ≡ not_made r →
-          written ≡ Written.Refused r
-      by_written told tells (Written.Length size) e = absurd (tells size e)
-      by_written told tells (Written.Refused other) e = ap Written.Refused (let same : other ≡ r = cc in same)
+          written ≡ Err r
+      by_written told tells (Ok size) e = absurd (tells size e)
+      by_written told tells (Err other) e = ap Err (let same : other ≡ r = cc in same)
 
       by_answer : (answer : CallAnswer) → answered (state_read file room) call ≡ answer →
           (end_by answer (write_of after.ledger after.table out) out).answer ≡ not_made r →
-          (write_of after.ledger after.table out).answer ≡ Written.Refused r
+          (write_of after.ledger after.table out).answer ≡ Err r
       by_answer (is_accepted acceptance) q e = by_written (made_accepted acceptance) (λ size e. let z : ◌≡◌ {A = ℕ} 0 1 = cc in omega arith) _ e
       by_answer is_done q e = by_written made_done (λ size e. let z : ◌≡◌ {A = ℕ} 0 1 = cc in omega arith) _ e
       by_answer (is_refused other) q e = absurd (not_refused other q)
 
 -- ---- 9, by the table's length
-ledger_of_read : (file : List ℕ) (room : ℕ) → (stored_read file room).answer ≡ FileAnswer.Stands → (stored_read file room).ledger ≡ stored_ledger (fields_part file)
+ledger_of_read : (file : List ℕ) (room : ℕ) → (stored_read file room).answer ≡ Ok tt → (stored_read file room).ledger ≡ stored_ledger (fields_part file)
 unfolding stored_read
 ledger_of_read file room stands = ap (λ end. end.ledger) (read_stands new_ledger (take room no_parties) file stands)
 
 -- a stored ledger that one table has room for, read into another
-module _ (file : List ℕ) (other : ℕ) (stands : (stored_read file other).answer ≡ FileAnswer.Stands) where
+module _ (file : List ℕ) (other : ℕ) (stands : (stored_read file other).answer ≡ Ok tt) where
   abbrev entries : ℕ
   entries = (stored_read file other).ledger.entries
 
@@ -126,13 +119,13 @@ module _ (file : List ℕ) (other : ℕ) (stands : (stored_read file other).answ
       let later = in_turn_stands (letters_answer (judge_letters letters s)) _ turns.1 in
       answer_of_read file room ∙ ap₂ (λ first second. in_turn first (in_turn second (table_answer (length (take room no_parties)) s))) turns.0 later.0
 
-  pub short_table_refused : (room : ℕ) → room < entries → (stored_read file room).answer ≡ FileAnswer.Refused (refusal no_entry_left 0 0)
+  pub short_table_refused : (room : ℕ) → room < entries → (stored_read file room).answer ≡ Err (refusal no_entry_left 0 0)
   short_table_refused room short =
       answer_by_room room
       ∙ read_refused_9 (length (take room no_parties)) (fields_part file) (omega (arith, short, entries_stored, length_room room))
 
   pub long_table_reads : (room : ℕ) → entries ≤ room →
-      ((stored_read file room).answer ≡ FileAnswer.Stands) × ((stored_read file room).ledger ≡ (stored_read file other).ledger)
+      ((stored_read file room).answer ≡ Ok tt) × ((stored_read file room).ledger ≡ (stored_read file other).ledger)
   long_table_reads room long =
       let s = fields_part file in
       let accepted = accepted_means (length (take other no_parties)) file (sym (answer_of_read file other) ∙ stands) in
@@ -150,10 +143,10 @@ module _ (file : List ℕ) (other : ℕ) (stands : (stored_read file other).answ
     short_table_call_refused call out =
         ap (λ answer. once_read answer (state_of (stored_read file room).ledger (stored_read file room).table) call out) (short_table_refused room short)
 
-    pub short_table_check_refused : check_stored_of file room ≡ StoredCheck.NotRead (refusal no_entry_left 0 0)
+    pub short_table_check_refused : check_stored_of file room ≡ Err (refusal no_entry_left 0 0)
     short_table_check_refused = ap (λ answer. check_by answer (stored_read file room).ledger) (short_table_refused room short)
 
-module _ (file : List ℕ) (room : ℕ) (book request out : List ℕ) (bill : Bill) (stands : (stored_read file room).answer ≡ FileAnswer.Stands)
+module _ (file : List ℕ) (room : ℕ) (book request out : List ℕ) (bill : Bill) (stands : (stored_read file room).answer ≡ Ok tt)
     (full : min room most_entries ≤ (stored_read file room).ledger.entries) where
   abbrev books : Books
   books = books_on (state_read file room)
@@ -173,7 +166,7 @@ module _ (file : List ℕ) (room : ℕ) (book request out : List ℕ) (bill : Bi
       either true = refl
       either false = refl
 
-  refuses_9 : EntryNeeded books bill → verdict books bill ≡ Refuses no_entry_left
+  refuses_9 : EntryNeeded books bill → verdict books bill ≡ Err no_entry_left
   unfolding verdict
   refuses_9 due =
       rw (
@@ -184,7 +177,7 @@ module _ (file : List ℕ) (room : ℕ) (book request out : List ℕ) (bill : Bi
         lacking (entries_needed (course_of books bill)) due.needed,
       )
 
-  pub full_table_refused : price_of book request ≡ Priced bill → EntryNeeded books bill →
+  pub full_table_refused : price_of book request ≡ Ok bill → EntryNeeded books bill →
       stored_call_of file room (accept book request) out ≡ record { answer = not_made (refusal no_entry_left 0 0); output = out }
   unfolding answered leaves
   full_table_refused priced due =

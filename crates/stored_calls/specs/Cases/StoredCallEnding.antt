@@ -1,20 +1,13 @@
 -- Endings of the calls on stored bytes in literals.
-use Rattle.std.specs.Prelude.{◌≡◌, refl, List, [], ◌∷◌, map, Bool, true, false, pos}
+use Rattle.std.specs.Prelude.{ℕ, ◌≡◌, refl, List, [], ◌∷◌, map, Bool, true, false, pos, None, Option, Some, Err, Ok}
 use Rattle.tagged.specs.Ending.{Ending, ending_of}
 use Rattle.tagged.specs.File.{refusal}
 use Rattle.reconciliation.specs.Cases.Figures.{sample, sample_figures}
 use Rattle.calls.specs.declared.answers.JoiningAnswer.TheVariants.{Joined}
-use Rattle.calls.specs.declared.answers.OpeningAnswer.{OpeningAnswer}
-use Rattle.calls.specs.declared.answers.OpeningAnswer.TheVariants.{NotOpened, Opened}
-use Rattle.stored_calls.specs.StoredCalls.{of_stored_accept, of_stored_answer}
+use Rattle.stored_calls.specs.StoredCalls.{StoredAccept, StoredAnswer, StoredCheck, of_stored_accept, of_stored_answer}
 use Rattle.stored_calls.specs.StoredCallEnding.{stored_call_ending, of_stored_ledger, stored_check_ending}
-use Rattle.stored_calls.specs.declared.StoredAccept.{StoredAccept}
-use Rattle.stored_calls.specs.declared.StoredAnswer.{StoredAnswer}
 use Rattle.stored_calls.specs.declared.StoredCounts.{StoredCounts}
-use Rattle.stored_calls.specs.declared.StoredCheck.{StoredCheck}
-use Rattle.stored_calls.specs.declared.StoredAccept.TheVariants as StoredAccept
-use Rattle.stored_calls.specs.declared.StoredAnswer.TheVariants as StoredAnswer
-use Rattle.stored_calls.specs.declared.StoredCheck.TheVariants as StoredCheck
+use Rattle.stored_calls.specs.declared.StoredRefusal.TheVariants.{NotRead, NotMade}
 
 abbrev pub stored_accept_ending : StoredAccept → Ending
 stored_accept_ending answer = stored_call_ending (of_stored_accept answer)
@@ -23,9 +16,9 @@ abbrev pub stored_answer_ending : StoredAnswer → Ending
 stored_answer_ending answer = stored_call_ending (of_stored_answer answer)
 
 -- ---- each case's ending as literals, and whether the stored ledger itself is refused
-abbrev joined : OpeningAnswer → StoredAccept
+abbrev joined : Option ℕ → StoredAccept
 joined opening =
-    StoredAccept.Accepted
+    Ok
     (record {
       acceptance = record { reconciliation = sample; joining = Joined (record { entry = 34; contribution = 5600 }); opening = opening };
       length = 130;
@@ -33,17 +26,17 @@ joined opening =
 
 abbrev accept_cases : List (StoredAccept × (Bool × Ending))
 accept_cases =
-    (StoredAccept.NotRead (refusal 2 1 35), (true, ending_of 2 1 35 [])) ∷
-    (StoredAccept.NotAccepted (refusal 5 2 3), (false, ending_of 5 2 3 [])) ∷
-    (joined NotOpened, (false, ending_of 0 0 0 (pos 130 ∷ pos 1 ∷ pos 34 ∷ pos 5600 ∷ pos 0 ∷ sample_figures))) ∷
-    (joined (Opened 12), (false, ending_of 0 0 0 (pos 130 ∷ pos 1 ∷ pos 34 ∷ pos 5600 ∷ pos 12 ∷ sample_figures))) ∷
+    (Err (NotRead (refusal 2 1 35)), (true, ending_of 2 1 35 [])) ∷
+    (Err (NotMade (refusal 5 2 3)), (false, ending_of 5 2 3 [])) ∷
+    (joined None, (false, ending_of 0 0 0 (pos 130 ∷ pos 1 ∷ pos 34 ∷ pos 5600 ∷ pos 0 ∷ sample_figures))) ∷
+    (joined (Some 12), (false, ending_of 0 0 0 (pos 130 ∷ pos 1 ∷ pos 34 ∷ pos 5600 ∷ pos 12 ∷ sample_figures))) ∷
     []
 
 abbrev answer_cases : List (StoredAnswer × (Bool × Ending))
 answer_cases =
-    (StoredAnswer.NotRead (refusal 2 1 35), (true, ending_of 2 1 35 [])) ∷
-    (StoredAnswer.Refused (refusal 12 0 0), (false, ending_of 12 0 0 [])) ∷
-    (StoredAnswer.Done 97, (false, ending_of 0 0 0 (pos 97 ∷ []))) ∷
+    (Err (NotRead (refusal 2 1 35)), (true, ending_of 2 1 35 [])) ∷
+    (Err (NotMade (refusal 12 0 0)), (false, ending_of 12 0 0 [])) ∷
+    (Ok 97, (false, ending_of 0 0 0 (pos 97 ∷ []))) ∷
     []
 
 abbrev counted : StoredCounts
@@ -51,8 +44,8 @@ counted = record { month = 12; connections = 2; charged = 300; borne = 7; scheme
 
 abbrev check_cases : List (StoredCheck × Ending)
 check_cases =
-    (StoredCheck.NotRead (refusal 2 1 35), ending_of 2 1 35 []) ∷
-    (StoredCheck.Sound counted, ending_of 0 0 0 (pos 12 ∷ pos 2 ∷ pos 300 ∷ pos 7 ∷ pos 1 ∷ pos 4 ∷ [])) ∷
+    (Err (refusal 2 1 35), ending_of 2 1 35 []) ∷
+    (Ok counted, ending_of 0 0 0 (pos 12 ∷ pos 2 ∷ pos 300 ∷ pos 7 ∷ pos 1 ∷ pos 4 ∷ [])) ∷
     []
 
 pub stored_ending_cases_hold :

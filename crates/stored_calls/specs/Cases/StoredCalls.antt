@@ -1,5 +1,5 @@
 -- A new ledger's bytes, and the first calls on them. The table's length, where it makes the answer 9, and one record more.
-use Rattle.std.specs.Prelude.{ℕ, ◌≡◌, refl, replicate}
+use Rattle.std.specs.Prelude.{ℕ, ◌≡◌, refl, replicate, None, Ok, Option, Some, Err}
 use Rattle.std.proofs.Common.{ap}
 use mathlib.Core.List.{List, [], ◌∷◌, ◌++◌, flat_map}
 use Rattle.numbers.specs.BigEndian.{number, bytes_of}
@@ -9,10 +9,8 @@ use Rattle.tagged.specs.Find.{fields_from, first_with, fields_with}
 use Rattle.tagged.specs.File.{refusal}
 use Rattle.field_values.specs.Judged.{same_bytes}
 use Rattle.reconciliation.specs.Reconciliation.{reconciliation_of}
-use Rattle.charge.specs.Price.{price_of}
+use Rattle.charge.specs.Price.{price_of, Pricing}
 use Rattle.charge.specs.declared.Bill.{Bill}
-use Rattle.charge.specs.declared.Pricing.{Pricing}
-use Rattle.charge.specs.declared.Pricing.TheVariants.{Priced}
 use Rattle.ledger.specs.Records.{no_parties, new_ledger}
 use Rattle.ledger.specs.Columns.{sum_over, first_put_in}
 use Rattle.ledger.specs.Sound.{parties_sound, schemes_sound, all_zero, sound}
@@ -23,15 +21,12 @@ use Rattle.calls.specs.Carried.{State, books_on, carried_out}
 use Rattle.calls.specs.Calls.{state_of, answered, leaves}
 use Rattle.calls.specs.declared.answers.JoiningAnswer.{JoiningAnswer}
 use Rattle.calls.specs.declared.answers.JoiningAnswer.TheVariants.{NotAsked, Joined}
-use Rattle.calls.specs.declared.answers.OpeningAnswer.{OpeningAnswer}
-use Rattle.calls.specs.declared.answers.OpeningAnswer.TheVariants.{NotOpened, Opened}
 use Rattle.stored.specs.Layout.{record_bytes, values_at}
 use Rattle.stored.specs.Form.{scheme_parts, party_parts, stored_form, stored_schemes, stored_entries, no_schemes, stored_ledger}
 use Rattle.stored.specs.Writing.{written_answer, write_of}
 use Rattle.stored.specs.Reading.{table_answer, read_answer}
 use Rattle.stored.specs.Cases.Stored.{new_form, one_form, joined_form, joined_scheme, form_with}
 use Rattle.stored_calls.specs.StoredCalls.{StoredCallAnswer, not_read, not_made, made_accepted, made_done, stored_read, end_by, stored_call_of, counts_of, new_stored_of, check_stored_of}
-use Rattle.stored_calls.specs.declared.StoredCheck.TheVariants as StoredCheck
 
 -- an output as long as the form, and one byte shorter
 pub new_cases_hold :
@@ -57,10 +52,10 @@ entry_cases_hold = (refl, refl, refl)
 
 -- no bytes; and two entries, whose table has one record, then two
 pub check_cases_hold :
-    (check_stored_of new_form 512 ≡ StoredCheck.Sound (counts_of new_ledger)) ×
-    (check_stored_of [] 512 ≡ StoredCheck.NotRead (refusal 1 1 0)) ×
-    (check_stored_of joined_form 1 ≡ StoredCheck.NotRead (refusal 9 0 0)) ×
-    (check_stored_of joined_form 2 ≡ StoredCheck.Sound (counts_of joined_scheme))
+    (check_stored_of new_form 512 ≡ Ok (counts_of new_ledger)) ×
+    (check_stored_of [] 512 ≡ Err (refusal 1 1 0)) ×
+    (check_stored_of joined_form 1 ≡ Err (refusal 9 0 0)) ×
+    (check_stored_of joined_form 2 ≡ Ok (counts_of joined_scheme))
 unfolding stored_read no_parties read_answer table_answer stored_entries stored_schemes stored_ledger no_schemes values_at number check_from due_from all_had front_of walk_from fields_from first_with fields_with same_bytes sound parties_sound scheme_place schemes_sound all_zero sum_over first_put_in
 check_cases_hold = (refl, refl, refl, refl)
 
@@ -73,7 +68,7 @@ bill x scheme =
       applicant = record { person = 9; month = 12; capacity = 3; scheme = scheme; mark = 0 };
     }
 
-abbrev answer : ℕ → JoiningAnswer → OpeningAnswer → ℕ → StoredCallAnswer
+abbrev answer : ℕ → JoiningAnswer → Option ℕ → ℕ → StoredCallAnswer
 answer x joining opening size = made_accepted (record { reconciliation = (bill x 0).reconciliation; joining = joining; opening = opening }) size
 
 -- what is read of a stored ledger, into a table of so many records
@@ -88,9 +83,9 @@ priced state pricing out =
     (end_by (answer_to (books_on state) decision) (write_of after.ledger after.table out) out).answer
 
 -- a table of no record, then of one: "an opening on table length 0 is 9"
-pub opening_cases_hold : (book request : List ℕ) → price_of book request ≡ Priced (bill 5 0) →
+pub opening_cases_hold : (book request : List ℕ) → price_of book request ≡ Ok (bill 5 0) →
     ((stored_call_of new_form 0 (accept book request) []).answer ≡ not_made (refusal 9 0 0)) ×
-    ((stored_call_of new_form 1 (accept book request) (replicate 97 7)).answer ≡ answer 5 NotAsked (Opened 1) 97)
+    ((stored_call_of new_form 1 (accept book request) (replicate 97 7)).answer ≡ answer 5 NotAsked (Some 1) 97)
 unfolding stored_read no_parties answered leaves verdict written_answer stored_form scheme_parts party_parts record_bytes bytes_of flat_map read_answer table_answer stored_entries stored_schemes stored_ledger no_schemes values_at number check_from due_from all_had front_of walk_from fields_from first_with fields_with same_bytes sound parties_sound scheme_place schemes_sound all_zero sum_over first_put_in
 opening_cases_hold book request is = (
   ap (λ pricing. priced (state_read new_form 0) pricing []) is,
@@ -98,9 +93,9 @@ opening_cases_hold book request is = (
 )
 
 -- the one entry's record alone, then one more
-pub joining_cases_hold : (book request : List ℕ) → price_of book request ≡ Priced (bill 4 1) →
+pub joining_cases_hold : (book request : List ℕ) → price_of book request ≡ Ok (bill 4 1) →
     ((stored_call_of one_form 1 (accept book request) []).answer ≡ not_made (refusal 9 0 0)) ×
-    ((stored_call_of one_form 2 (accept book request) (replicate 130 7)).answer ≡ answer 4 (Joined (record { entry = 2; contribution = 2 })) NotOpened 130)
+    ((stored_call_of one_form 2 (accept book request) (replicate 130 7)).answer ≡ answer 4 (Joined (record { entry = 2; contribution = 2 })) None 130)
 unfolding stored_read no_parties answered leaves verdict written_answer stored_form scheme_parts party_parts record_bytes bytes_of flat_map read_answer table_answer stored_entries stored_schemes stored_ledger no_schemes values_at number check_from due_from all_had front_of walk_from fields_from first_with fields_with same_bytes sound parties_sound scheme_place schemes_sound all_zero sum_over first_put_in
 joining_cases_hold book request is = (
   ap (λ pricing. priced (state_read one_form 1) pricing []) is,
@@ -108,9 +103,9 @@ joining_cases_hold book request is = (
 )
 
 -- a joiner that builds on: one record more than the one entry's, then two; its entry is 2, and the scheme that opens is the second
-pub building_on_cases_hold : (book request : List ℕ) → price_of book request ≡ Priced (bill 5 1) →
+pub building_on_cases_hold : (book request : List ℕ) → price_of book request ≡ Ok (bill 5 1) →
     ((stored_call_of one_form 2 (accept book request) []).answer ≡ not_made (refusal 9 0 0)) ×
-    ((stored_call_of one_form 3 (accept book request) (replicate 190 7)).answer ≡ answer 5 (Joined (record { entry = 2; contribution = 2 })) (Opened 2) 190)
+    ((stored_call_of one_form 3 (accept book request) (replicate 190 7)).answer ≡ answer 5 (Joined (record { entry = 2; contribution = 2 })) (Some 2) 190)
 unfolding stored_read no_parties answered leaves verdict written_answer stored_form scheme_parts party_parts record_bytes bytes_of flat_map read_answer table_answer stored_entries stored_schemes stored_ledger no_schemes values_at number check_from due_from all_had front_of walk_from fields_from first_with fields_with same_bytes sound parties_sound scheme_place schemes_sound all_zero sum_over first_put_in
 building_on_cases_hold book request is = (
   ap (λ pricing. priced (state_read one_form 2) pricing []) is,

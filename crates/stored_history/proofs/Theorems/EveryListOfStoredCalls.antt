@@ -1,5 +1,5 @@
 -- Demand 3 for stored ledgers: the bytes kept are at each call the form of what the same calls come to in memory.
-use Rattle.std.specs.Prelude.{ℕ, ◌≤◌, ◌≡◌, refl, List, [], ◌∷◌, ◌++◌, true, length, take, drop}
+use Rattle.std.specs.Prelude.{ℕ, ◌≤◌, ◌≡◌, refl, List, [], ◌∷◌, ◌++◌, true, length, take, drop, Ok}
 use Rattle.std.proofs.Common.{zero-le, sym, ap₂, subst, ◌∙◌, arith, take-append-drop, take_all}
 use Rattle.std.proofs.Math.Path.{ap}
 use Rattle.std.proofs.lemmas.List.{length-replicate}
@@ -31,9 +31,7 @@ use Rattle.kept_sound.proofs.Theorems.KeptSound.{call_keeps_sound}
 use Rattle.kept_sound.proofs.Theorems.KeptByCalls.{no_terms, call_kept}
 use Rattle.kept_sound.specs.Kept.{Kept}
 use Rattle.stored_calls.proofs.Theorems.FormFits.{form_fits_of_kept}
-use Rattle.tagged.specs.declared.file.FileAnswer.TheVariants as FileAnswer
 use Rattle.calls.specs.Calls as calling
-use Rattle.stored.specs.declared.writing.Written.TheVariants as Written
 use Rattle.stored_history.specs.StoredDemandThree.{StoredStep, step_by, stored_step, StoredTrace, none, more, EveryListOfStoredCalls}
 use Rattle.stored_history.specs.EveryListOfStoredCalls.{form_of}
 
@@ -45,13 +43,13 @@ pub record InMemory (room : ℕ) (state : State) : Type 0 where
   pub stands : sound state.ledger state.table (length state.table) ≡ true
 
 module _ (room : ℕ) (state : State) (h : InMemory room state) where
-  pub reads_back : stored_read (form_of state) room ≡ record { answer = FileAnswer.Stands; ledger = state.ledger; table = state.table }
+  pub reads_back : stored_read (form_of state) room ≡ record { answer = Ok tt; ledger = state.ledger; table = state.table }
   unfolding stored_read
   reads_back =
       let facts = sound_means state.ledger state.table (length state.table) h.stands in
       read_of_form state.ledger state.table (form_fits_of_kept room state h.kept facts) h.stands new_ledger (take room no_parties)
       (omega (arith, facts.in_table, h.kept.as_long))
-      ∙ ap (λ table. record { answer = FileAnswer.Stands; ledger = state.ledger; table = table }) (sym h.kept.rest)
+      ∙ ap (λ table. record { answer = Ok tt; ledger = state.ledger; table = table }) (sym h.kept.rest)
 
 -- ---- one call
 longest_form_lem : (ledger : Ledger) (table : List Party) → length ledger.schemes ≡ most_schemes → sound ledger table (length table) ≡ true →
@@ -63,7 +61,7 @@ longest_form_lem ledger table places stands =
 -- what is written of a sound ledger: its form, at the start of an output that has room for it
 written_form : (ledger : Ledger) (table : List Party) (output : List ℕ) → sound ledger table (length table) ≡ true →
     length (stored_form ledger table) ≤ length output →
-    write_of ledger table output ≡ record { answer = Written.Length (length (stored_form ledger table)); output = at_start (stored_form ledger table) output }
+    write_of ledger table output ≡ record { answer = Ok (length (stored_form ledger table)); output = at_start (stored_form ledger table) output }
 written_form ledger table output stands fits =
     let written = write_done ledger table (length table) output stands fits in
     λ i. record { answer = written i; output = output_done ledger table (length table) output written i }
@@ -201,13 +199,13 @@ pub kept_reads_back : (room : ℕ) (calls : List Call) (answers : List CallAnswe
     StoredTrace room (stored_form new_ledger []) calls answers after →
     let start = take room no_parties in
     let history = history_of (length start) calls in
-    stored_read after room ≡ record { answer = FileAnswer.Stands; ledger = ledger_in history; table = at_start (parties_in history) start }
+    stored_read after room ≡ record { answer = Ok tt; ledger = ledger_in history; table = at_start (parties_in history) start }
 kept_reads_back room calls answers after fit trace =
     let memory = from_new room calls answers after fit trace in
     let holds = every_list_of_calls (take room no_parties) calls answers memory.end fit memory.trace in
     ap (λ kept. stored_read kept room) memory.kept
     ∙ reads_back room memory.end memory.in_memory_lem
-    ∙ ap (λ state. record { answer = FileAnswer.Stands; ledger = state.ledger; table = state.table }) (end_shows room calls answers memory.end holds)
+    ∙ ap (λ state. record { answer = Ok tt; ledger = state.ledger; table = state.table }) (end_shows room calls answers memory.end holds)
 
 -- every list of calls has such a trace, from any bytes and with any output that has room for the longest form
 pub stored_trace_exists : (room : ℕ) (kept : List ℕ) (calls : List Call) (output : List ℕ) → longest_form ≤ length output →

@@ -1,20 +1,15 @@
--- Tag, length and four letters, each written where the one before ends, are the field (written_field).
-use Rattle.std.proofs.Common.{[], arith, refl, ◌∷◌}
-use Rattle.numbers.specs.BigEndian.{bytes_of}
-use Rattle.stored.specs.Layout.{record_bytes}
-use Rattle.stored.proofs.Theorems.Layout.{written_each}
+-- Tag, length and the four letters, each written where the one before ends, are the field.
+use Rattle.std.proofs.Common.{List, ℕ, [], ◌∷◌, ◌∙◌, arith}
+use mathlib.Core.List.{flat_map}
+use Rattle.numbers.specs.BigEndian.{bytes_of, written}
+use Rattle.numbers.proofs.Theorems.BigEndian.{written_written}
 use Rattle.stored.specs.Form.{letters}
-use Rattle.stored_writing.proofs.Fields.{written_field}
+use Rattle.stored_writing.proofs.Fields.{written_part}
 use Rattle.stored_writing.proofs.write_letters.Goals as goal
 
 pub returns : goal.returns
-unfolding written_each record_bytes bytes_of
+unfolding bytes_of flat_map
 returns c =
-    rw (
-      c.write_u8-4.ensures,
-      c.write_u8-3.ensures,
-      c.write_u8-2.ensures,
-      c.write_u8.ensures,
-      c.write_start.ensures,
-    )
-    (written_field c.args.out.now 0 1 (1 ∷ 1 ∷ 1 ∷ 1 ∷ []) letters refl (omega arith))
+    let start : List ℕ = 1 ∷ 0 ∷ 4 ∷ [] in
+    rw (c.copy_from_slice.ensures.after, c.write_start.ensures)
+    (written_part (written c.args.out.now 0 start) 3 letters ∙ written_written c.args.out.now 0 start letters (omega arith))

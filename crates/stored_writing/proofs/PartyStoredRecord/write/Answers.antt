@@ -3,18 +3,18 @@ use Rattle.std.proofs.Common.{add_assoc, arith, refl}
 use Rattle.stored.specs.Layout.{party_widths, party_values}
 use Rattle.stored.proofs.Theorems.Layout.{written_each}
 use Rattle.stored_writing.proofs.Fields.{written_field}
-use Rattle.stored_writing.proofs.write_party.Goals as goal
+use Rattle.stored_writing.proofs.PartyStoredRecord.write.Goals as goal
 
 pub returns : goal.returns
 unfolding written_each
 returns c =
     rw (
-      c.write_u64-2.ensures,
-      c.write_u64.ensures,
-      c.write_u32-3.ensures,
-      c.write_u32-2.ensures,
-      c.write_u32.ensures,
-      c.write_u16.ensures,
+      c.write-6.ensures,
+      c.write-5.ensures,
+      c.write-4.ensures,
+      c.write-3.ensures,
+      c.write-2.ensures,
+      c.write.ensures,
       c.write_start.ensures,
     )
-    (simp add_assoc at (written_field c.args.out.now c.args.at 4 party_widths (party_values c.args.party) refl (omega arith)))
+    (simp add_assoc at (written_field c.args.out.now c.args.at 4 party_widths (party_values c.args.self) refl (omega arith)))
