@@ -1,63 +1,74 @@
-// Reading a file into a lent buffer, for the programs.
+// Reading files, and the line of one that is refused, for the programs.
 #![tactic(auto)]
 
-ghost use Rattle.std.specs.Prelude.{length};
-ghost use Rattle.std.specs.Counts.{IsPrefixLen};
-ghost use Rattle.files.specs.Moved.{AtMost};
+pub mod refused;
 
-use std::fs;
+ghost use Rattle.std.specs.Prelude.{◌≤◌, IfOk};
+ghost use Rattle.arrayvec.specs.ArrayVec.{array_vec_len};
+ghost use Rattle.std.specs.Counts.{IsPrefixLen};
+
+use arrayvec::ArrayVec;
+use std::convert::AsSlice;
 use std::io::Read;
 use std::rt::Files;
+use std::{fs, io};
 
-// What one read did.
-#[derive(Clone, Copy)]
-enum Moved {
-    Failed,
-    Bytes(usize),
-}
-
-fn read_some(file: &mut impl Read, part: &mut [u8]) -> Moved
-    ensures { AtMost (length part.old) result }
+// Reads until the buffer is full or the input ends: how many bytes stand at its start. `read_exact`
+// would say nothing of these where the input ends early.
+fn read_all(file: &mut impl Read, space: &mut [u8]) -> io::Result<usize>
+    ensures { IfOk result (λ size. IsPrefixLen size space.new) }
 {
-    match file.read(part) {
-        Ok(more) => Moved::Bytes(more),
-        Err(_) => Moved::Failed,
-    }
-}
-
-// Reads until the buffer is full or the input ends: how many bytes stand at its start. None where a
-// read fails, also halfway.
-fn read_all(file: &mut impl Read, space: &mut [u8]) -> usize
-    ensures { IsPrefixLen result space.new }
-{
-    let mut done: usize = 0;
-    while done < space.len() {
-        let moved = read_some(file, &mut space[done..]);
-        match moved {
-            Moved::Failed => {
-                return 0;
-            }
-            Moved::Bytes(more) => {
-                if more == 0 {
-                    return done;
-                }
-                done += more;
-            }
+    let mut size = 0;
+    while size < space.len() {
+        let more = file.read(&mut space[size..])?;
+        if more == 0 {
+            break;
         }
+        size += more;
     }
-    done
+    Ok(size)
 }
 
 // The bytes of a file at the start of the buffer, as many as fit, and how many. A file that can't be
-// read counts as empty.
+// read counts as empty, and so does one whose name is no UTF-8.
+// So a count and no error: no program tells such a file from an empty one.
 pub fn read_file(files: &impl Files, name: &[u8], space: &mut [u8]) -> usize
     ensures { IsPrefixLen result space.new }
 {
-    match str::from_utf8(name) {
-        Ok(path) => match fs::open(files, path) {
-            Ok(mut file) => read_all(&mut file, space),
-            Err(_) => 0,
-        },
-        Err(_) => 0,
+    let Ok(path) = str::from_utf8(name) else {
+        return 0;
+    };
+    let Ok(mut file) = fs::open(files, path) else {
+        return 0;
+    };
+    read_all(&mut file, space).unwrap_or(0)
+}
+
+// The first bytes of a file, as many as `MOST`. A file that can't be read counts as empty.
+pub fn read_start<const MOST: usize>(
+    files: &impl Files,
+    name: impl AsSlice<u8> + Drop,
+) -> ArrayVec<u8, MOST>
+    ensures { array_vec_len result ≤ MOST }
+{
+    let mut bytes = ArrayVec::from([0u8; MOST]);
+    let size = read_file(files, name.as_slice(), bytes.as_mut_slice());
+    bytes.truncate(size);
+    bytes
+}
+
+#[cfg(test)]
+mod tests {
+    use super::*;
+    use std::test::Fail;
+
+    #[test]
+    fn as_many_as_fit(rt: HostRuntime) -> Result<(), Fail> {
+        fs::write(&rt, "letters.txt", "abcdef")?;
+        let some: ArrayVec<u8, 4> = read_start(&rt, "letters.txt");
+        assert_eq!(rt; some.as_slice(), b"abcd".as_slice());
+        let missing: ArrayVec<u8, 4> = read_start(&rt, "missing.txt");
+        assert!(rt; missing.is_empty());
+        Ok(())
     }
 }

@@ -1,6 +1,5 @@
-// A pioneer ledger's text, for the programs: the words and numbers of its calls, the lines of their answers and of what ledger and
-// table hold.
+// A pioneer ledger's text, for the programs: the lines of its calls' answers and of what ledger and table hold.
 #![tactic(auto)]
 
-pub mod lines;
-pub mod words;
+pub mod answers;
+pub mod records;

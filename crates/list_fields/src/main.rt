@@ -2,8 +2,12 @@
 // refused.
 #![tactic(auto)]
 
+mod fields;
+
+use arrayvec::ArrayVec;
+use fields::Fields;
+use files::refused::Refused;
 use std::io;
-use std::io::Write;
 use std::rt::Files;
 use tagged::file::FileAnswer;
 
@@ -15,110 +19,82 @@ enum Kind {
     Ledger,
 }
 
-fn write(rt: &impl Print, text: &[u8]) {
-    let _ = io::writer(rt).write_all(text);
-}
-
-fn write_number(rt: &impl Print, n: u64) {
-    let _ = print!(rt; "{n}");
-}
-
-// A field's line: its tag, the offset of its value and the value's length.
-fn write_field(rt: &impl Print, tag: u8, start: usize, len: usize) {
-    write(rt, b"  field ");
-    let _ = print!(rt; "{tag:02x}");
-    write(rt, b" value at ");
-    write_number(rt, start as u64);
-    write(rt, b" length ");
-    write_number(rt, len as u64);
-    write(rt, b"\n");
-}
-
-// A line for each field.
-fn list(rt: &impl Print, fields: &[u8]) {
-    let mut rest = fields;
-    while 3 <= rest.len() {
-        let value = tagged::find::next_value(rest);
-        write_field(rt, rest[0], fields.len() - rest.len() + 3, value.len());
-        let next = tagged::find::next_rest(rest);
-        rest = next;
-    }
-}
-
-fn stands(kind: Kind, file: &[u8]) -> FileAnswer {
-    match kind {
-        Kind::Book => book_zones::rows::book_stands(1, file),
-        Kind::Request => request::rows::request_stands(2, file),
-        Kind::Ledger => stored::rows::stored_stands(1, file),
-    }
-}
-
-fn show(rt: &(impl Files + Print), kind: Kind, name: &[u8]) {
-    let mut space = [0u8; 4096];
-    let size = files::read_file(rt, name, &mut space);
-    let file = &space[..size];
-    let standing = stands(kind, file);
-    write(rt, name);
-    match standing {
-        FileAnswer::Stands => {
-            write(rt, b" stands\n");
-            list(rt, tagged::file::fields_part(file));
-        }
-        FileAnswer::Refused(refusal) => {
-            write(rt, b" REFUSED ");
-            write_number(rt, refusal.number as u64);
-            write(rt, b" ");
-            write_number(rt, refusal.file as u64);
-            write(rt, b" ");
-            write_number(rt, refusal.place as u64);
-            write(rt, b"\n");
+impl Kind {
+    // A match: the files are listed by kind, and a kind says its call and the number of its file at once.
+    fn stands(self, file: &[u8]) -> FileAnswer {
+        match self {
+            Kind::Book => book_zones::rows::book_stands(1, file),
+            Kind::Request => request::rows::request_stands(2, file),
+            Kind::Ledger => stored::rows::stored_stands(1, file),
         }
     }
 }
 
-fn right_files(rt: &(impl Files + Print)) {
-    show(rt, Kind::Book, b"book.bin");
-    show(rt, Kind::Request, b"request.bin");
-    show(rt, Kind::Ledger, b"ledger.bin");
-    show(rt, Kind::Ledger, b"ledger_as_new.bin");
-    show(rt, Kind::Book, b"book_wide.bin");
-    show(rt, Kind::Request, b"request_wide.bin");
+const RIGHT_FILES: [(Kind, &str); 6] = [
+    (Kind::Book, "book.bin"),
+    (Kind::Request, "request.bin"),
+    (Kind::Ledger, "ledger.bin"),
+    (Kind::Ledger, "ledger_as_new.bin"),
+    (Kind::Book, "book_wide.bin"),
+    (Kind::Request, "request_wide.bin"),
+];
+
+const BAD_TAILS_AND_CHECKS: [(Kind, &str); 7] = [
+    (Kind::Book, "missing.bin"),
+    (Kind::Book, "empty.bin"),
+    (Kind::Book, "one_byte.bin"),
+    (Kind::Book, "five_times_ff.bin"),
+    (Kind::Book, "altered_byte.bin"),
+    (Kind::Book, "altered_check.bin"),
+    (Kind::Book, "altered_tail.bin"),
+];
+
+const FILES_THAT_DO_NOT_WALK: [(Kind, &str); 11] = [
+    (Kind::Book, "book_without_02.bin"),
+    (Kind::Book, "book_02_twice.bin"),
+    (Kind::Book, "book_ends_early.bin"),
+    (Kind::Book, "book_ff_early.bin"),
+    (Kind::Book, "book_nine_zones.bin"),
+    (Kind::Book, "book_odd_factors.bin"),
+    (Kind::Book, "book_long_factors.bin"),
+    (Kind::Book, "book_past_end.bin"),
+    (Kind::Book, "book_two_bytes_over.bin"),
+    (Kind::Book, "request_as_book.bin"),
+    (Kind::Request, "book.bin"),
+];
+
+const FILES_OF_BOTH_FORMS_AND_OF_NEITHER: [(Kind, &str); 4] = [
+    (Kind::Book, "book_both_forms.bin"),
+    (Kind::Book, "book_ends_early.bin"),
+    (Kind::Request, "request_both_forms.bin"),
+    (Kind::Request, "request_neither_form.bin"),
+];
+
+fn show(rt: &(impl Files + Print), kind: Kind, name: &str) -> io::Result<()> {
+    let file: ArrayVec<u8, 4_096> = files::read_start(rt, name);
+    if let Err(refusal) = kind.stands(file.as_slice()) {
+        return println!(rt; "{name} {}", Refused(refusal));
+    }
+    println!(rt; "{name} stands")?;
+    for field in Fields::new(tagged::file::fields_part(file.as_slice())) {
+        println!(rt; "  {field}")?;
+    }
+    Ok(())
 }
 
-fn bad_tails_and_checks(rt: &(impl Files + Print)) {
-    show(rt, Kind::Book, b"missing.bin");
-    show(rt, Kind::Book, b"empty.bin");
-    show(rt, Kind::Book, b"one_byte.bin");
-    show(rt, Kind::Book, b"five_times_ff.bin");
-    show(rt, Kind::Book, b"altered_byte.bin");
-    show(rt, Kind::Book, b"altered_check.bin");
-    show(rt, Kind::Book, b"altered_tail.bin");
+fn run(rt: &(impl Files + Print)) -> io::Result<()> {
+    let files = RIGHT_FILES
+        .iter()
+        .chain(&BAD_TAILS_AND_CHECKS)
+        .chain(&FILES_THAT_DO_NOT_WALK)
+        .chain(&FILES_OF_BOTH_FORMS_AND_OF_NEITHER);
+    for (kind, name) in files {
+        show(rt, *kind, *name)?;
+    }
+    Ok(())
 }
 
-fn files_that_do_not_walk(rt: &(impl Files + Print)) {
-    show(rt, Kind::Book, b"book_without_02.bin");
-    show(rt, Kind::Book, b"book_02_twice.bin");
-    show(rt, Kind::Book, b"book_ends_early.bin");
-    show(rt, Kind::Book, b"book_ff_early.bin");
-    show(rt, Kind::Book, b"book_nine_zones.bin");
-    show(rt, Kind::Book, b"book_odd_factors.bin");
-    show(rt, Kind::Book, b"book_long_factors.bin");
-    show(rt, Kind::Book, b"book_past_end.bin");
-    show(rt, Kind::Book, b"book_two_bytes_over.bin");
-    show(rt, Kind::Book, b"request_as_book.bin");
-    show(rt, Kind::Request, b"book.bin");
-}
-
-fn files_of_both_forms_and_of_neither(rt: &(impl Files + Print)) {
-    show(rt, Kind::Book, b"book_both_forms.bin");
-    show(rt, Kind::Book, b"book_ends_early.bin");
-    show(rt, Kind::Request, b"request_both_forms.bin");
-    show(rt, Kind::Request, b"request_neither_form.bin");
-}
-
+// What standard output doesn't take is lost: the run ends there.
 fn main(rt: HostRuntime) {
-    right_files(&rt);
-    bad_tails_and_checks(&rt);
-    files_that_do_not_walk(&rt);
-    files_of_both_forms_and_of_neither(&rt);
+    let _ = run(&rt);
 }

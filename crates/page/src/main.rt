@@ -2,6 +2,7 @@
 // folder, or the line of the refusal.
 #![tactic(auto)]
 
+// One call, as in slip but for the printer: each text is a program of its own.
 fn main(rt: HostRuntime) {
-    print_page::print_page(&rt, b"rates.bin", b"job.bin");
+    print_page::print_page(&rt, "rates.bin", "job.bin");
 }

@@ -6,7 +6,9 @@ ghost use Rattle.charge.specs.Price.{price_of};
 ghost use Rattle.slip_text.specs.Slip.{slip_written, slip_buffer};
 ghost use Rattle.print_slip.specs.Counted.{counted};
 
+use arrayvec::ArrayVec;
 use slip_text::{ROOM, SlipWritten};
+use std::convert::AsSlice;
 use std::io;
 use std::io::Write;
 use std::rt::Files;
@@ -19,13 +21,11 @@ const COUNTED_SIZE: usize = 4_096;
 pub const READ_SIZE: usize = 8_192;
 
 // What counts of a file.
+#[tactic(auto, using(std::proofs::lemmas::List::take_min))]
 pub fn counted<'a>(file: &'a [u8]) -> &'a [u8]
     ensures { (result.now ≡ counted file.now) × (result.ref_ptr ≡ file.entry.ref_ptr) }
 {
-    if file.len() < COUNTED_SIZE {
-        return file;
-    }
-    &file[..COUNTED_SIZE]
+    &file[..COUNTED_SIZE.min(file.len())]
 }
 
 // The slip of a rate book and a request by what counts of them, at the start of a lent buffer.
@@ -33,27 +33,36 @@ fn files_slip(book: &[u8], request: &[u8], text: &mut [u8]) -> SlipWritten
     ensures value { result ≡ slip_written (price_of (counted book.now) (counted request.now)) text.old }
     ensures text_after { text.new ≡ slip_buffer (price_of (counted book.now) (counted request.now)) text.old }
 {
-    let pricing = charge::price(counted(book), counted(request));
-    slip_text::slip_text(pricing, text)
+    slip_text::slip_text(charge::price(counted(book), counted(request)), text)
 }
 
-// Prints the slip of a rate book and a request, each by its file's name. A file that can't be read
-// counts as empty.
-pub fn print_slip(rt: &(impl Files + Print), book: &[u8], request: &[u8]) {
-    let mut book_space = [0u8; READ_SIZE];
-    let mut request_space = [0u8; READ_SIZE];
-    let book_size = files::read_file(rt, book, &mut book_space);
-    let request_size = files::read_file(rt, request, &mut request_space);
-    let mut text = [0u8; ROOM];
-    let written = files_slip(
-        &book_space[..book_size],
-        &request_space[..request_size],
-        &mut text,
-    );
-    match written {
-        SlipWritten::Written(size) => {
-            let _ = io::writer(rt).write_all(&text[..size]);
-        }
-        SlipWritten::Refused(_) => {}
+// Prints what `write` leaves at the start of the text of a rate book and a request, each by its file's
+// name. A file that can't be read counts as empty. The text is lent, as the unit's calls take it, and
+// what standard output doesn't take is lost, so that printing can't fail.
+pub fn print_text<F>(
+    rt: &(impl Files + Print),
+    book: impl AsSlice<u8> + Drop,
+    request: impl AsSlice<u8> + Drop,
+    text: &mut [u8],
+    write: F,
+)
+where
+    F: FnOnce(&[u8], &[u8], &mut [u8]) -> SlipWritten,
+    requires { F.IsAlwaysCallable write }
+{
+    let book: ArrayVec<u8, READ_SIZE> = files::read_start(rt, book);
+    let request: ArrayVec<u8, READ_SIZE> = files::read_start(rt, request);
+    let written = write(book.as_slice(), request.as_slice(), text);
+    if let Some(text) = written.ok().and_then(|size| text.get(..size)) {
+        let _ = io::writer(rt).write_all(text);
     }
+}
+
+// Prints the slip of a rate book and a request, each by its file's name.
+pub fn print_slip(
+    rt: &(impl Files + Print),
+    book: impl AsSlice<u8> + Drop,
+    request: impl AsSlice<u8> + Drop,
+) {
+    print_text(rt, book, request, &mut [0u8; ROOM], files_slip);
 }

@@ -3,249 +3,120 @@
 // written with its answer; `show`, `figures` and `entry` write what ledger and table hold.
 #![tactic(auto)]
 
-ghost use Rattle.std.specs.Counts.{IsPrefixLen};
+mod script;
+mod state;
 
-use ledger::limits::{MOST_ENTRIES, Parties};
-use ledger::records::Ledger;
-use ledger_text::lines::{write, write_number};
-use ledger_text::words::{number, rest, word};
-use ledger_text::{lines, words};
+use arrayvec::ArrayVec;
+use ledger_text::answers::{Accepted, Answered, FormLength};
+use ledger_text::records::Figures;
+use script::Line;
+use state::State;
+use std::io;
 use std::rt::Files;
 
-// The table is the first `room` records of the parties.
-#[derive(Clone, Copy)]
-struct State {
-    ledger: Ledger,
-    parties: Parties,
-    room: usize,
-}
+// How many bytes are read of a rate book or a request.
+const FILE_SIZE: usize = 4_096;
 
-fn new_state() -> State {
-    State {
-        ledger: ledger::records::new_ledger(),
-        parties: ledger::records::no_parties(),
-        room: MOST_ENTRIES,
-    }
-}
+// How many bytes are read of a stored ledger or of the script, and written of a stored form.
+const LONGEST_FILE: usize = 65_536;
 
-// ---- the calls
-
-// `REQUEST by BOOK`
-fn accept(rt: &(impl Files + Print), state: State, names: &[u8]) -> State {
-    let ledger = state.ledger;
-    let parties = state.parties;
-    let room = state.room;
-    let mut book = [0u8; 4096];
-    let mut request = [0u8; 4096];
-    let book_size = files::read_file(rt, rest(rest(names)), &mut book);
-    let request_size = files::read_file(rt, word(names), &mut request);
-    let after = lent_table::accept(
-        ledger,
-        parties,
-        room,
-        &book[..book_size],
-        &request[..request_size],
-    );
-    let answer = after.answer;
-    lines::write_accept_answer(rt, answer);
-    let ledger = after.ledger;
-    let parties = after.parties;
-    State {
-        ledger,
-        parties,
-        room,
-    }
-}
-
-// `ENTRY AMOUNT` or `ENTRY PERSON`
-fn change_entry(rt: &impl Print, state: State, hands_over: bool, figures: &[u8]) -> State {
-    let ledger = state.ledger;
-    let parties = state.parties;
-    let room = state.room;
-    let entry = number(word(figures));
-    let value = number(rest(figures));
-    let after = if hands_over {
-        lent_table::hand_over(ledger, parties, room, entry, value)
-    } else {
-        lent_table::pay_out(ledger, parties, room, entry, value as u64)
-    };
-    let answer = after.answer;
-    lines::write_answer(rt, answer);
-    let parties = after.parties;
-    State {
-        ledger,
-        parties,
-        room,
-    }
-}
-
-// What is read; a new ledger with no entries where the reading is refused.
-fn read_bytes(rt: &impl Print, file: &[u8]) -> State {
-    let none = ledger::records::no_parties();
-    let read = lent_table::read(ledger::records::new_ledger(), none, MOST_ENTRIES, file);
-    let answer = read.answer;
-    lines::write_file_answer(rt, answer);
-    let ledger = read.ledger;
-    let parties = read.parties;
-    State {
-        ledger,
-        parties,
-        room: MOST_ENTRIES,
-    }
-}
-
-fn read(rt: &(impl Files + Print), name: &[u8]) -> State {
-    let mut space = [0u8; 65536];
-    let size = files::read_file(rt, name, &mut space);
-    read_bytes(rt, &space[..size])
-}
-
-fn within(n: usize, out: &[u8]) -> usize
-    ensures { IsPrefixLen result out.now }
-{
-    if n <= out.len() { n } else { 0 }
-}
-
-fn write_form(rt: &impl Print, state: State, out: &mut [u8]) -> usize
-    ensures { IsPrefixLen result out.new }
-{
-    write(rt, b"write to ");
-    write_number(rt, out.len() as u64);
-    write(rt, b" bytes: ");
-    let ledger = state.ledger;
-    let parties = state.parties;
-    let written = lent_table::write(ledger, parties, state.room, out);
-    let size = lines::write_written(rt, written);
-    within(size, out)
-}
-
-// `to SIZE bytes`
-fn write_to(rt: &impl Print, state: State, size: &[u8]) {
-    let mut space = [0u8; 65536];
-    let most = within(number(word(rest(size))) as usize, &space);
-    write_form(rt, state, &mut space[..most]);
-}
-
-fn say_whether(rt: &impl Print, same: bool) {
-    if same {
-        write(rt, b"the second writing gives the same bytes\n");
-    } else {
-        write(rt, b"THE SECOND WRITING DIFFERS\n");
-    }
+// Writes the stored form into a lent output, and how long it is: 0 where that is refused.
+fn write_form(rt: &impl Print, state: &State, out: &mut [u8]) -> io::Result<usize> {
+    let written = state.write(out);
+    println!(rt;
+        "write to {} bytes: {}",
+        out.len(),
+        Answered(written.map(FormLength))
+    )?;
+    Ok(written.unwrap_or(0))
 }
 
 // The written form read back and written again.
-fn write_again(rt: &impl Print, form: &[u8]) {
-    write(rt, b"read what was written: ");
-    let state = read_bytes(rt, form);
-    let mut space = [0u8; 65536];
-    let size = write_form(rt, state, &mut space);
-    say_whether(rt, form == &space[..size]);
-    let ledger = state.ledger;
-    let parties = state.parties;
-    lines::write_ledger(rt, ledger, parties);
-}
-
-fn write_and_read_back(rt: &impl Print, state: State) {
-    let mut space = [0u8; 65536];
-    let size = write_form(rt, state, &mut space);
-    write_again(rt, &space[..size]);
-}
-
-// A call with its answer, by its first letter: accept, pay-out, hand-over, read.
-fn answered(rt: &(impl Files + Print), state: State, line: &[u8]) -> State {
-    write(rt, line);
-    write(rt, b": ");
-    match words::letter(line) {
-        b'a' => accept(rt, state, rest(line)),
-        b'p' => change_entry(rt, state, false, rest(line)),
-        b'h' => change_entry(rt, state, true, rest(line)),
-        _ => read(rt, rest(line)),
+fn over_and_back(rt: &impl Print, state: &State) -> io::Result<()> {
+    let mut out = [0u8; LONGEST_FILE];
+    let size = write_form(rt, state, &mut out)?;
+    let form = out.get(..size);
+    let mut again = State::new();
+    let read = again.read(form.unwrap_or(b""));
+    println!(rt; "read what was written: {}", Answered(read.map(|_| "READ")))?;
+    let mut second_out = [0u8; LONGEST_FILE];
+    let second_size = write_form(rt, &again, &mut second_out)?;
+    if form == second_out.get(..second_size) {
+        println!(rt; "the second writing gives the same bytes")?;
+    } else {
+        println!(rt; "THE SECOND WRITING DIFFERS")?;
     }
+    print!(rt; "{}", again.lines())
 }
 
-// ---- what ledger and table hold
-
-// A line that changes nothing, by its first letter: a heading, show, figures, entry, write, or the stored form there and back.
-fn told(rt: &impl Print, state: State, line: &[u8]) {
-    let ledger = state.ledger;
-    let parties = state.parties;
-    match words::letter(line) {
-        b'-' => {
-            write(rt, line);
-            write(rt, b"\n");
+// Carries out one line; `kept` is the ledger and table to go back to.
+fn carry_out(
+    rt: &(impl Files + Print),
+    state: &mut State,
+    kept: &mut State,
+    text: &str,
+    line: Line<'_>,
+) -> io::Result<()> {
+    match line {
+        Line::Heading(heading) => println!(rt; "{heading}")?,
+        Line::Accept { request, book } => {
+            let book: ArrayVec<u8, FILE_SIZE> = files::read_start(rt, book);
+            let request: ArrayVec<u8, FILE_SIZE> = files::read_start(rt, request);
+            let answer = state.accept(book.as_slice(), request.as_slice());
+            println!(rt; "{text}: {}", Answered(answer.map(Accepted)))?;
         }
-        b's' => lines::write_ledger(rt, ledger, parties),
-        b'f' => lines::write_figures(rt, ledger),
-        b'e' => lines::write_entry(rt, parties, number(rest(line)) as usize),
-        b'w' => write_to(rt, state, rest(line)),
-        _ => write_and_read_back(rt, state),
-    }
-}
-
-// ---- the lines
-
-// A table of n records, or a ledger of month n or of n entries, by the first letter: table, month, count.
-fn altered(state: State, letter: u8, n: u32) -> State {
-    let parties = state.parties;
-    let mut ledger = state.ledger;
-    let mut room = state.room;
-    match letter {
-        b't' => {
-            room = n as usize;
+        Line::PayOut { entry, amount } => {
+            let answer = state.pay_out(entry, amount);
+            println!(rt; "{text}: {}", Answered(answer.map(|_| "DONE")))?;
         }
-        b'm' => {
-            ledger.month = (n % 65536) as u16;
+        Line::HandOver { entry, person } => {
+            let answer = state.hand_over(entry, person);
+            println!(rt; "{text}: {}", Answered(answer.map(|_| "DONE")))?;
         }
-        _ => {
-            ledger.entries = n;
+        Line::Read(name) => {
+            let file: ArrayVec<u8, LONGEST_FILE> = files::read_start(rt, name);
+            let answer = state.read(file.as_slice());
+            println!(rt; "{text}: {}", Answered(answer.map(|_| "READ")))?;
         }
-    }
-    State {
-        ledger,
-        parties,
-        room,
-    }
-}
-
-// A call; a new ledger, a table of so many records, a ledger that isn't sound; or what changes nothing.
-fn carried_out(rt: &(impl Files + Print), state: State, line: &[u8]) -> State {
-    match words::letter(line) {
-        b'a' | b'p' | b'h' | b'r' => answered(rt, state, line),
-        b'n' => new_state(),
-        b't' | b'm' | b'c' => altered(state, words::letter(line), number(rest(line))),
-        _ => {
-            told(rt, state, line);
-            state
+        Line::Write(size) => {
+            let mut space = [0u8; LONGEST_FILE];
+            let most = if size <= LONGEST_FILE { size } else { 0 };
+            write_form(rt, state, &mut space[..most])?;
+        }
+        Line::OverAndBack => over_and_back(rt, state)?,
+        Line::New => *state = State::new(),
+        Line::Table(room) => state.room = room,
+        Line::Month(month) => state.ledger.month = month,
+        Line::Count(entries) => state.ledger.entries = entries,
+        Line::Keep => *kept = *state,
+        Line::Back => *state = *kept,
+        Line::Show => print!(rt; "{}", state.lines())?,
+        Line::Figures => println!(rt; "{}", Figures(&state.ledger))?,
+        Line::Entry(number) => {
+            if let Some(entry) = state.entry(number) {
+                println!(rt; "{entry}")?;
+            }
         }
     }
+    Ok(())
 }
 
-// Line by line; `keep` keeps the ledger and its table, `back` goes back to them.
-fn run(rt: &(impl Files + Print), script: &[u8]) {
-    let mut state = new_state();
+// The script ends at the first line that is none of its kinds.
+fn run(rt: &(impl Files + Print)) -> io::Result<()> {
+    let script: ArrayVec<u8, LONGEST_FILE> = files::read_start(rt, "calls.txt");
+    let script = str::from_utf8(script.as_slice()).unwrap_or("");
+    let mut state = State::new();
     let mut kept = state;
-    let mut left = script;
-    while 0 < left.len() {
-        let line = words::head(left, b'\n');
-        match words::letter(line) {
-            b'k' => {
-                kept = state;
-            }
-            b'b' => {
-                state = kept;
-            }
-            _ => {
-                state = carried_out(rt, state, line);
-            }
-        }
-        let next = words::tail(left, b'\n');
-        left = next;
+    for text in script.lines() {
+        let Some(line) = Line::parse(text) else {
+            return println!(rt; "NO SUCH LINE: {text}");
+        };
+        carry_out(rt, &mut state, &mut kept, text, line)?;
     }
+    Ok(())
 }
 
+// What standard output doesn't take is lost: the run ends there.
 fn main(rt: HostRuntime) {
-    let mut space = [0u8; 65536];
-    let size = files::read_file(&rt, b"calls.txt", &mut space);
-    run(&rt, &space[..size]);
+    let _ = run(&rt);
 }

@@ -2,6 +2,7 @@
 // folder.
 #![tactic(auto)]
 
+// One call, as in page but for the printer: each text is a program of its own.
 fn main(rt: HostRuntime) {
-    print_slip::print_slip(&rt, b"rates.bin", b"job.bin");
+    print_slip::print_slip(&rt, "rates.bin", "job.bin");
 }
