@@ -5,7 +5,8 @@ stand in proofs/Theorems/ and proofs/Cases/ instead. specs/Laws.antt has the sta
 
 - no definition file has a theorem, and none cites a case or a theorem; Laws may cite definitions that stand beside its own crate's theorems;
 - a contract cites definition files alone; that of a function without parameters and code also cites statements of its own crate's cases;
-- no definition file and no contract imports a proof, but for `Option` and `sets`, definitions that std has among its proofs;
+- no definition file and no contract imports a proof, but for `Option` and `sets`, definitions that std has among its proofs; an impl's ghost members may, since
+  they prove the laws of its trait;
 - of proofs, a file of Cases or Theorems imports std's, another crate's Theorems and Cases, and in proofs/ also its own crate's; a crate's theorems stand in one folder;
 - every top-level name is used somewhere or stands in docs/RULES.md or docs/PROMISES.md, and every import is used.
 
@@ -19,25 +20,29 @@ import sys
 root = pathlib.Path(__file__).resolve().parent.parent
 ROOTS = "numbers/Check reconciliation/ExactPercent charge/Price price_band/PriceBand price_band/BandPromises slip_text/Slip slip_text/ExactReading " \
     "page_text/Page page_text/AmountGrammar page_text/PageColumns calls/Calls " \
-    "accept_rules/AcceptAnswers stored/Reading stored/Writing pioneer_accept/AcceptResult pioneer/ReadResult stored_calls/StoredCalls " \
+    "accept_rules/AcceptAnswers stored/Reading stored/Writing stored_calls/StoredCalls " \
     "quoting_unit/Unit fikrem_page/PageResult fikrem_price_band/BandResult fikrem_files/FileResult history/DemandThree " \
     "stored_history/StoredDemandThree"
 MOST_LINES = 4000
 # the laws' statements, beside those
 MOST_LAW_LINES = 130
 WORD = re.compile(r"[^\s(){}\[\],;:.&«»⌜⌝λ]+")
+# in code a word also ends at the brackets of a type's parameters, and at what stands before a value
+CODE_WORD = re.compile(r"[^\s(){}\[\],;:.&«»⌜⌝λ<>!*|?]+")
 DECLARED = re.compile(r"(\s*)((?:(?:abbrev|unfoldable|pub) )*)(record |data )?«?([^\s«»]+)»?( :| where| \(| \{|$)")
 IMPORT = re.compile(r"\s*(?:ghost |pub )*use ([^{;]+?)(?:(?:\.|::)\{(.*)\})?(?: as (\S+?))?;?$")
 # the prover's own questions: it uses what a file of this name declares with such a type
 ANSWERED = ("Answers.antt", "Invariants.antt")
 GOAL = re.compile(r"\s*(?:(?:pub|abbrev) )*(\S+) : goal\.\S+$")
 # traits that a .rt file brings in for their methods
-TRAITS = ("std::io::Read", "std::io::Write")
+TRAITS = ("std::io::Read", "std::io::Write", "std::convert::AsSlice", "numbers::big_endian::BigEndian")
 # definitions that std has among its proofs
 STD_DEFINITIONS = {"Rattle.std.proofs.Math.Option": {"Option", "none", "some"}, "Rattle.std.proofs.lemmas.List.Edits": {"sets"}}
 PROOFS = re.compile(r"Rattle\.(\w+)\.proofs\.(\w+).*")
 # a function without parameters and code, with its contract
 LAW = re.compile(r"^pub fn \w+\(\)\n((?:    ensures .*\n)+)\{\}$", re.MULTILINE)
+# a ghost member of an impl
+MEMBER = re.compile(r"\s+ghost \w+ = \{")
 SPECS = re.compile(r"Rattle\.(\w+)\.specs\.((?:Cases\.|Theorems\.)?\w+)")
 
 
@@ -103,7 +108,10 @@ def statements(crate, module):
 def may_cite(path, module, names, definitions):
     """Whether a definition file or a contract may import these names of a module."""
     if PROOFS.match(module):
-        return bool(names) and set(names) <= STD_DEFINITIONS.get(module, set())
+        lines = code(path)[0]
+        members = "\n".join(line for line in lines if MEMBER.match(line))
+        in_members = {name for name in names if path.suffix == ".rt" and WORD.findall("\n".join(lines)).count(name) == WORD.findall(members).count(name)}
+        return bool(names) and set(names) <= STD_DEFINITIONS.get(module, set()) | in_members
     found = SPECS.fullmatch(module)
     if not found or not found[2].startswith(("Cases.", "Theorems.")):
         return True
@@ -141,10 +149,10 @@ def check_uses(failures):
             continue
         lines, imports = code(path)
         text = "\n".join(lines)
-        words = set(WORD.findall(text))
+        words = set((CODE_WORD if path.suffix == ".rt" else WORD).findall(text))
         for module, names, passed_on in imports:
             failures += [f"{path.relative_to(root)} imports {name} and doesn't use it" for name in names
-                         if not passed_on and module not in TRAITS and not stands_in(name, words, text)]
+                         if not passed_on and module not in TRAITS and name != "*" and not stands_in(name, words, text)]
         indents = {found[4]: len(found[1]) for found in map(DECLARED.match, lines) if found and found[5] == " :"}
         for line in lines:
             first = re.match(r"(\s*)(?:(?:abbrev|unfoldable|pub) )*(\S*)", line)
