@@ -21,7 +21,7 @@ root = pathlib.Path(__file__).resolve().parent.parent
 ROOTS = "numbers/Check reconciliation/ExactPercent charge/Price price_band/PriceBand price_band/BandPromises slip_text/Slip slip_text/ExactReading " \
     "page_text/Page page_text/AmountGrammar page_text/PageColumns calls/Calls " \
     "accept_rules/AcceptAnswers stored/Reading stored/Writing stored_calls/StoredCalls " \
-    "quoting_unit/Unit fikrem_page/PageResult fikrem_price_band/BandResult fikrem_files/FileResult history/DemandThree " \
+    "quoting_unit/Unit fikrem_price_band/BandResult fikrem_files/FileResult history/DemandThree " \
     "stored_history/StoredDemandThree"
 MOST_LINES = 4000
 # the laws' statements, beside those

@@ -1,3 +1,4 @@
+pub mod Standing
 pub mod Filling
 pub mod Scanning
 pub mod Theorems

@@ -2,12 +2,11 @@
 use Rattle.std.specs.Prelude.{Ok}
 use Prim.Native.Nat.{ℕ, zero, suc, ◌+◌, ◌*◌, ◌<◌, ◌≤◌}
 use mathlib.Core.Path.{◌≡◌, refl}
-use mathlib.Core.List.{List, [], ◌∷◌}
+use mathlib.Core.List.{List, []}
 use native.Mathlib.Nat.{add-zero}
-use native.Mathlib.Numerals.{add-one}
 use native.Mathlib.Omega.{arith}
-use lib.ListN.{length, get_or, drop, drop_of_length-le}
-use lib.Seq.{drop-cons}
+use lib.ListN.{length, get_or, drop}
+use Rattle.std.proofs.lemmas.List.{drop_more, at_drop_all}
 use lib.Dec.{leb}
 use Rattle.field_values.specs.Limits.{tier_count, highest_rate}
 use Rattle.field_values.specs.Judged.{judge, in_order, first_failure, Judged}
@@ -17,30 +16,26 @@ module _ (apart first i : ℕ) where
   next : first + apart * i + apart ≡ first + apart * (i + 1)
   next = omega arith
 
-  -- the elements from zone i on
-  on : {A : Type 0} (l : List A) (d : A) → i < length l → drop i l ≡ get_or l i d ∷ drop (i + 1) l
-  on l d h = rw (add-one i, drop-cons l i d h)
-
   module _ (numbers : List ℕ) (least : ℕ) where
     pub rise_on : i < length numbers → judge_rise apart least (first + apart * i) (drop i numbers) ≡
         in_order (judge (leb least (get_or numbers i 0)) (first + apart * i))
         (judge_rise apart (get_or numbers i 0 + 1) (first + apart * (i + 1)) (drop (i + 1) numbers))
     unfolding judge_rise
-    rise_on h = rw (on numbers 0 h, next)
+    rise_on h = rw (drop_more numbers i 0 h, next)
 
     pub rise_end : length numbers ≤ i → judge_rise apart least (first + apart * i) (drop i numbers) ≡ Ok tt
     unfolding judge_rise
-    rise_end h = rw (drop_of_length-le numbers h)
+    rise_end h = at_drop_all (judge_rise apart least (first + apart * i)) numbers i h
 
   module _ (rates : List (List ℕ)) where
     pub rows_on : i < length rates → judge_rows apart (first + apart * i) (drop i rates) ≡
         in_order (judge_row (first + apart * i) (get_or rates i [])) (judge_rows apart (first + apart * (i + 1)) (drop (i + 1) rates))
     unfolding judge_rows
-    rows_on h = rw (on rates [] h, next)
+    rows_on h = rw (drop_more rates i [] h, next)
 
     pub rows_end : length rates ≤ i → judge_rows apart (first + apart * i) (drop i rates) ≡ Ok tt
     unfolding judge_rows
-    rows_end h = rw (drop_of_length-le rates h)
+    rows_end h = at_drop_all (judge_rows apart (first + apart * i)) rates i h
 
 -- the rates of a zone from a tier on
 abbrev pub judge_tiers : ℕ → List ℕ → ℕ → Judged

@@ -29,10 +29,11 @@ fn zone_tag(fields: &[u8]) -> u8
 fn number_width(fields: &[u8]) -> usize
     ensures { (result ≡ number_width fields.now) × (1 ≤ result) × (result ≤ 2) }
 {
-    zone_tag(fields) as usize - 7
+    usize::from(zone_tag(fields)) - 7
 }
 
-// The number of the zone whose value starts there.
+// The number of the zone whose value starts there. By its width and no type for it, since the file says which it is; and beside
+// `read_number`, whose 32 bits would have to be narrowed again.
 fn zone_number(fields: &[u8], start: usize, width: usize) -> u16
     requires { (start + width ≤ length fields.now) × (1 ≤ width) × (width ≤ 2) }
     ensures { result ≡ number_at fields.now start width }
@@ -51,18 +52,20 @@ fn rate_row(fields: &[u8], rates: usize) -> [u32; TIERS]
 }
 
 // The first tier over the limit gives the place; the zone's rates start at `rates`.
+#[tactic(auto, using(crate::proofs::Scanning::tier_on, std::proofs::lemmas::Bool::Decides::nat_tests))]
 fn judge_row(row: [u32; TIERS], rates: usize) -> Judged
     requires { rates + 20 < 2 ^ 64 }
     ensures { result ≡ judge_row rates row }
 {
-    for tier in 0..TIERS {
-        judge(row[tier] <= HIGHEST_RATE, rates + 4 * tier)?;
+    for (tier, rate) in row.iter().enumerate() {
+        judge(*rate <= HIGHEST_RATE, rates + 4 * tier)?;
     }
     Ok(())
 }
 
 // The first zone, and in it the first tier, over the limit gives the place; the first zone's rates
 // start at `first`.
+#[tactic(auto, using(crate::proofs::Scanning::rows_on, crate::proofs::Scanning::rows_end))]
 fn first_rate_over(rates: &[[u32; TIERS]], first: usize, apart: usize) -> Judged
     requires { (20 ≤ apart) × (apart ≤ 25) × (first + apart * length rates.now < 2 ^ 64) }
     ensures { result ≡ judge_rows apart first rates.now }
@@ -74,6 +77,7 @@ fn first_rate_over(rates: &[[u32; TIERS]], first: usize, apart: usize) -> Judged
 }
 
 // The first zone whose number isn't above the last one's.
+#[tactic(auto, using(crate::proofs::Scanning::rise_on, crate::proofs::Scanning::rise_end, std::proofs::lemmas::Bool::Decides::nat_tests))]
 fn first_number_not_above(numbers: &[u16], first: usize, apart: usize) -> Judged
     requires { (apart ≤ 25) × (first + apart * length numbers.now < 2 ^ 64) }
     ensures { result ≡ judge_rise apart 0 first numbers.now }
@@ -100,7 +104,8 @@ fn lower(one: Judged, other: Judged) -> Judged
     }
 }
 
-// The fields of a rate book, which walk.
+// The fields of a rate book, which walk. A type for each kind of file, as its readers are methods: one type over the rows could
+// have none outside the crate that states it.
 #[derive(Clone, Copy)]
 pub struct BookFields<'a> {
     pub fields: &'a [u8],
@@ -109,12 +114,14 @@ pub struct BookFields<'a> {
 
 impl<'a> BookFields<'a> {
     // The offset of the first zone's value.
+    #[tactic(auto, using(crate::proofs::Standing::zones_end))]
     fn first_zone(self) -> usize
         ensures { (result ≡ first_zone self.entry.fields.now) × (result + zones_apart self.entry.fields.now * length (zone_starts self.entry.fields.now) ≡ length self.entry.fields.now + 3) }
     {
         tagged::find::start_of(tagged::find::place_of(self.fields, zone_tag(self.fields)))
     }
 
+    #[tactic(auto, using(crate::proofs::Standing::zones_counted, crate::proofs::Standing::zones_most))]
     pub fn zone_count(self) -> usize
         ensures { (result ≡ length (zone_starts self.entry.fields.now)) × (result ≤ most_zones) }
     {
@@ -124,7 +131,8 @@ impl<'a> BookFields<'a> {
 
     // The rates, a row of five tiers for each zone; rows past the last zone hold 0.
     // First, count and width come by a function each, here and below: a type of the three would repeat what these promise.
-    // A loop each and no step handed in: a row stands behind the zone's number, which is read by its width.
+    // A loop each, here and below: over a closure one filler would say in a clause what the closure reads, and be longer than both.
+    #[tactic(auto, using(crate::proofs::Filling::rates_more))]
     pub fn zone_rates(self) -> Rates
         ensures { result ≡ zone_rates self.entry.fields.now }
     {
@@ -140,6 +148,7 @@ impl<'a> BookFields<'a> {
     }
 
     // The zone numbers; places past the last zone hold 0.
+    #[tactic(auto, using(crate::proofs::Filling::numbers_more))]
     pub fn zone_numbers(self) -> [u16; MOST_ZONES]
         ensures { result ≡ zone_numbers self.entry.fields.now }
     {
@@ -156,6 +165,7 @@ impl<'a> BookFields<'a> {
 
     // The zones' values in byte order: a rate of an earlier zone comes before the number of a later one.
     // The rates come beside the fields, so that they are read once for the test and the price.
+    #[tactic(auto, using(crate::proofs::Standing::scans_judge))]
     pub fn judge_zones(self, rates: Rates) -> Judged
         requires { rates ≡ zone_rates self.fields.now }
         ensures { result ≡ judge_zones self.entry.fields.now }

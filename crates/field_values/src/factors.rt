@@ -7,7 +7,8 @@ use crate::limits::{HIGHEST_FACTOR, MOST_FACTORS};
 use numbers::big_endian::BigEndian;
 use std::array;
 
-// A fixed array with its count: the firmware has no heap.
+// A fixed array with its count, and no ArrayVec of the library: book and request are Copy, and of a value of any length the count says how
+// many factors it would hold.
 #[derive(Clone, Copy)]
 pub struct Factors {
     pub count: usize,
@@ -16,6 +17,7 @@ pub struct Factors {
 
 const FACTOR_LIMITS: [Limit; MOST_FACTORS] = [[2, 0, HIGHEST_FACTOR]; MOST_FACTORS];
 
+#[tactic(auto, unfolding(crate::specs::Judged::narrow))]
 pub fn judge_factors(fields: &[u8], tag: u8) -> Judged
     ensures { result ≡ judge_factors tag fields.now }
 {

@@ -18,6 +18,7 @@ pub fn judge(listed: bool, at: usize) -> Judged
     if listed { Ok(()) } else { Err(at) }
 }
 
+// The width chooses the reader by a number, as it stands in the table of limits: a type for each width would part the table.
 fn read_number(s: &[u8], at: usize, width: usize) -> u32
     requires { ((width ≡ 1) ⊎ ((width ≡ 2) ⊎ (width ≡ 4))) × (at + width ≤ length s.now) }
     ensures { result ≡ number_at s.now at width }
@@ -31,6 +32,7 @@ fn read_number(s: &[u8], at: usize, width: usize) -> u32
 
 // The numbers of a value, one after the other, against a limit each; `at` is the value's offset.
 // A value may end before the limits do.
+#[tactic(auto, using(crate::proofs::Numbers::numbers_at, crate::proofs::Numbers::numbers_past, crate::proofs::Numbers::narrow_at, std::proofs::lemmas::Bool::Decides::nat_tests))]
 fn judge_numbers(limits: &[Limit], value: &[u8], at: usize) -> Judged
     requires { (narrow limits.now ≡ true) × (at + length value.now < 2 ^ 64) }
     ensures { result ≡ judge_numbers limits.now at value.now }
@@ -63,6 +65,7 @@ pub fn judge_field(fields: &[u8], tag: u8, limits: &[Limit]) -> Judged
     judge_numbers(limits, value, tagged::find::start_of(place))
 }
 
+#[tactic(auto, using(crate::proofs::Bytes::same_by_library))]
 fn same_bytes(a: &[u8], b: &[u8]) -> bool
     ensures { result ≡ same_bytes a.now b.now }
 {

@@ -1,10 +1,9 @@
 -- The walk, as far as the loop over the fields has come.
-use Rattle.std.specs.Prelude.{Err, Ok}
-use mathlib.Core.Path.{◌≡◌, refl, ◌∙◌}
+use mathlib.Core.Path.{◌≡◌, refl}
 use mathlib.Core.List.{List}
 use Prim.Native.Nat.{ℕ, ◌+◌, ◌≤◌}
 use lib.ListN.{length}
-use Rattle.field_walk.specs.declared.walk.Front.TheVariants.{End, Field, CannotStand}
+use Rattle.field_walk.specs.declared.walk.Front.TheVariants.{Field}
 use Rattle.field_walk.specs.Walk.{front_of, walk_from, walk_by, walked, Walk, fields, stops, and_then, FieldAt}
 use Rattle.field_walk.proofs.Rest.{rest_from, rest_from_drop, SoFar, one_field_on}
 
@@ -16,14 +15,6 @@ walked_then f (fields fs) = refl
 walked_then f (stops at) = refl
 
 module _ (rows : List (List ℕ)) (file rest : List ℕ) (at row count : ℕ) (s : WalkSoFar rows file rest at row count) where
-  pub walk_ends : front_of rows row count rest ≡ End → walked (walk_by rows file) ≡ Ok tt
-  unfolding walk_from
-  walk_ends e = s.same ∙ rw e
-
-  pub walk_stops : front_of rows row count rest ≡ CannotStand → walked (walk_by rows file) ≡ Err at
-  unfolding walk_from
-  walk_stops e = s.same ∙ rw e
-
   pub walk_goes_on : (k n len : ℕ) → front_of rows row count rest ≡ Field k n len → len + 3 ≤ length rest →
       WalkSoFar rows file (rest_from rest (len + 3)) (at + (len + 3)) k n
   unfolding walk_from

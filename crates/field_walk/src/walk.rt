@@ -33,7 +33,8 @@ pub enum Front {
 
 pub type Walked = Result<(), usize>;
 
-// Whether files of a form may have fields of the row.
+// Whether files of a form may have fields of the row. Row and form, here and below, and no method of the form's rows: by the row's
+// number each would ask that it is below how many there are.
 fn in_form(row: &Row, form: u16) -> bool
     ensures { result ≡ in_form form row.now }
 {
@@ -93,14 +94,14 @@ impl<'a> FormRows<'a> {
         ensures row_below { RowBelow (length self.entry.rows.now) result }
     {
         let mut count = had;
-        for row in from..self.rows.len() {
-            if self.rows[row][0] == u16::from(tag) {
-                if count < most_in(&self.rows[row], self.form) {
-                    return Some((row, count + 1));
+        for (number, row) in self.rows.iter().enumerate().skip(from) {
+            if row[0] == u16::from(tag) {
+                if count < most_in(row, self.form) {
+                    return Some((number, count + 1));
                 }
                 return None;
             }
-            if count < least_in(&self.rows[row], self.form) {
+            if count < least_in(row, self.form) {
                 return None;
             }
             count = 0;
@@ -113,8 +114,8 @@ impl<'a> FormRows<'a> {
         ensures { result ≡ all_had (drop from (rows_in self.entry.form self.entry.rows.now)) had }
     {
         let mut count = had;
-        for row in from..self.rows.len() {
-            if count < least_in(&self.rows[row], self.form) {
+        for row in self.rows.iter().skip(from) {
+            if count < least_in(row, self.form) {
                 return false;
             }
             count = 0;
@@ -152,6 +153,7 @@ impl<'a> FormRows<'a> {
 
     // The walk by these rows: after a field, the part of the file from its end onward is what the
     // next step sees.
+    #[tactic(auto, unfolding(crate::specs::Walk::walk_from), using(crate::proofs::Walking::walk_goes_on))]
     fn walk_by(self, fields: &[u8]) -> Walked
         ensures { result ≡ walked (walk_by (rows_in self.entry.form self.entry.rows.now) fields.now) }
     {

@@ -1,3 +1,4 @@
 pub mod StdBytes
 pub mod Checking
 pub mod Theorems
+pub mod Weights

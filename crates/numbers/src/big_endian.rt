@@ -22,10 +22,12 @@ impl BigEndian for u8 {
 
     ghost value = { λ n. n };
 
+    #[tactic(auto, using(crate::proofs::Theorems::BigEndian::number_at_one))]
     fn read(bytes: &[u8], at: usize) -> u8 {
         bytes[at]
     }
 
+    #[tactic(auto, using(crate::proofs::Theorems::BigEndian::written_one))]
     fn write(self, out: &mut [u8], at: usize) {
         out[at] = self;
     }
@@ -36,10 +38,12 @@ impl BigEndian for u16 {
 
     ghost value = { λ n. n };
 
+    #[tactic(auto, using(crate::proofs::StdBytes::read_2))]
     fn read(bytes: &[u8], at: usize) -> u16 {
         u16::from_be_bytes([bytes[at], bytes[at + 1]])
     }
 
+    #[tactic(auto, using(crate::proofs::StdBytes::written_2))]
     fn write(self, out: &mut [u8], at: usize) {
         out[at..at + 2].copy_from_slice(&self.to_be_bytes());
     }
@@ -50,10 +54,12 @@ impl BigEndian for u32 {
 
     ghost value = { λ n. n };
 
+    #[tactic(auto, using(crate::proofs::StdBytes::read_4))]
     fn read(bytes: &[u8], at: usize) -> u32 {
         u32::from_be_bytes([bytes[at], bytes[at + 1], bytes[at + 2], bytes[at + 3]])
     }
 
+    #[tactic(auto, using(crate::proofs::StdBytes::written_4))]
     fn write(self, out: &mut [u8], at: usize) {
         out[at..at + 4].copy_from_slice(&self.to_be_bytes());
     }
@@ -64,6 +70,7 @@ impl BigEndian for u64 {
 
     ghost value = { λ n. n };
 
+    #[tactic(auto, using(crate::proofs::StdBytes::read_8))]
     fn read(bytes: &[u8], at: usize) -> u64 {
         u64::from_be_bytes([
             bytes[at],
@@ -77,6 +84,7 @@ impl BigEndian for u64 {
         ])
     }
 
+    #[tactic(auto, using(crate::proofs::StdBytes::written_8))]
     fn write(self, out: &mut [u8], at: usize) {
         out[at..at + 8].copy_from_slice(&self.to_be_bytes());
     }

@@ -7,8 +7,8 @@ ghost use Rattle.book_zones.specs.Zones.{zone_rates};
 ghost use Rattle.rate_book.specs.Book.{judge_book, book_values, book_of};
 
 use crate::fields::{
-    CHARGED_LIMITS, RATE_LIMITS, judge_sums, judge_terms, read_charging, read_rate, read_sums,
-    read_terms,
+    CHARGED_LIMITS, Charging, RATE_LIMITS, Sums, judge_sums, judge_terms, read_charging, read_rate,
+    read_sums, read_terms,
 };
 use book_zones::rows::book_stands;
 use book_zones::zones::{BookFields, zone_rates};
@@ -18,7 +18,7 @@ use field_values::limits::{MOST_ZONES, Rates};
 use tagged::file::{Refusal, fields_part};
 use tagged::refusals::VALUE_NOT_LISTED;
 
-// Zone numbers in a fixed array with their count: the firmware has no heap.
+// Zone numbers in a fixed array with their count: a book is Copy and handed on by value, which the library's ArrayVec isn't.
 // The zones' rates stand outside it: a book is handed on by value, and takes less of the stack.
 // The limits are asked of a book and no part of its type: book_values reads fields past them as well.
 #[derive(Clone, Copy)]
@@ -62,44 +62,45 @@ fn judge_book(book: BookFields, rates: Rates) -> Judged
     book.judge_zones(rates)
 }
 
-// Figure by figure: a book is flat, so that who prices by it needs none of the file's fields.
+// Figure by figure: a book is flat, so that who prices by it needs none of the file's fields. The terms stay by name: a
+// pattern would list the four once more, over six lines.
 #[tactic(auto, using(book_zones::proofs::Theorems::ZoneFields::walked_when))]
 pub fn book_values(fields: &[u8]) -> Book
     requires { FieldsWalk book_rows fields.now }
     ensures { result ≡ book_values fields.now }
 {
     let book = BookFields { fields };
-    let sums = read_sums(book);
+    let Sums { opex, revenue } = read_sums(book);
     let terms = read_terms(book);
-    let charging = read_charging(book);
+    let Charging { charged, share } = read_charging(book);
     Book {
         rate: read_rate(book),
-        opex: sums.opex,
-        revenue: sums.revenue,
+        opex,
+        revenue,
         distribution: read_factors(fields, 4),
         transmission: read_factors(fields, 5),
         threshold: terms.threshold,
         fee: terms.fee,
         minimum: terms.minimum,
         term: terms.term,
-        charged: charging.charged,
-        share: charging.share,
+        charged,
+        share,
         zones: book.zone_count(),
         zone_numbers: book.zone_numbers(),
     }
 }
 
 // The values of a book whose fields walk, or the refusal of its first value past its limits.
+// By a function of its own beside a request's: the zone rates are read before and stand beside the book.
 #[tactic(auto, using(crate::proofs::Theorems::Book::book_walks, book_zones::proofs::Theorems::ZoneFields::walked_when), unfolding(crate::specs::Book::book_of))]
 pub fn read_walked_book(number: u8, file: &[u8], rates: Rates) -> Result<Book, Refusal>
     requires { (file_answer book_rows number file.now ≡ Ok tt) × (rates ≡ zone_rates (fields_part file.now)) }
     ensures { result ≡ book_of number file.now }
 {
     let fields = fields_part(file);
-    match judge_book(BookFields { fields }, rates) {
-        Ok(()) => Ok(book_values(fields)),
-        Err(at) => Err(Refusal::of_file(VALUE_NOT_LISTED, number, at)),
-    }
+    let judged = judge_book(BookFields { fields }, rates);
+    judged.map_err(|at| Refusal::of_file(VALUE_NOT_LISTED, number, at))?;
+    Ok(book_values(fields))
 }
 
 // The values of a rate book, or its refusal; `number` is the file's in a refusal. The zone rates stand

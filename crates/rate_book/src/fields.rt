@@ -45,6 +45,7 @@ pub const RATE_LIMITS: [Limit; 1] = [[2, 0, HIGHEST_DISCOUNT_RATE]];
 pub const CHARGED_LIMITS: [Limit; 2] = [[1, 0, 1], [2, 0, HIGHEST_SHARE]];
 
 // Field 02: the discount rate.
+#[tactic(auto, using(crate::proofs::Lengths::rate_long))]
 pub fn read_rate(book: BookFields) -> u16
     ensures { result ≡ rate_in book.entry.fields.now }
 {
@@ -60,6 +61,7 @@ fn sum_from(value: &[u8], from: usize) -> u64
     figures.iter().map(|figure| u64::from(*figure)).sum()
 }
 
+#[tactic(auto, using(crate::proofs::Lengths::figures_long))]
 pub fn read_sums(book: BookFields) -> Sums
     ensures { result ≡ sums_in book.entry.fields.now }
 {
@@ -80,6 +82,7 @@ pub fn judge_sums(book: BookFields) -> Judged
     judge(0 < sums.revenue, at)
 }
 
+#[tactic(auto, using(crate::proofs::Lengths::terms_long))]
 pub fn read_terms(book: BookFields) -> Terms
     ensures { result ≡ terms_in book.entry.fields.now }
 {
@@ -103,6 +106,7 @@ pub fn judge_terms(book: BookFields) -> Judged
     judge(LOWEST_TERM <= terms.term, at + 12)
 }
 
+#[tactic(auto, using(crate::proofs::Lengths::charged_long))]
 pub fn read_charging(book: BookFields) -> Charging
     ensures { result ≡ charging_in book.entry.fields.now }
 {

@@ -27,7 +27,8 @@ pub struct Amounts {
 }
 
 // Field 06, by tier.
-// Of its own beside capacity's: a request has demands and no posted rates, which are the book's.
+// Of its own beside capacity's: a request has demands and no posted rates, which are the book's. A list of each figure and no
+// record for each tier: the demands are priced as the added demands are, and the modes judged against the book's rates.
 #[derive(Clone, Copy)]
 pub struct Tiers {
     pub modes: [u8; TIERS],
@@ -91,7 +92,7 @@ pub const CONNECTION_LIMITS: [Limit; 4] = [
     [1, 0, HIGHEST_MARK],
 ];
 
-// The fields of a request, which walk.
+// The fields of a request, which walk. A type for each kind of file, as its readers are methods.
 #[derive(Clone, Copy)]
 pub struct RequestFields<'a> {
     pub fields: &'a [u8],
@@ -99,12 +100,14 @@ pub struct RequestFields<'a> {
 }
 
 impl<'a> RequestFields<'a> {
+    #[tactic(auto, using(crate::proofs::Lengths::person_long))]
     pub fn person(self) -> u32
         ensures { result ≡ person_in self.entry.fields.now }
     {
         u32::read(find(self.fields, 2), 0)
     }
 
+    #[tactic(auto, using(crate::proofs::Lengths::class_long))]
     pub fn class(self) -> u8
         ensures { result ≡ class_in self.entry.fields.now }
     {
@@ -112,6 +115,7 @@ impl<'a> RequestFields<'a> {
     }
 
     // Field 04, or 0D in its place.
+    #[tactic(auto, using(crate::proofs::Lengths::narrow_long, crate::proofs::Lengths::wide_long))]
     pub fn zone(self) -> u16
         ensures { result ≡ zone_in self.entry.fields.now }
     {
@@ -121,6 +125,7 @@ impl<'a> RequestFields<'a> {
         }
     }
 
+    #[tactic(auto, using(crate::proofs::Lengths::amounts_long))]
     pub fn amounts(self) -> Amounts
         ensures { result ≡ amounts_in self.entry.fields.now }
     {
@@ -135,6 +140,7 @@ impl<'a> RequestFields<'a> {
         }
     }
 
+    #[tactic(auto, using(crate::proofs::Lengths::tiers_long))]
     pub fn tiers(self) -> Tiers
         ensures { result ≡ tiers_in self.entry.fields.now }
     {
@@ -147,12 +153,14 @@ impl<'a> RequestFields<'a> {
     }
 
     // Field 07: the added demands of the customer's enhancement.
+    #[tactic(auto, using(crate::proofs::Lengths::added_long))]
     pub fn added_demands(self) -> [u32; TIERS]
         ensures { result ≡ added_in self.entry.fields.now }
     {
         by_tier(find(self.fields, 7), 0, 4)
     }
 
+    #[tactic(auto, using(crate::proofs::Lengths::revenues_long))]
     pub fn revenues(self) -> Revenues
         ensures { result ≡ revenues_in self.entry.fields.now }
     {
@@ -163,6 +171,7 @@ impl<'a> RequestFields<'a> {
         }
     }
 
+    #[tactic(auto, using(crate::proofs::Lengths::connection_long))]
     pub fn connection(self) -> Connection
         ensures { result ≡ connection_in self.entry.fields.now }
     {

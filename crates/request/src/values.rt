@@ -8,7 +8,7 @@ ghost use Rattle.request.specs.Request.{judge_charges, judge_request, request_va
 
 use crate::fields::{
     ADDED_LIMITS, AMOUNT_LIMITS, AMOUNT_LIMITS_WITHOUT_LOADING, CLASS_LIMITS, CONNECTION_LIMITS,
-    REVENUE_LIMITS, RequestFields, TIER_LIMITS,
+    REVENUE_LIMITS, RequestFields, TIER_LIMITS, Tiers,
 };
 use crate::rows::request_stands;
 use field_values::factors::{Factors, judge_factors, read_factors};
@@ -18,7 +18,7 @@ use tagged::file::{Refusal, fields_part};
 use tagged::refusals::VALUE_NOT_LISTED;
 
 // Class, modes and mark are the file's bytes: an enum would take fewer than request_values does.
-// A scheme is the file's number, 0 for none: an Option could also hold a scheme 0, which no file means.
+// A scheme is the file's number, 0 for none: an Option of a NonZeroU16 would be made a number again wherever it meets a party's or a count.
 // By rows and not by tier: demands and added demands are priced alike, a row each.
 // The limits are asked of a request and no part of its type: request_values reads fields past them as well.
 #[derive(Clone, Copy)]
@@ -93,7 +93,8 @@ fn judge_request(request: RequestFields) -> Judged
     judge_field(fields, 12, &CONNECTION_LIMITS)
 }
 
-// Figure by figure: a request is flat, so that who prices it needs none of the file's fields.
+// Figure by figure: a request is flat, so that who prices it needs none of the file's fields. Amounts, revenues and
+// connection stay by name: a pattern for each would list its figures once more.
 #[tactic(auto, using(crate::proofs::Theorems::RequestSizes::walked_when))]
 pub fn request_values(fields: &[u8]) -> Request
     requires { FieldsWalk request_rows fields.now }
@@ -101,12 +102,13 @@ pub fn request_values(fields: &[u8]) -> Request
 {
     let request = RequestFields { fields };
     let amounts = request.amounts();
-    let tiers = request.tiers();
+    let Tiers {
+        modes,
+        demands,
+        bespoke_rates,
+    } = request.tiers();
     let revenues = request.revenues();
     let connection = request.connection();
-    let modes = tiers.modes;
-    let demands = tiers.demands;
-    let bespoke_rates = tiers.bespoke_rates;
     Request {
         person: request.person(),
         class: request.class(),
@@ -141,8 +143,7 @@ pub fn read_request(number: u8, file: &[u8]) -> Result<Request, Refusal>
 {
     request_stands(number, file)?;
     let fields = fields_part(file);
-    match judge_request(RequestFields { fields }) {
-        Ok(()) => Ok(request_values(fields)),
-        Err(at) => Err(Refusal::of_file(VALUE_NOT_LISTED, number, at)),
-    }
+    let judged = judge_request(RequestFields { fields });
+    judged.map_err(|at| Refusal::of_file(VALUE_NOT_LISTED, number, at))?;
+    Ok(request_values(fields))
 }

@@ -1,9 +1,10 @@
 -- Document 01, 'Tagged fields': "Finding a field hands back that very part of the file and no copy: its value."
 -- The search needs no rows: it goes from field to field by their lengths, as far as whole fields stand.
-use Rattle.std.specs.Prelude.{ℕ, zero, suc, ◌+◌, ◌-◌, ◌≤◌, ◌≡◌, List, [], ◌∷◌, Bool, false, cond, length, get_or, take, drop, ltb, leb, eqb, None, Some, Option}
+use Rattle.std.specs.Prelude.{ℕ, zero, suc, ◌+◌, ◌-◌, ◌≤◌, ◌≡◌, List, [], ◌∷◌, Bool, true, false, cond, length, get_or, take, drop, ltb, leb, eqb, None, Some, Option}
 use Rattle.std.specs.Borrow.{Bor}
 use Rattle.field_walk.specs.Walk.{FieldAt, length_at}
 use Rattle.tagged.specs.declared.find.Place.{Place}
+use Rattle.tagged.specs.declared.find.Field.{Field}
 
 -- a whole field stands at the front
 abbrev pub whole_field : List ℕ → Bool
@@ -55,6 +56,13 @@ PlaceWithin size (Some place) = place.start + place.len ≤ size
 pub record IsPart (place : Option Place) (file r : Bor (List ℕ)) : Type 0 where
   pub bytes : r.now ≡ part_of place file.now
   pub pointer : r.ref_ptr ≡ (file.ref_ptr.0, start_of place + file.ref_ptr.1)
+
+-- the field that the rest of a file starts with: a whole one, with its tag, and its value and the rest after it as those very parts
+pub record NextField (s : Bor (List ℕ)) (field : Field) : Type 0 where
+  pub whole : whole_field s.now ≡ true
+  pub tag : field.tag ≡ get_or s.now 0 0
+  pub value : IsPart (value_place s.now) s field.value
+  pub rest : IsPart (rest_place s.now) s field.rest
 
 -- the value of the first field with this tag, and the offset at which it starts
 abbrev pub field_value : ℕ → List ℕ → List ℕ

@@ -1,6 +1,7 @@
 // Finding a field hands back that very part of the file and no copy: its value.
-ghost use Rattle.std.specs.Prelude.{◌≡◌, length};
-ghost use Rattle.tagged.specs.Find.{whole_field, first_place, value_place, rest_place, start_of, PlaceWithin, IsPart};
+ghost use Rattle.std.specs.Prelude.{◌≡◌, length, false, cond, Some, None, MatchOption};
+ghost use Rattle.field_walk.specs.Walk.{length_at};
+ghost use Rattle.tagged.specs.Find.{whole_field, first_place, start_of, PlaceWithin, IsPart, NextField};
 
 use numbers::big_endian::BigEndian;
 
@@ -12,27 +13,35 @@ pub struct Place {
     pub len: usize,
 }
 
-// Whether a whole field stands at the front of the rest of a file.
-fn whole_field(rest: &[u8]) -> bool
-    ensures { result ≡ whole_field rest.now }
+// A field of a file, its value, and the rest of the file after it.
+#[derive(Clone, Copy)]
+pub struct Field<'a> {
+    pub tag: u8,
+    pub value: &'a [u8],
+    pub rest: &'a [u8],
+}
+
+// How long the value of the field is that the rest of a file starts with; None where no whole field stands there.
+fn value_len(rest: &[u8]) -> Option<usize>
+    ensures { result ≡ cond (whole_field rest.now) (Some (length_at rest.now)) None }
 {
     if rest.len() < 3 {
-        return false;
+        return None;
     }
     let len = usize::from(u16::read(rest, 1));
-    len + 3 <= rest.len()
+    (len + 3 <= rest.len()).then_some(len)
 }
 
 // The place of the value of the first field with this tag.
-// The rest is kept by hand: an iterator of fields would keep it in the same way, one call away.
+// The rest is kept by hand: document 01 names the form, as in stored_reading, and the offset goes along.
+#[tactic(auto, unfolding(crate::specs::Find::fields_from, crate::specs::Find::first_with), using(crate::proofs::Finding::search_goes_on))]
 pub fn place_of(fields: &[u8], tag: u8) -> Option<Place>
     ensures value { result ≡ first_place tag fields.now }
     ensures place_within { PlaceWithin (length fields.now) result }
 {
     let mut rest = fields;
     let mut at: usize = 0;
-    while whole_field(rest) {
-        let len = usize::from(u16::read(rest, 1));
+    while let Some(len) = value_len(rest) {
         if rest[0] == tag {
             return Some(Place { start: at + 3, len });
         }
@@ -74,45 +83,16 @@ pub fn find<'a>(fields: &'a [u8], tag: u8) -> &'a [u8]
     part(fields, place)
 }
 
-// Value and rest by a place each: what is handed back is promised as the file's own part at that place.
-fn value_place(rest: &[u8]) -> Option<Place>
-    ensures value { result ≡ value_place rest.now }
-    ensures place_within { PlaceWithin (length rest.now) result }
+// The field that the rest of a file starts with, its value and what comes after it as the file's own parts;
+// None where no whole field stands there.
+pub fn next_field<'a>(rest: &'a [u8]) -> Option<Field<'a>>
+    ensures { MatchOption result (whole_field rest.now ≡ false) (λ field. NextField rest.entry field) }
 {
-    if whole_field(rest) {
-        let len = usize::from(u16::read(rest, 1));
-        return Some(Place { start: 3, len });
-    }
-    None
-}
-
-fn rest_place(rest: &[u8]) -> Option<Place>
-    ensures value { result ≡ rest_place rest.now }
-    ensures place_within { PlaceWithin (length rest.now) result }
-{
-    if whole_field(rest) {
-        let end = usize::from(u16::read(rest, 1)) + 3;
-        return Some(Place {
-            start: end,
-            len: rest.len() - end,
-        });
-    }
-    None
-}
-
-// The next field's value: that of the field that the rest of a file starts with; no bytes where no
-// whole field stands there.
-pub fn next_value<'a>(rest: &'a [u8]) -> &'a [u8]
-    ensures { IsPart (value_place rest.now) rest.entry result }
-{
-    let place = value_place(rest);
-    part(rest, place)
-}
-
-// The rest of the file after the next field; no bytes where no whole field stands there.
-pub fn next_rest<'a>(rest: &'a [u8]) -> &'a [u8]
-    ensures { IsPart (rest_place rest.now) rest.entry result }
-{
-    let place = rest_place(rest);
-    part(rest, place)
+    let len = value_len(rest)?;
+    let end = len + 3;
+    Some(Field {
+        tag: rest[0],
+        value: &rest[3..end],
+        rest: &rest[end..],
+    })
 }

@@ -7,9 +7,12 @@ use Rattle.numbers.specs.BigEndian.{number, number_at}
 use Rattle.tagged.proofs.Theorems.Walk.{by_test}
 use Rattle.field_values.specs.Judged.{judge, in_order, first_failure, width_of, within, judge_numbers, same_bytes, Judged}
 
+fails_not_passes : {at : ℕ} → ◌≡◌ {A = Judged} (Err at) (Ok tt) → ⊥
+fails_not_passes e = cc
+
 pub judge_passes : (listed : Bool) (at : ℕ) → judge listed at ≡ Ok tt → listed ≡ true
 judge_passes true at e = refl
-judge_passes false at e = absurd (cc)
+judge_passes false at e = absurd (fails_not_passes e)
 
 -- after the last judgement nothing follows
 pub in_order_end : (judged : Judged) → in_order judged (Ok tt) ≡ judged
@@ -22,7 +25,7 @@ in_order_same e f g = e ∙ ap₂ in_order f g
 
 pub in_order_passes : (first second : Judged) → in_order first second ≡ Ok tt → (first ≡ Ok tt) × (second ≡ Ok tt)
 in_order_passes (Ok _) second e = (refl, e)
-in_order_passes (Err at) second e = absurd (cc)
+in_order_passes (Err at) second e = absurd (fails_not_passes e)
 
 -- each judgement of a list; at a list that is written out and a numeral k the statement is of its element at k
 pub first_failure_passes : (judgements : List Judged) → first_failure judgements ≡ Ok tt → (k : ℕ) → get_or judgements k (Ok tt) ≡ Ok tt

@@ -28,10 +28,10 @@ bytes_on : (s : List ℕ) (i next width : ℕ) → i < length s → next ≡ suc
 bytes_on s i next width l e = rw (e, drop-cons s i 0 l)
 
 module _ (s : List ℕ) (at : ℕ) (within : at + 8 ≤ length s) where
-  abbrev byte : ℕ → ℕ
+  abbrev pub byte : ℕ → ℕ
   byte i = get_or s (at + i) 0
 
-  word_bytes : take 8 (drop at s) ≡ get_or s at 0 ∷ byte 1 ∷ byte 2 ∷ byte 3 ∷ byte 4 ∷ byte 5 ∷ byte 6 ∷ byte 7 ∷ []
+  pub word_bytes : take 8 (drop at s) ≡ get_or s at 0 ∷ byte 1 ∷ byte 2 ∷ byte 3 ∷ byte 4 ∷ byte 5 ∷ byte 6 ∷ byte 7 ∷ []
   word_bytes =
       rw (
         bytes_on s at (at + 1) 7 (omega arith) (omega arith),

@@ -5,4 +5,4 @@ use Rattle.book_zones.proofs.Scanning.{judge_tiers}
 use Rattle.book_zones.proofs.zones.judge_row.Given as goal
 
 abbrev pub invariant-loop-tier : goal.invariant-loop-tier
-invariant-loop-tier l = judge_row l.rates l.row ≡ judge_tiers l.rates l.row l.tier
+invariant-loop-tier l = judge_row l.rates l.fn.row ≡ judge_tiers l.rates l.fn.row l.tier

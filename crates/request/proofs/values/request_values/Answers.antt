@@ -5,7 +5,7 @@ pub returns : goal.returns
 returns c =
     rw (
       c.amounts-amounts.ensures,
-      c.tiers-tiers.ensures,
+      c.tiers.ensures,
       c.revenues-revenues.ensures,
       c.connection-connection.ensures,
       c.person.ensures,

@@ -3,8 +3,8 @@ use Rattle.std.proofs.Common.{length}
 use Rattle.tagged.proofs.Finding.{SearchSoFar}
 use Rattle.tagged.proofs.find.place_of.Given as goal
 
-abbrev pub invariant-loop-rest : goal.invariant-loop-rest
-invariant-loop-rest l = SearchSoFar l.tag l.fields l.rest l.at
+abbrev pub invariant-loop-len : goal.invariant-loop-len
+invariant-loop-len l = SearchSoFar l.tag l.fields l.rest l.at
 
-abbrev pub decreases-loop-rest : goal.decreases-loop-rest
-decreases-loop-rest l = length l.rest
+abbrev pub decreases-loop-len : goal.decreases-loop-len
+decreases-loop-len l = length l.rest
