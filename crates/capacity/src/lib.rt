@@ -66,12 +66,9 @@ impl Tiers {
     pub fn first_not_allowed(&self) -> Option<usize>
         ensures { result ≡ first_not_allowed self.now }
     {
-        for tier in 0..TIERS {
-            if !self.allows(tier) {
-                return Some(tier + 1);
-            }
-        }
-        None
+        (0..TIERS)
+            .find(|tier| !self.allows(*tier))
+            .map(|tier| tier + 1)
     }
 
     // What the demands of the five tiers cost.
@@ -79,10 +76,6 @@ impl Tiers {
         requires { TiersWithin self.now × DemandsWithin demands.now }
         ensures { (result ≡ capacity_cost self.now demands.now) × (result ≤ highest_capacity_cost) }
     {
-        let mut cost = 0;
-        for tier in 0..TIERS {
-            cost += self.cost_at(demands, tier);
-        }
-        cost
+        (0..TIERS).map(|tier| self.cost_at(demands, tier)).sum()
     }
 }

@@ -1,6 +1,6 @@
 -- The row of a zone as the place of its number among those of the book's zones.
 use Rattle.std.specs.Prelude.{ℕ, zero, suc, ◌+◌, ◌<◌, ◌≤◌, ◌≡◌, refl, Bool, true, false, cond, List, Some, eqb, length, take, drop, get_or}
-use Rattle.std.proofs.Common.{arith, ◌∙◌, add-one, drop-cons}
+use Rattle.std.proofs.Common.{arith, sym, ◌∙◌, add-one, drop-cons}
 use Rattle.std.specs.List.{position, position_from}
 use Rattle.std.proofs.lemmas.Iterator.Adapters.{position_from-zero}
 use Rattle.charge.specs.Price.{zone_found}
@@ -20,5 +20,5 @@ zone_from k (suc zones) numbers number h =
     by false later = later
 
 pub zone_position : (zones : ℕ) (numbers : List ℕ) (number : ℕ) → zones ≤ length numbers →
-    position (λ listed. eqb listed number) (take zones numbers) ≡ zone_found 0 zones numbers number
-zone_position zones numbers number h = position_from-zero _ (take zones numbers) ∙ zone_from 0 zones numbers number (omega arith)
+    zone_found 0 zones numbers number ≡ position (λ listed. eqb listed number) (take zones numbers)
+zone_position zones numbers number h = sym (position_from-zero _ (take zones numbers) ∙ zone_from 0 zones numbers number (omega arith))

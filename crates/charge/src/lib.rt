@@ -14,21 +14,12 @@ ghost use Rattle.charge.specs.Price.{zone_found, distribution_of, transmission_o
 use capacity::Tiers;
 use field_values::limits::Rates;
 use rate_book::book::Book;
+use rate_book::fields::Terms;
 use reconciliation::{Costs, Reconciliation};
 use request::values::Request;
 use revenue::{Stream, TRANSMISSION_OPEX_FACTOR};
 use tagged::file::Refusal;
 use tagged::refusals::{BESPOKE_NOT_ALLOWED, ZONE_NOT_IN_BOOK};
-
-// What a scheme that opens takes from the book.
-// A type beside that of the book's field 06: the definitions of the calls and of the history name a bill's terms by this one.
-#[derive(Clone, Copy)]
-pub struct Terms {
-    pub threshold: u32,
-    pub fee: u32,
-    pub minimum: u32,
-    pub term: u16,
-}
 
 // Who asks for the connection, when, for how much capacity, and in which scheme.
 // Scheme (0 for none) and mark are the request's numbers: a request is priced with any of them.
@@ -44,6 +35,7 @@ pub struct Applicant {
 #[derive(Clone, Copy)]
 pub struct Bill {
     pub reconciliation: Reconciliation,
+    // of the book, for a scheme that opens
     pub terms: Terms,
     pub applicant: Applicant,
 }
@@ -66,6 +58,7 @@ fn place_of(numbers: &[u16], number: u16) -> Option<usize>
 }
 
 // The row of a zone among the book's zones.
+#[tactic(auto, using(crate::proofs::ZonePlaces::zone_position))]
 fn zone_found(book: &Book, number: u16) -> Option<usize>
     requires { book.now.zones ≤ most_zones }
     ensures value { result ≡ zone_found 0 book.now.zones book.now.zone_numbers number }
@@ -75,7 +68,7 @@ fn zone_found(book: &Book, number: u16) -> Option<usize>
 }
 
 // The streams of distribution and transmission, with their year-one revenues as handed over.
-// The two revenues as plain numbers within field 08's limit: a pair would be taken apart at once.
+// The two revenues stand beside the request, which has its own: the price band prices one request with other figures than the file's.
 pub fn streams_of(book: Book, request: Request, distribution: u32, transmission: u32) -> Streams
     requires { BookWithin book × RequestWithin request × (distribution ≤ highest_revenue) × (transmission ≤ highest_revenue) }
     ensures distribution { result.distribution ≡ distribution_of book request distribution }
@@ -119,6 +112,7 @@ pub fn incremental_revenue_of(
 
 // The bill of a request whose tiers' rates are known.
 // Figure by figure: book and request are flat, and a bill takes a part of each.
+#[tactic(auto, using(reconciliation::proofs::Theorems::Reconciliation::a_of))]
 fn bill_of(book: Book, tiers: Tiers, request: Request, ir: u64) -> Bill
     requires { BookWithin book × TiersWithin tiers × RequestWithin request × (ir ≤ highest_incremental_revenue) }
     ensures { result ≡ bill_of book tiers request ir }
@@ -134,7 +128,7 @@ fn bill_of(book: Book, tiers: Tiers, request: Request, ir: u64) -> Bill
         ol: u64::from(request.ol),
     };
     Bill {
-        reconciliation: reconciliation::reconcile(costs, ir, book.charged, book.share),
+        reconciliation: reconciliation::reconcile(costs, ir, book.charged == 1, book.share),
         terms: Terms {
             threshold: book.threshold,
             fee: book.fee,
@@ -167,6 +161,7 @@ pub fn price_values(
     let Some(zone) = zone_found(&book, request.zone) else {
         return Err(Refusal::of_file(ZONE_NOT_IN_BOOK, 2, 0));
     };
+    // By a local each: an array that a literal takes straight from a field can't be proved yet.
     let modes = request.modes;
     let posted = rates[zone];
     let bespoke = request.bespoke_rates;
@@ -200,7 +195,7 @@ fn price_request(book: Book, rates: Rates, request: &[u8]) -> Pricing
 
 // The reconciliation of a request by a rate book, or the refusal: book, request, 4, 5.
 // Book and request stay two parameters from here down, as C hands over two files, each with its own name.
-#[tactic(auto, unfolding(crate::specs::Price::price_of, rate_book::specs::Book::book_of))]
+#[tactic(auto, using(rate_book::proofs::Theorems::Book::book_walks), unfolding(crate::specs::Price::price_of, rate_book::specs::Book::book_of))]
 pub fn price(book: &[u8], request: &[u8]) -> Pricing
     ensures { result ≡ price_of book.now request.now }
 {

@@ -8,7 +8,8 @@ ghost use Rattle.discount.specs.Discount.{discount, FactorsUntil};
 // The last year that has a discount factor: that of the longest life.
 pub const LAST_YEAR: usize = 30;
 
-// A factor for each of the years 0 to 30.
+// A factor for each of the years 0 to 30. A fixed array, of which the life says how many years count: a row of the table has them all,
+// and is handed on as it is.
 pub type DiscountFactors = [u32; LAST_YEAR + 1];
 
 // The discount factor of year n + 1 from that of year n.

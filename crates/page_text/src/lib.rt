@@ -21,7 +21,7 @@ const LINES: usize = 12;
 const LINE: usize = 64;
 
 // The end of a line: its bytes are there from `start` on.
-// A fixed line with its start: the firmware has no heap.
+// A line is filled from its last byte to its first, as an amount is aligned to the right: no type of the library grows to the front.
 #[derive(Drop)]
 struct Columns {
     bytes: [u8; LINE],
@@ -40,7 +40,8 @@ impl Model for Columns {
 
 pub type PageWritten = Result<(), Refusal>;
 
-// Printed by hand and not by Display, which writes from the left and may fail.
+// Printed by hand and not by Display, which writes from the left and may fail. Each push asks for the room that it takes: an amount
+// always fits its line, so that none of them fails.
 impl Columns {
     // None of them.
     fn new() -> Self
@@ -119,6 +120,7 @@ impl Columns {
 }
 
 // An amount that isn't below 0, with byte 0A behind it.
+#[tactic(auto, using(crate::proofs::Theorems::Page::cents_before))]
 fn unsigned_amount(cents: u64) -> Columns
     ensures value { result ≡ cents_text cents ++ 10 ∷ [] }
     ensures within { length result ≤ 27 }
@@ -185,6 +187,7 @@ fn page_lines(r: &Reconciliation) -> [[u8; LINE]; LINES]
 
 // The lines at the output's start. `inline(never)`: in a caller's frame they would stay on the stack
 // beside the pricing's.
+#[tactic(auto, using(crate::proofs::Filling::page_joined))]
 #[inline(never)]
 fn write_lines(r: &Reconciliation, out: &mut [u8])
     requires { page_size ≤ length out.old }

@@ -1,1 +1,2 @@
+pub mod PricedFiles
 pub mod Theorems

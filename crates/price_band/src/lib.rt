@@ -81,6 +81,7 @@ fn end_costs(r: Reconciliation) -> Costs
 }
 
 // The reconciliation at one end of the bands, by its year-one revenues.
+#[tactic(auto, using(reconciliation::proofs::Theorems::Reconciliation::a_of))]
 fn at_end(
     book: Book,
     request: Request,
@@ -97,7 +98,7 @@ fn at_end(
         distribution as u32,
         transmission as u32,
     );
-    reconciliation::reconcile(costs, ir, book.charged, book.share)
+    reconciliation::reconcile(costs, ir, book.charged == 1, book.share)
 }
 
 // IR and NC never fall with a revenue, and CC never rises.

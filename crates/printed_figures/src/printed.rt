@@ -23,6 +23,7 @@ pub struct Units {
     pub printed_charge: u64,
 }
 
+// Zeros spelled out: a constant's value calls no function, and so no default().
 const NO_REVENUE: Units = Units {
     revenue: 0,
     distribution_tariff: 0,

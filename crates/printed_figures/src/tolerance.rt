@@ -67,6 +67,7 @@ pub struct Bounds {
     pub nc: u64,
 }
 
+// Here and below plain numbers with their bounds: what is kept from step to step is a Near, whose members hold them.
 pub fn capped(x: u64) -> u64
     ensures { result ≤ limit }
 {
@@ -99,7 +100,8 @@ fn rounded(figure: u64, factor: u64, off: u64) -> u64
 }
 
 impl Near {
-    // A figure times a factor in ten-thousandths that lies off by at most `off` hundred-millionths.
+    // A figure times a factor in ten-thousandths that lies off by at most `off` hundred-millionths. A factor is a plain number with its limit,
+    // here as in `revenue`: it comes from a list of numbers, and a type of its own would be opened in each product.
     fn times(self, factor: u64, off: u64) -> Near
         requires { (factor ≤ highest_factor) × (off ≤ 10000) }
     {
@@ -125,11 +127,11 @@ fn near_year(stream: Stream, offs: Offs, n: usize, f: u64) -> Near
     requires { StreamWithin stream × (n ≤ longest_life) × (f ≤ highest_discount) }
 {
     let revenue = Near {
-        figure: stream.revenue as u64,
-        off: offs.revenue.min(stream.revenue as u64 * 10_000),
+        figure: u64::from(stream.revenue),
+        off: offs.revenue.min(u64::from(stream.revenue) * 10_000),
     };
     revenue
-        .times(stream.opex_factor as u64, offs.opex)
+        .times(u64::from(stream.opex_factor), offs.opex)
         .times(revenue::factor_of(stream.part_year, n), 0)
         .times(revenue::factor_of(stream.revenue_factors, n), 0)
         .times(revenue::factor_of(stream.tariff_factors, n), offs.tariff)
@@ -141,7 +143,7 @@ fn near_year(stream: Stream, offs: Offs, n: usize, f: u64) -> Near
 fn near_stream(stream: Stream, offs: Offs, b: u16, life: usize) -> Near
     requires { StreamWithin stream × (life ≤ longest_life) }
 {
-    // Nothing, and off by nothing: spelled out, since it stands once and says both.
+    // Nothing, and off by nothing. Zeros spelled out: a type with ghost fields derives no Default.
     let mut sum = Near { figure: 0, off: 0 };
     let mut f: u64 = 100_000_000;
     for n in 0..=life {
@@ -157,7 +159,9 @@ fn opex_off(opex: u64, revenue: u64, factor: u16) -> u64
     ensures { result ≤ 10000 }
 {
     let exact = (100_000_000 * (revenue - opex)).div_ceil(revenue);
-    exact.saturating_sub(10_000 * factor as u64).min(FURTHEST)
+    exact
+        .saturating_sub(10_000 * u64::from(factor))
+        .min(FURTHEST)
 }
 
 // Both streams' revenue.
@@ -242,7 +246,7 @@ fn bounds_of(book: Book, request: Request, units: Units) -> Bounds
 {
     bounds_with(
         near_revenue(book, request, units),
-        book.share as u64,
+        u64::from(book.share),
         book.charged == 1,
         units,
         tiers_rounded(request.demands),

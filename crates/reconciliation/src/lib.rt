@@ -1,7 +1,7 @@
 // The charge, its reconciliation and its percentages, in whole cents.
 #![tactic(auto)]
 
-ghost use Rattle.std.specs.Prelude.{◌≡◌, ◌*◌, ◌<◌, ◌≤◌, nat_abs, pos, ◌-ℤ◌};
+ghost use Rattle.std.specs.Prelude.{◌≡◌, ◌*◌, ◌<◌, ◌≤◌, cond, nat_abs, pos, ◌-ℤ◌};
 ghost use Rattle.reconciliation.specs.Percent.{nearest, percent_of};
 ghost use Rattle.reconciliation.specs.Reconciliation.{credit_of, reconciliation_of};
 ghost use Rattle.field_values.specs.Limits.{highest_share};
@@ -98,13 +98,11 @@ fn percent_of(n: i64, divisor: u64) -> Percent
     })
 }
 
-// The amount where a is 1, nothing where it is 0.
-// a is document 01's number, 1 or 0, by which its formulas multiply.
-fn times(a: u64, amount: u64) -> u64
-    requires { a ≤ 1 }
-    ensures { (result ≡ a * amount) × (result ≤ amount) }
+// a times the amount, where a is 1 with capacity charged and otherwise 0.
+fn times(charged: bool, amount: u64) -> u64
+    ensures { (result ≡ cond charged 1 0 * amount) × (result ≤ amount) }
 {
-    if a == 1 { amount } else { 0 }
+    if charged { amount } else { 0 }
 }
 
 // The credit for incremental revenue at a share in ten-thousandths.
@@ -116,37 +114,46 @@ fn credit_of(ir: u64, share: u16) -> u64
     ir * u64::from(share) / 10_000
 }
 
-// The reconciliation of a connection's costs with its incremental revenue; `charged` is a.
+// The reconciliation of a connection's costs with its incremental revenue, with capacity charged or not.
 // Seven costs go over by name: the eighth, the distributor's enhancement, is no figure of a reconciliation.
-pub fn reconcile(costs: Costs, ir: u64, charged: u8, share: u16) -> Reconciliation
-    requires { CostsWithin costs × (ir ≤ highest_incremental_revenue) × (charged ≤ 1) × (share ≤ highest_share) }
-    ensures { result ≡ reconciliation_of costs ir charged share }
+pub fn reconcile(costs: Costs, ir: u64, charged: bool, share: u16) -> Reconciliation
+    requires { CostsWithin costs × (ir ≤ highest_incremental_revenue) × (share ≤ highest_share) }
+    ensures { result ≡ reconciliation_of costs ir (cond charged 1 0) share }
 {
-    let a = u64::from(charged);
+    let Costs {
+        me,
+        mc,
+        ce,
+        cc2,
+        de,
+        tw,
+        hr,
+        ol,
+    } = costs;
     let credit = credit_of(ir, share);
-    let m = costs.me + times(a, costs.mc);
+    let m = me + times(charged, mc);
     let used = m.min(credit);
-    let not_charged = times(1 - a, costs.mc + costs.cc2);
+    let not_charged = times(!charged, mc + cc2);
     let ic_borne = used + not_charged;
-    let ic = costs.me + costs.mc + costs.ce + costs.cc2 + costs.tw + costs.hr + costs.ol;
-    let cc = m - used + costs.ce + times(a, costs.cc2) + costs.tw + costs.hr + costs.ol;
+    let ic = me + mc + ce + cc2 + tw + hr + ol;
+    let cc = m - used + ce + times(charged, cc2) + tw + hr + ol;
     let nc = minus(ir, ic_borne);
     Reconciliation {
-        me: costs.me,
-        mc: costs.mc,
-        ce: costs.ce,
-        cc2: costs.cc2,
-        tw: costs.tw,
-        hr: costs.hr,
-        ol: costs.ol,
+        me,
+        mc,
+        ce,
+        cc2,
+        tw,
+        hr,
+        ol,
         ic,
         ir,
         cc,
         nic: minus(ic, ir),
         nc,
-        x: costs.me - costs.me.min(credit) + costs.ce,
-        entered: ic + costs.de,
-        borne: ic_borne + costs.de,
+        x: me - me.min(credit) + ce,
+        entered: ic + de,
+        borne: ic_borne + de,
         reliance: percent_of(signed(cc), ic),
         upfront: percent_of(signed(cc), cc + ir),
         nc_ratio: percent_of(nc, cc + ir),

@@ -27,7 +27,7 @@ pub struct Stream {
 }
 
 // The opex factor O of a rate book.
-// Opex and revenue as two plain numbers, as a book holds them: a pair would be taken apart at once.
+// Opex and revenue as two plain numbers, as a book holds them: a type with their three bounds would be made twice for one division.
 fn opex_factor(opex: u64, revenue: u64) -> u16
     requires { (opex ≤ revenue) × (0 < revenue) × (revenue < sums_below) }
     ensures { (result ≡ opex_factor opex revenue) × (result ≤ highest_opex_factor) }
@@ -89,7 +89,7 @@ pub fn life_of(class: u8) -> usize
 
 // IR: both streams over the years 0 to life.
 // The life is a plain number of years, as the discount table takes it: a type would hold it for one call.
-#[tactic(auto, unfolding(crate::specs::Revenue::incremental_revenue))]
+#[tactic(auto, using(crate::proofs::Years::years))]
 pub fn incremental_revenue(distribution: Stream, transmission: Stream, b: u16, life: usize) -> u64
     requires { StreamWithin distribution × StreamWithin transmission × (life ≤ longest_life) }
     ensures { (result ≡ incremental_revenue distribution transmission b (suc life)) × (result ≤ highest_incremental_revenue) }

@@ -14,7 +14,8 @@ use tagged::refusals::OUTPUT_TOO_SHORT;
 // How many bytes a text has room for: eleven lines of any figures of 64 bits. A slip of two files is at most 236 bytes long.
 pub const ROOM: usize = 384;
 
-// What is written so far: the first `len` bytes of a fixed buffer, since the firmware has no heap.
+// What is written so far: the first `len` bytes of a fixed buffer. By the library's ArrayString, which was tried, the static libraries
+// would take the contracts of one more crate of the kit as they stand: what they rest on doesn't grow.
 #[derive(Drop)]
 struct Text {
     bytes: [u8; ROOM],
@@ -89,6 +90,7 @@ impl Text {
     }
 
     // Decimal digits, without leading zeros. Not by `write!`, which may fail where a slip can't.
+    #[tactic(auto, using(crate::proofs::Lines::tens))]
     fn push_decimal(&mut self, n: u64)
         requires { length self.old + length (decimal n) ≤ room }
         ensures value { self.new ≡ self.old ++ decimal n }
@@ -101,6 +103,7 @@ impl Text {
     }
 
     // "a negative figure starts with `-`". A sign and at most 20 digits are at most 21 bytes.
+    #[tactic(auto, using(crate::proofs::Lines::signs))]
     fn push_signed(&mut self, n: i64)
         requires { length self.old + 21 ≤ room }
         ensures { (self.new ≡ self.old ++ signed_decimal n) × (length self.new ≤ length self.old + 21) }

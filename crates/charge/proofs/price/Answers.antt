@@ -1,12 +1,8 @@
--- The fields of a book that stands walk; a book that is read is within the limits that pricing the request requires.
+-- A book that is read is within the limits that pricing the request requires, and so are the rates of its zones.
 use Rattle.std.proofs.Common.{sym, ◌∙◌, ◌≡◌, Ok}
 use Rattle.rate_book.specs.Book.{book_of}
-use Rattle.rate_book.proofs.Theorems.Book.{book_walks}
 use Rattle.rate_book.proofs.Theorems.BookLimits.{book_within_limits, rates_within_limits}
 use Rattle.charge.proofs.price.Goals as goal
-
-pub zone_rates-rates-requires : goal.zone_rates-rates-requires
-zone_rates-rates-requires c = rw c.fields_part.ensures.0 (book_walks 1 c.args.book.now (sym c.book_stands.ensures ∙ c.in_ok-book_stands.was))
 
 pub price_request-requires : goal.price_request-requires
 price_request-requires c =

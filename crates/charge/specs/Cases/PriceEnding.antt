@@ -3,7 +3,7 @@ use Rattle.std.specs.Prelude.{◌≡◌, refl, [], Err, Ok}
 use Rattle.tagged.specs.File.{refusal}
 use Rattle.reconciliation.specs.Cases.Figures.{sample, sample_figures}
 use Rattle.charge.specs.PriceEnding.{pricing_ending}
-use Rattle.charge.specs.declared.Terms.{Terms}
+use Rattle.rate_book.specs.declared.fields.Terms.{Terms}
 use Rattle.charge.specs.declared.Applicant.{Applicant}
 
 pub pricing_ending_cases_hold : (terms : Terms) (applicant : Applicant) →

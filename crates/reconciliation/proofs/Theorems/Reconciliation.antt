@@ -1,5 +1,5 @@
 -- The charge and what the company bears make up the cost entered, and the bounds that a ledger needs.
-use Rattle.std.specs.Prelude.{ℕ, zero, suc, ◌+◌, ◌*◌, ◌-◌, ◌/◌, ◌<◌, ◌≤◌, ◌≡◌, refl, Bool, true, false, cond, ltb, ℤ, pos, negsuc, neg_ℤ, nat_abs, ◌+ℤ◌, ◌-ℤ◌}
+use Rattle.std.specs.Prelude.{ℕ, zero, suc, ◌+◌, ◌*◌, ◌-◌, ◌/◌, ◌<◌, ◌≤◌, ◌≡◌, refl, Bool, true, false, cond, eqb, ltb, ℤ, pos, negsuc, neg_ℤ, nat_abs, ◌+ℤ◌, ◌-ℤ◌}
 use Rattle.std.proofs.Common.{ap, sym, subst, ◌∙◌, mul-le-mul_left, div-le_self, div-lt_iff_lt-mul, arith, ne_eqb}
 use Rattle.std.proofs.Math.IntN.{+ℤ_assoc, +ℤ_comm, neg_ℤ-+ℤ, neg_ℤ-neg_ℤ, pos-+ℤ-pos}
 use Rattle.field_values.specs.Limits.{highest_share}
@@ -9,6 +9,12 @@ use Rattle.reconciliation.specs.Reconciliation.{ic_of, used_of, cc_of, not_charg
 use Rattle.reconciliation.specs.FigureLimits.{highest_divisor, CostsWithin, PercentWithin, RemainderWithin, FiguresWithin}
 use Rattle.reconciliation.proofs.Theorems.ExactPercent.{divided}
 use Rattle.reconciliation.specs.declared.Costs.{Costs}
+
+-- the number of a byte that is 1 or 0, told as whether it is 1
+pub a_of : (a : ℕ) → a ≤ 1 → cond (eqb a 1) 1 0 ≡ a
+a_of zero h = refl
+a_of (suc zero) h = refl
+a_of (suc (suc a)) h = omega arith
 
 -- a − b − c is a − (b + c)
 pub subtract_twice : (a b c : ℕ) → pos a -ℤ pos b -ℤ pos c ≡ pos a -ℤ pos (b + c)

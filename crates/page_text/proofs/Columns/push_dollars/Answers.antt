@@ -1,3 +1,4 @@
+-- The commas that are left: 5 at most before the loop, one fewer each time, and none once the dollars are below 1,000.
 use Rattle.std.proofs.Common.{List, ap, arith, refl, suc, sym, ℕ, ◌/◌, ◌∙◌, ◌∷◌, ◌≡◌, length}
 use Rattle.page_text.specs.Page.{dollars_text}
 use Rattle.page_text.proofs.Theorems.Page.{dollars_end, dollars_on}
