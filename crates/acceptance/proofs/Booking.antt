@@ -12,7 +12,7 @@ use lib.ListN.{length, take, drop, get_or, set, length-map}
 use lib.Seq.{take-suc, take-length, length-take-le}
 use Rattle.std.proofs.lemmas.List.{take_all}
 use Rattle.field_values.specs.Limits.{highest_capacity}
-use Rattle.ledger.specs.Limits.{most_entries}
+use Rattle.ledger.specs.Limits.{most_entries, highest_credited}
 use Rattle.ledger.specs.Columns.{scheme_column, capacity_column, sum_over, sum_of}
 use Rattle.ledger.proofs.Theorems.Columns.{of_own, of_other}
 use Rattle.ledger.specs.declared.records.Party.{Party}
@@ -124,50 +124,56 @@ module _ {old : List Party} {s amount total : ℕ} {entries : List Party} {runni
       ∙ length-take-le i old (omega arith)
 
   -- the entry at i as it was
-  pub still : get_or entries i no_party ≡ get_or old i no_party
+  still : get_or entries i no_party ≡ get_or old i no_party
   still =
       ap (λ table. get_or table i no_party) before.each
       ∙ subst (λ k. get_or (credit_each old (shares_up_to s amount total old i)) k no_party ≡ get_or old k no_party) shares_length
       (credited_here old (shares_up_to s amount total old i))
 
-  pub many : length entries ≡ length old
-  many = ap length before.each ∙ length_credit_each old (shares_up_to s amount total old i)
-
   -- an entry of the scheme
-  module _ (own : (get_or old i no_party).scheme ≡ s) where
+  module _ (own : (get_or entries i no_party).scheme ≡ s) where
+    own_before : (get_or old i no_party).scheme ≡ s
+    own_before = ap (λ (p : Party). p.scheme) (sym still) ∙ own
+
     pub credited_own :
-        let grown = amount * (running + (get_or old i no_party).capacity) / total in
-        Credited old s amount total (set entries i (credited_more (get_or entries i no_party) (grown - told))) (running + (get_or old i no_party).capacity) grown (i + 1)
+        let grown = amount * (running + (get_or entries i no_party).capacity) / total in
+        Credited old s amount total (set entries i (credited_more (get_or entries i no_party) (grown - told))) (running + (get_or entries i no_party).capacity) grown (i + 1)
     credited_own =
         let share = amount * (running + (get_or old i no_party).capacity) / total - told in
-        record {
+        rw still
+        (record {
           each =
-              ap₂ (λ table entry. set table i (credited_more entry share)) before.each still
+              ap (λ table. set table i (credited_more (get_or old i no_party) share)) before.each
               ∙ subst (λ k. set (credit_each old (shares_up_to s amount total old i)) k (credited_more (get_or old k no_party) share) ≡ credit_each old (shares_up_to s amount total old i ++ (share ∷ []))) shares_length
               (credited_one old (shares_up_to s amount total old i) share (omega (arith, shares_length)))
-              ∙ ap (credit_each old) (sym (shares_more_at _ (of_own (get_or old i no_party).scheme s _ own)));
-          capacity = omega (arith, before.capacity, capacity_own s old i no_party within own);
+              ∙ ap (credit_each old) (sym (shares_more_at _ (of_own (get_or old i no_party).scheme s _ own_before)));
+          capacity = omega (arith, before.capacity, capacity_own s old i within own_before);
           together = refl;
-        }
+        })
 
-    pub running_at_most : total ≡ sum_over s (scheme_column old) (capacity_column old) → running + (get_or old i no_party).capacity ≤ total
+    pub running_at_most : total ≡ sum_over s (scheme_column old) (capacity_column old) → running + (get_or entries i no_party).capacity ≤ total
     running_at_most whole =
         let all : capacity_up_to s old (length old) ≡ sum_over s (scheme_column old) (capacity_column old) =
         ap (λ parties. sum_over s (scheme_column parties) (capacity_column parties)) (take-length old) in
-        omega (arith, whole, all, before.capacity, capacity_own s old i no_party within own, capacity_rises s old (i + 1) (length old) (omega arith))
+        rw still (omega (arith, whole, all, before.capacity, capacity_own s old i within own_before, capacity_rises s old (i + 1) (length old) (omega arith)))
 
   -- an entry of another scheme
-  pub credited_other : ((get_or old i no_party).scheme ≡ s → ⊥) → Credited old s amount total entries running told (i + 1)
+  pub credited_other : ((get_or entries i no_party).scheme ≡ s → ⊥) → Credited old s amount total entries running told (i + 1)
   credited_other other =
+      let other_before : (get_or old i no_party).scheme ≡ s → ⊥ = λ own. other (ap (λ (p : Party). p.scheme) still ∙ own) in
       let no_share : amount * (running + 0) / total - told ≡ 0 = rw (add-zero, before.together) (omega arith) in
       let longer : shares_up_to s amount total old (i + 1) ≡ shares_up_to s amount total old i ++ (0 ∷ []) =
-      shares_more_at 0 (of_other (get_or old i no_party).scheme s _ other)
+      shares_more_at 0 (of_other (get_or old i no_party).scheme s _ other_before)
       ∙ ap (λ share. shares_up_to s amount total old i ++ (share ∷ [])) no_share in
       record {
         each = before.each ∙ sym (credited_zero old (shares_up_to s amount total old i)) ∙ ap (credit_each old) (sym longer);
-        capacity = omega (arith, before.capacity, capacity_other s old i no_party within other);
+        capacity = omega (arith, before.capacity, capacity_other s old i within other_before);
         together = before.together;
       }
+
+  -- what the entry at i was credited before
+  pub still_fits : ((k : ℕ) → k < length old → (get_or old k no_party).credited ≤ highest_credited) → (get_or entries i no_party).credited ≤ highest_credited
+  still_fits fits = rw still (fits i within)
 
 -- after the last entry all have their credits
 pub credited_all : {old : List Party} {s amount total : ℕ} {entries : List Party} {running told i : ℕ} → Credited old s amount total entries running told i →
@@ -176,6 +182,9 @@ credited_all {old = old} {s = s} {amount = amount} {total = total} {i = i} h all
     h.each
     ∙ ap (λ parties. credit_each old (shares amount total 0 (weights s (scheme_column parties) (capacity_column parties)))) (take_all i old all)
     ∙ ap (λ k. credit_each old (shares amount k 0 (weights s (scheme_column old) (capacity_column old)))) whole
+
+-- what the goals of the loop over the entries need of these
+pub ruleset crediting = (product_fits, share_at_most, running_at_most, still_fits, credited_all)
 
 -- the whole table after its entries were credited
 credited_table : (n s amount : ℕ) (table : List Party) → n ≤ length table →

@@ -1,12 +1,11 @@
 -- What a verdict that accepts gives the booking, and that booking, joining and opening come to the plan.
-use Rattle.std.specs.Prelude.{ℕ, ◌+◌, ◌<◌, ◌≤◌, ◌≡◌, refl, List, Bool, true, false, cond, length, take, get_or, set, Ok}
+use Rattle.std.specs.Prelude.{ℕ, ◌+◌, ◌≤◌, ◌≡◌, refl, List, Bool, true, false, cond, length, take, set, Ok}
 use Rattle.std.proofs.Common.{sym, ap, ap₂, ◌∙◌, arith, length-take-le, take_at}
 use Rattle.std.proofs.lemmas.List.Edits.{sets}
 use Rattle.charge.specs.declared.Bill.{Bill}
 use Rattle.charge.specs.Price.{price_of}
 use Rattle.charge.specs.BillLimits.{BillWithin}
-use Rattle.ledger.specs.Limits.{most_schemes, most_entries, highest_credited}
-use Rattle.ledger.specs.Records.{no_party}
+use Rattle.ledger.specs.Limits.{most_schemes, most_entries}
 use Rattle.ledger.specs.Books.{books_of}
 use Rattle.ledger.specs.Sound.{sound}
 use Rattle.ledger.specs.SoundConditions.{SoundLedger}
@@ -29,6 +28,7 @@ use Rattle.acceptance.specs.Plan.{booked_ledger, joined_ledger, padded, credits_
 use Rattle.acceptance.specs.PlanCarried.{plan_carried_out}
 use Rattle.acceptance.specs.PlanNeeds.{CourseDue}
 use Rattle.acceptance.specs.PlanFits.{PlanFits}
+use Rattle.acceptance.proofs.Theorems.Plan.{joined_count, joined_entries}
 use Rattle.acceptance.proofs.Theorems.PlanNeeds.{course_due, course_pays}
 use Rattle.acceptance.proofs.Theorems.PlanFits.{added_count, course_fits}
 use Rattle.acceptance.proofs.Theorems.PlanIsCall.{set_each_more, credit_nothing, joiner_parties, opener_parties, added_in_order, one_entry, Step, joined_step, plan_is_call}
@@ -84,9 +84,6 @@ module _ (ledger : Ledger) (table : List Party) (bill : Bill) (course : Course) 
   pub joiner_place : ledger.entries + (joiner_added bill course.joining).count ≤ length table
   joiner_place = omega (arith, needed, joiner_count bill course.joining)
 
-  pub can_take : (i : ℕ) → i < length (take ledger.entries table) → (get_or (take ledger.entries table) i no_party).credited ≤ highest_credited
-  can_take i within = (means.each_party i within).credited
-
   step : Step ledger table bill course.joining
   step =
       joined_step ledger table bill course.joining
@@ -120,6 +117,9 @@ module _ (ledger : Ledger) (table : List Party) (bill : Bill) (course : Course) 
       ∙ ap (λ (records : List Party). sets records at (opener_parties number bill course.opens)) same
       ∙ sym (set_each_more credited ledger.entries (joiner_parties bill course.joining) (opener_parties number bill course.opens))
       ∙ ap (sets credited ledger.entries) (sym (added_in_order number bill course.joining course.opens))
+
+-- what the goals of the three steps need of these
+pub ruleset carrying = (sound_means, due, needed, joiner_place, carried, joined_count, joined_entries)
 
 -- on a sound ledger the plan is the call
 pub accept_kept : (ledger : Ledger) (table : List Party) → length ledger.schemes ≡ most_schemes → (book request : List ℕ) {answer : AcceptAnswer} {after : Ledger} {left : List Party} →

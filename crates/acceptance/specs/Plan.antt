@@ -98,7 +98,7 @@ course_plan ledger parties room bill course =
 
 abbrev pub verdict_plan : Ledger → List Party → ℕ → Bill → Verdict → Plan
 verdict_plan ledger parties room bill (Ok course) = course_plan ledger parties room bill course
-verdict_plan ledger parties room bill (Err number) = refused_plan ledger (refusal number 0 0)
+verdict_plan ledger parties room bill (Err r) = refused_plan ledger r
 
 unfoldable pub bill_plan : Ledger → List Party → ℕ → Bill → Plan
 bill_plan ledger parties room bill = verdict_plan ledger parties room bill (verdict (snapshot_books ledger parties room) bill)

@@ -1,6 +1,6 @@
 // Accept: what it answers, and what it makes of the ledger and the table, in three steps: the connection is booked, the joining
 // that is paid comes next, and a scheme that opens last. Deciding is the crate `verdict`; nothing is refused here once a verdict accepts.
-ghost use Rattle.std.specs.Prelude.{◌≡◌, true, cond, ℕ, ◌+◌, ◌*◌, ◌<◌, ◌≤◌, List, length, take, set, get_or, Ok, Some, None};
+ghost use Rattle.std.specs.Prelude.{◌≡◌, true, cond, ℕ, ◌+◌, ◌*◌, ◌<◌, ◌≤◌, List, length, take, set, get_or, Ok};
 ghost use Rattle.std.proofs.lemmas.List.Edits.{sets};
 ghost use Rattle.charge.specs.Price.{price_of};
 ghost use Rattle.charge.specs.BillLimits.{BillWithin};
@@ -58,6 +58,7 @@ fn take_fee(ledger: &mut Ledger, at: usize, fee: u32)
 }
 
 // An amount is credited to the entries of a scheme: each gets what the quotient by the running capacity grows by.
+#[tactic(auto, using(crate::proofs::Booking::crediting))]
 fn credit_scheme(entries: &mut [Party], scheme: u16, amount: u64, total: u64)
     requires few { length entries.old ≤ most_entries }
     requires divided { (amount < 4294967296) × (1 ≤ total) × (total ≤ highest_capacity * most_entries) }
@@ -92,7 +93,7 @@ fn new_party(scheme: u16, bill: &Bill, put_in: u32) -> Party
 }
 
 // The scheme's entries get their credits of G less the fee, and the joiner its entry.
-#[tactic(auto, using(ledger::proofs::Theorems::Table::credit_none))]
+#[tactic(auto, using(ledger::proofs::Theorems::Table::credit_none, crate::proofs::Booking::paid_table))]
 fn join(ledger: &mut Ledger, table: &mut [Party], bill: &Bill, joining: Joining)
     requires fees { FeesDue ledger.old bill.now joining }
     requires credits { CreditsDue (take ledger.old.entries table.old) bill.now joining }
@@ -101,26 +102,22 @@ fn join(ledger: &mut Ledger, table: &mut [Party], bill: &Bill, joining: Joining)
     ensures ledger { ledger.new ≡ joined_ledger joining bill.now ledger.old }
     ensures table { table.new ≡ sets (credit_each table.old (credits_by (take ledger.old.entries table.old) bill.now joining)) ledger.old.entries (take (joiner_added bill.now joining).count (joiner_added bill.now joining).parties) }
 {
-    match joining {
-        Joining::NotAsked => {}
-        Joining::Ended => {}
-        Joining::Small => {}
-        Joining::Pays(paid) => {
-            let number = bill.applicant.scheme;
-            let entries = ledger.entries as usize;
-            let amount = u64::from(paid.collected - paid.fee);
-            credit_scheme(&mut table[..entries], number, amount, paid.capacity);
-            put_one(table, entries, new_party(number, bill, paid.collected));
-            if let Some(at) = scheme_at(ledger.count, number) {
-                take_fee(ledger, at, paid.fee);
-            }
+    if let Joining::Pays(paid) = joining {
+        let number = bill.applicant.scheme;
+        let entries = ledger.entries as usize;
+        let amount = u64::from(paid.collected - paid.fee);
+        credit_scheme(&mut table[..entries], number, amount, paid.capacity);
+        put_one(table, entries, new_party(number, bill, paid.collected));
+        if let Some(at) = scheme_at(ledger.count, number) {
+            take_fee(ledger, at, paid.fee);
         }
     }
 }
 
 // ---- opened
 
-// The scheme that opens, with its first entry.
+// The scheme that opens, with its first entry, or nothing. Whether it opens is asked here, so that what becomes of ledger and table
+// is promised in one.
 fn open(ledger: &mut Ledger, table: &mut [Party], bill: &Bill, opens: bool)
     requires places { opens ≡ true → (ledger.old.count < most_schemes) × (ledger.old.entries < most_entries) × (ledger.old.entries < length table.old) }
     requires within { BillWithin bill.now }
@@ -151,6 +148,7 @@ fn open(ledger: &mut Ledger, table: &mut [Party], bill: &Bill, opens: bool)
 
 // ---- the answer
 
+// By name and no From: the joiner's number comes from the ledger, beside the joining.
 fn joining_answer(entries: u32, joining: &Joining) -> JoiningAnswer
     requires { entries ≤ most_entries }
     ensures { (books : Books) → books.next_entry ≡ entries + 1 → result ≡ joining_answer books joining.now }
@@ -166,12 +164,6 @@ fn joining_answer(entries: u32, joining: &Joining) -> JoiningAnswer
     }
 }
 
-fn opening_answer(number: u16, opens: bool) -> Option<u16>
-    ensures { result ≡ cond opens (Some number) None }
-{
-    if opens { Some(number) } else { None }
-}
-
 fn acceptance_of(ledger: &Ledger, bill: &Bill, course: &Course) -> Acceptance
     requires { (ledger.now.count ≤ most_schemes) × (ledger.now.entries ≤ most_entries) }
     ensures { (table : List Party) (room : ℕ) → result ≡ acceptance_of (snapshot_books ledger.now table room) bill.now course.now }
@@ -179,14 +171,14 @@ fn acceptance_of(ledger: &Ledger, bill: &Bill, course: &Course) -> Acceptance
     Acceptance {
         reconciliation: bill.reconciliation,
         joining: joining_answer(ledger.entries, &course.joining),
-        opening: opening_answer((ledger.count + 1) as u16, course.opens),
+        opening: course.opens.then_some((ledger.count + 1) as u16),
     }
 }
 
 // ---- the call
 
 // What a verdict that accepts makes of the ledger and the table.
-#[tactic(auto, using(ledger::proofs::Theorems::Sound::sound_means))]
+#[tactic(auto, using(crate::proofs::Carrying::carrying))]
 fn carry_out(ledger: &mut Ledger, table: &mut [Party], bill: &Bill, course: &Course) -> Acceptance
     requires stands { sound ledger.old table.old (length table.old) ≡ true }
     requires within { BillWithin bill.now }
@@ -203,6 +195,7 @@ fn carry_out(ledger: &mut Ledger, table: &mut [Party], bill: &Bill, course: &Cou
     acceptance
 }
 
+#[tactic(auto, unfolding(crate::specs::Plan::bill_plan))]
 fn accept_bill(ledger: &mut Ledger, table: &mut [Party], bill: &Bill) -> AcceptAnswer
     requires stands { sound ledger.old table.old (length table.old) ≡ true }
     requires within { BillWithin bill.now }
@@ -210,14 +203,13 @@ fn accept_bill(ledger: &mut Ledger, table: &mut [Party], bill: &Bill) -> AcceptA
     ensures ledger { ledger.new ≡ (bill_plan ledger.old table.old (length table.old) bill.now).ledger }
     ensures table { table.new ≡ plan_table ledger.old table.old (bill_plan ledger.old table.old (length table.old) bill.now) }
 {
-    match verdict::verdict_of(ledger, table, bill) {
-        Ok(course) => Ok(carry_out(ledger, table, bill, &course)),
-        Err(number) => Err(Refusal::of_call(number)),
-    }
+    let course = verdict::verdict_of(ledger, table, bill)?;
+    Ok(carry_out(ledger, table, bill, &course))
 }
 
 // Accept on a ledger that is known to be sound: the book, the request, 4, 5, and then by the verdict.
 // Apart from `accept`, so that a ledger that was just read, and found sound, isn't tested twice.
+#[tactic(auto, using(crate::proofs::Theorems::Plan::plan_priced))]
 pub fn accept_sound(
     ledger: &mut Ledger,
     table: &mut [Party],

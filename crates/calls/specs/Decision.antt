@@ -44,7 +44,7 @@ credits_by books bill (Pays paid) = shared (paid.collected - paid.fee) (parties_
 
 abbrev pub decided_by : Books → Bill → Verdict → Decision
 decided_by books bill (Ok course) = accepted bill course (credits_by books bill course.joining)
-decided_by books bill (Err number) = refused (refusal number 0 0)
+decided_by books bill (Err r) = refused r
 
 -- book, request, 4, 5, and then by the verdict
 abbrev pub accept_by : Books → Pricing → Decision

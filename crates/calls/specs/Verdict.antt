@@ -1,6 +1,8 @@
 -- Document 01, 'Accept': what becomes of a priced request, in two parts: the joining that it asks for, and whether a scheme opens.
 use Rattle.std.specs.Prelude.{ℕ, ◌+◌, [], ◌∷◌, Bool, true, false, cond, length, leb, ltb, eqb, Err, Ok, Result}
+use Rattle.tagged.specs.File.{refusal}
 use Rattle.tagged.specs.Refusals.{scheme_never_opened, month_before_last, no_scheme_left, no_entry_left, no_connection_left}
+use Rattle.tagged.specs.declared.file.Refusal.{Refusal}
 use Rattle.charge.specs.declared.Bill.{Bill}
 use Rattle.ledger.specs.Limits.{most_schemes, most_entries, most_connections}
 use Rattle.ledger.specs.Lists.{Found, none, found}
@@ -11,9 +13,9 @@ use Rattle.calls.specs.declared.courses.Joining.{Joining}
 use Rattle.calls.specs.declared.courses.Joining.TheVariants.{NotAsked, Ended, Small, Pays}
 use Rattle.calls.specs.declared.courses.Course.{Course}
 
--- the course of a request that is accepted, or the refusal's number
+-- the course of a request that is accepted, or the refusal
 abbrev pub Verdict : Type 0
-Verdict = Result Course ℕ
+Verdict = Result Course Refusal
 
 -- ---- the joining part
 
@@ -68,13 +70,13 @@ entries_lacking entries room needed = cond (eqb needed 0) false (cond (ltb most_
 
 abbrev pub course_verdict : Books → Course → Verdict
 course_verdict books course =
-    cond (schemes_lacking (length books.schemes) course.opens) (Err no_scheme_left)
-    (cond (entries_lacking (length books.entries) books.room (entries_needed course)) (Err no_entry_left) (Ok course))
+    cond (schemes_lacking (length books.schemes) course.opens) (Err (refusal no_scheme_left 0 0))
+    (cond (entries_lacking (length books.entries) books.room (entries_needed course)) (Err (refusal no_entry_left 0 0)) (Ok course))
 
 -- the order of the refusals: 10, 7, 6, 8, 9
 unfoldable pub verdict : Books → Bill → Verdict
 verdict books bill =
-    cond (leb most_connections books.connections) (Err no_connection_left)
-    (cond (ltb bill.applicant.month books.month) (Err month_before_last)
-    (cond (leb books.next_scheme bill.applicant.scheme) (Err scheme_never_opened)
+    cond (leb most_connections books.connections) (Err (refusal no_connection_left 0 0))
+    (cond (ltb bill.applicant.month books.month) (Err (refusal month_before_last 0 0))
+    (cond (leb books.next_scheme bill.applicant.scheme) (Err (refusal scheme_never_opened 0 0))
     (course_verdict books (course_of books bill))))

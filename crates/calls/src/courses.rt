@@ -1,4 +1,5 @@
 // What becomes of a priced request that is accepted: a joining, and then an opening.
+use tagged::file::Refusal;
 
 // G, the scheme's fee, and K: the capacity of all its parties before the joiner.
 #[derive(Clone, Copy)]
@@ -8,6 +9,7 @@ pub struct Contribution {
     pub capacity: u64,
 }
 
+// Beside JoiningAnswer, not one enum over what it holds: a course says what will be paid, an answer what was, and the definitions name the two apart.
 #[derive(Clone, Copy)]
 pub enum Joining {
     NotAsked,
@@ -22,6 +24,5 @@ pub struct Course {
     pub opens: bool,
 }
 
-// The course of a request that is accepted, or the refusal's number; file and place are 0.
-// A number, since document 01 numbers the refusals and a verdict knows nothing else of them.
-pub type Verdict = Result<Course, u8>;
+// The course of a request that is accepted, or the refusal; its file and place are 0.
+pub type Verdict = Result<Course, Refusal>;

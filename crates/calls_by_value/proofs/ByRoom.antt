@@ -13,13 +13,13 @@ use Rattle.calls.specs.Calls.{state_of, Promised}
 use Rattle.calls_by_value.specs.ByValue.{SoundOnRecords, PromisedOnRecords}
 
 module _ (room records : ℕ) (parties : List Party) (all : length parties ≡ most_entries) (is : records ≡ min room most_entries) where
-  pub same_table : take records parties ≡ take room parties
+  same_table : take records parties ≡ take room parties
   same_table = elim (cases_lt most_entries room) [
     | inl more ↦ take_all records parties (omega arith) ∙ sym (take_all room parties (omega arith))
     | inr within ↦ ap (λ n. take n parties) (omega arith)
   ]
 
-  pub stands_on : (ledger : Ledger) → SoundOnRecords room ledger parties → sound ledger (take records parties) (length (take records parties)) ≡ true
+  stands_on : (ledger : Ledger) → SoundOnRecords room ledger parties → sound ledger (take records parties) (length (take records parties)) ≡ true
   stands_on ledger stands = subst (λ table. sound ledger table (length table) ≡ true) (sym same_table) stands
 
   module _ (table : List Party) (many : length table ≡ length (take records parties)) where
@@ -44,3 +44,9 @@ module _ (room records : ℕ) (parties : List Party) (all : length parties ≡ m
               (subst (λ t. Promised (state_of ledger t) call answer (state_of after table)) same_table kept);
           past = left;
         }
+
+    -- and where the table is known to be sound
+    pub on_sound_records : (ledger after : Ledger) (call : Call) (answer : CallAnswer) → SoundOnRecords room ledger parties →
+        (sound ledger (take records parties) (length (take records parties)) ≡ true → Promised (state_of ledger (take records parties)) call answer (state_of after table)) →
+        PromisedOnRecords room ledger parties call answer after (table ++ drop records parties)
+    on_sound_records ledger after call answer stands kept = on_records ledger after call answer (kept (stands_on ledger stands))

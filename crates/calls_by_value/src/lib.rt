@@ -34,7 +34,8 @@ pub fn records_of(room: usize) -> usize
     room.min(MOST_ENTRIES)
 }
 
-// Each call takes the array and how many of its records count, since it has no slice lent: all three go by value.
+// Each call takes the array and how many of its records count, since it has no slice lent. Ledger, array and count stand side by side: a
+// call hands back the first two and never the third, and each promise names the three.
 // Each lends the records and hands on to one call: a function over a closure for the call would be no shorter.
 pub fn accept(
     mut ledger: Ledger,
@@ -55,7 +56,7 @@ pub fn accept(
 }
 
 // Each of these on a ledger that is known to be sound: one that was just read is not tested twice. A type for what is
-// known would need a maker of its own, and be no plainer than the clause.
+// known would hold the whole array for one call each in `stored_calls`, and be no plainer than the clause.
 #[inline(never)]
 pub fn accept_sound(
     mut ledger: Ledger,

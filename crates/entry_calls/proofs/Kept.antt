@@ -8,6 +8,7 @@ use Rattle.calls.proofs.Theorems.Calls.{promise_from}
 use Rattle.calls.specs.Calls.{state_of, Promised}
 use Rattle.calls.specs.Decision.{Answer, pay_out, hand_over, of_entry_call}
 use Rattle.entry_calls.specs.EntryCalls.{entry_change, changed_table, pay_out_change, hand_over_change}
+use Rattle.entry_calls.proofs.Theorems.EntryCalls.{kept_below, pay_out_within, pay_out_above, pay_out_missing, hand_over_there, hand_over_missing}
 use Rattle.entry_calls.proofs.Theorems.ChangeIsCall.{pay_out_is_call, hand_over_is_call}
 
 -- on a sound ledger the change is the call
@@ -27,3 +28,8 @@ module _ (ledger : Ledger) (table : List Party) (stands : sound ledger table (le
   hand_over_kept entry person answers leaves =
       let told = rw stands at (hand_over_is_call ledger table table entry person refl) in
       promise_from (ap of_entry_call answers ∙ told.0) (ap (state_of ledger) leaves ∙ told.1)
+
+-- what each call makes of an entry that has its place, and of one that has none
+pub ruleset paying = (kept_below, pay_out_within, pay_out_above, pay_out_missing)
+
+pub ruleset handing = (kept_below, hand_over_there, hand_over_missing)

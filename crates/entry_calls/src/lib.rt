@@ -23,16 +23,13 @@ fn place_of(ledger: &Ledger, table: &[Party], entry: u32) -> Result<usize, Refus
     ensures { MatchResult result (λ at. entry_place (length (take ledger.now.entries table.now)) entry ≡ Some at) (λ r. (entry_place (length (take ledger.now.entries table.now)) entry ≡ None) × (r ≡ refusal no_such_entry 0 0)) }
 {
     let entries = table.len().min(ledger.entries as usize) as u32;
-    match entry_at(entries, entry) {
-        Some(at) => Ok(at),
-        None => Err(Refusal::of_call(NO_SUCH_ENTRY)),
-    }
+    entry_at(entries, entry).ok_or(Refusal::of_call(NO_SUCH_ENTRY))
 }
 
 // Entry and amount, entry and person: two numbers each from the C interface down to here, and no struct.
 // Pay-out on a ledger whose soundness the caller has judged.
 // This and the next stand apart from the calls below, so that a ledger that was just read isn't tested twice.
-#[tactic(auto, using(crate::proofs::Theorems::EntryCalls::kept_below))]
+#[tactic(auto, using(crate::proofs::Kept::paying))]
 pub fn pay_out_sound(ledger: &Ledger, table: &mut [Party], entry: u32, amount: u64) -> Answer
     ensures answer { result ≡ (entry_change ledger.now table.old (pay_out entry amount)).answer }
     ensures after { table.new ≡ changed_table table.old (entry_change ledger.now table.old (pay_out entry amount)) }
@@ -47,7 +44,7 @@ pub fn pay_out_sound(ledger: &Ledger, table: &mut [Party], entry: u32, amount: u
 }
 
 // Hand-over on a ledger whose soundness the caller has judged.
-#[tactic(auto, using(crate::proofs::Theorems::EntryCalls::kept_below))]
+#[tactic(auto, using(crate::proofs::Kept::handing))]
 pub fn hand_over_sound(ledger: &Ledger, table: &mut [Party], entry: u32, person: u32) -> Answer
     ensures answer { result ≡ (entry_change ledger.now table.old (hand_over entry person)).answer }
     ensures after { table.new ≡ changed_table table.old (entry_change ledger.now table.old (hand_over entry person)) }

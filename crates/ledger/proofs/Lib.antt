@@ -1,5 +1,4 @@
 pub mod Places
 pub mod Rest
 pub mod Tallying
-pub mod Tests
 pub mod Theorems

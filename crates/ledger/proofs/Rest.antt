@@ -1,18 +1,16 @@
 -- The schemes and the zeros past the last one, one place at a time.
 use Prim.Native.Nat.{ℕ, suc, ◌+◌, ◌<◌, ◌≤◌}
-use mathlib.Core.Path.{◌≡◌, refl, sym, ap, ◌∙◌}
-use mathlib.Core.List.{List, [], ◌∷◌}
-use mathlib.Core.Bool.{Bool, true, false, not, cond}
+use mathlib.Core.Path.{◌≡◌, refl, sym, ◌∙◌}
+use mathlib.Core.List.{List}
+use mathlib.Core.Bool.{Bool, true, false, cond, ◌&&◌}
 use native.Mathlib.Numerals.{add-one}
 use native.Mathlib.Omega.{arith}
 use lib.ListN.{length, drop, get_or, drop_of_length-le}
 use lib.Seq.{drop-cons}
 use Rattle.std.specs.Prelude.{All, ◌↔◌}
-use Rattle.std.proofs.lemmas.List.Elements.{All-nil, All-cons, All-head, All-rest}
+use Rattle.std.proofs.lemmas.Bool.{cond-true, cond-false}
+use Rattle.std.proofs.lemmas.Bool.Decides.{Decides-by_and, same_from_decides}
 use Rattle.ledger.specs.Records.{no_scheme}
-use Rattle.ledger.proofs.Theorems.Sound.{both_true}
-use Rattle.tagged.proofs.Theorems.TestedAnswers.{passes, fails}
-use Rattle.ledger.proofs.Tests.{stops, goes_on}
 use Rattle.ledger.proofs.Theorems.Lookup.{placed_scheme}
 use Rattle.ledger.specs.Sound.{is_zero, all_zero, accounts_sound, schemes_sound}
 use Rattle.ledger.specs.Tallied.{no_tally, Tallied}
@@ -20,30 +18,20 @@ use Rattle.ledger.specs.declared.records.Scheme.{Scheme}
 use Rattle.ledger.specs.declared.records.Party.{Party}
 use Rattle.ledger.specs.declared.sound.Tally.{Tally}
 
-both_ways : (b c : Bool) → (b ≡ true → c ≡ true) → (c ≡ true → b ≡ true) → b ≡ c
-both_ways true c forth back = sym (forth refl)
-both_ways false true forth back = back refl
-both_ways false false forth back = refl
-
-abbrev IsZero : Scheme → Type 0
-IsZero scheme = is_zero scheme ≡ true
-
-each_zero : (schemes : List Scheme) → all_zero schemes ≡ true → All IsZero schemes
-unfolding all_zero
-each_zero [] all = All-nil IsZero
-each_zero (scheme ∷ schemes) all =
-    let both = both_true (is_zero scheme) (all_zero schemes) all in
-    All-cons IsZero scheme schemes both.0 (each_zero schemes both.1)
-
-zero_each : (schemes : List Scheme) → All IsZero schemes → all_zero schemes ≡ true
-unfolding all_zero
-zero_each [] each = refl
-zero_each (scheme ∷ schemes) each =
-    let zero : is_zero scheme ≡ true = All-head IsZero scheme schemes each in
-    ap (λ b. cond b (all_zero schemes) false) zero ∙ zero_each schemes (All-rest IsZero scheme schemes (scheme ∷ schemes) refl each)
+as_and : (b c : Bool) → cond b c false ≡ (b && c)
+as_and true c = refl
+as_and false c = refl
 
 pub by_each : (zero : Bool) (schemes : List Scheme) → (zero ≡ true ↔ All (λ scheme. is_zero scheme ≡ true) schemes) → zero ≡ all_zero schemes
-by_each zero schemes each = both_ways zero (all_zero schemes) (λ yes. zero_each schemes (each.0 yes)) (λ yes. each.1 (each_zero schemes yes))
+unfolding all_zero
+by_each zero schemes each =
+    let own = Decides-by_and is_zero (λ scheme. is_zero scheme ≡ true) all_zero (λ scheme. (λ yes. yes, λ yes. yes)) refl (λ scheme others. as_and (is_zero scheme) (all_zero others)) schemes in
+    same_from_decides zero (all_zero schemes) each own
+
+-- the last test of a list of conditions
+pub last_holds : (condition : Bool) → condition ≡ cond condition true false
+last_holds true = refl
+last_holds false = refl
 
 -- the scheme at place i has number i + 1, and its tally at i
 module _ (month : ℕ) (tallies : List Tally) (parties : List Party) (schemes : List Scheme) (i : ℕ)
@@ -56,12 +44,12 @@ module _ (month : ℕ) (tallies : List Tally) (parties : List Party) (schemes : 
       rw (add-one, drop-cons schemes i no_scheme h, t (suc i) i place)
 
   module _ {answer : Bool} (told : answer ≡ accounts_sound month (get_or schemes i no_scheme) (get_or tallies i no_tally)) where
-    pub schemes_stop : not answer ≡ true → schemes_sound month parties (suc i) (drop i schemes) ≡ false
-    schemes_stop failed = schemes_from ∙ stops (fails told failed) _
+    pub schemes_stop : answer ≡ false → schemes_sound month parties (suc i) (drop i schemes) ≡ false
+    schemes_stop failed = schemes_from ∙ cond-false _ _ _ (sym told ∙ failed)
 
-    pub schemes_go_on : not answer ≡ false →
+    pub schemes_go_on : answer ≡ true →
         schemes_sound month parties (suc i) (drop i schemes) ≡ schemes_sound month parties (suc (i + 1)) (drop (i + 1) schemes)
-    schemes_go_on passed = schemes_from ∙ goes_on (passes told passed)
+    schemes_go_on passed = schemes_from ∙ cond-true _ _ _ (sym told ∙ passed)
 
 pub schemes_end : (month : ℕ) (parties : List Party) (schemes : List Scheme) (i : ℕ) → length schemes ≤ i
     → schemes_sound month parties (suc i) (drop i schemes) ≡ true

@@ -1,7 +1,7 @@
--- One more entry at the end of the list: what it adds to its own scheme's tally, and that it leaves every other as it was.
+-- The tallies of the entries: one more adds to its own scheme's and leaves every other as it was; and what the loop over the entries keeps of them.
 use Rattle.std.specs.Prelude.{None, Some}
 use Prim.Native.Nat.{ℕ, ◌+◌, ◌<◌, ◌≤◌}
-use mathlib.Core.Path.{◌≡◌, refl, sym, ap, ◌∙◌}
+use mathlib.Core.Path.{◌≡◌, refl, sym, ap, subst, ◌∙◌}
 use mathlib.Core.List.{List, [], ◌∷◌, ◌++◌, map, map-append}
 use mathlib.Core.Bool.{Bool, true, false, cond}
 use native.Mathlib.Omega.{arith}
@@ -13,7 +13,10 @@ use borrow.Author.Tests.{leb-true, eqb-true, eqb-false}
 use Rattle.ledger.specs.Columns.{scheme_column, put_in_column, sum_over, first_put_in}
 use Rattle.ledger.proofs.Theorems.Columns as columns
 use Rattle.ledger.proofs.Theorems.Columns.{ones_again, of_own, of_other}
-use Rattle.ledger.specs.Limits.{most_schemes, highest_put_in, highest_credited}
+use Rattle.std.proofs.lemmas.Bool.{cond-true, cond-false}
+use Rattle.std.proofs.lemmas.List.{take_all}
+use Rattle.ledger.specs.Limits.{most_schemes, most_entries, highest_put_in, highest_credited}
+use Rattle.ledger.specs.Records.{no_party}
 use Rattle.ledger.specs.Lookup.{scheme_place}
 use Rattle.ledger.proofs.Theorems.Lookup.{scheme_placed, one_scheme}
 use Rattle.ledger.specs.Sound.{all_hold, figures_within, party_sound, parties_sound, tally_of}
@@ -89,7 +92,7 @@ module _ (count : ℕ) (few : count ≤ most_schemes) (tallies : List Tally) (si
   within : (s k : ℕ) → scheme_place count s ≡ Some k → k < length tallies
   within s k place = let placed = scheme_placed count s k place in omega (arith, placed.kept, placed.next)
 
-  pub tallied_more : (parties : List Party) → Tallied count tallies parties →
+  tallied_more : (parties : List Party) → Tallied count tallies parties →
       Tallied count (set tallies j (tally_with (get_or tallies j no_tally) party)) (parties ++ (party ∷ []))
   tallied_more parties told s k place = by (eqb party.scheme s) refl
     where
@@ -110,15 +113,12 @@ module _ (count : ℕ) (few : count ≤ most_schemes) (tallies : List Tally) (si
           ∙ told s k place
           ∙ sym (other_more s party parties other)
 
-pub within_more : (n : ℕ) (tally : Tally) (party : Party) → party.put_in ≤ highest_put_in → party.credited ≤ highest_credited → TallyWithin n tally →
+within_more : (n : ℕ) (tally : Tally) (party : Party) → party.put_in ≤ highest_put_in → party.credited ≤ highest_credited → TallyWithin n tally →
     TallyWithin (n + 1) (tally_with tally party)
 within_more n tally party p q w = record { many = omega (arith, w.many); credits = omega (arith, w.credits); put = omega (arith, w.put) }
 
 within_le : (m n : ℕ) (tally : Tally) → m ≤ n → TallyWithin m tally → TallyWithin n tally
 within_le m n tally l w = record { many = omega (arith, w.many); credits = omega (arith, w.credits); put = omega (arith, w.put) }
-
-pub within_le_all : (m n : ℕ) (tallies : List Tally) → m ≤ n → TalliesWithin m tallies → TalliesWithin n tallies
-within_le_all m n tallies l w k h = within_le m n (get_or tallies k no_tally) l (w k h)
 
 bounded_more : (n : ℕ) (tallies : List Tally) (j : ℕ) (party : Party) → length tallies ≡ most_schemes → party.put_in ≤ highest_put_in →
     party.credited ≤ highest_credited → TalliesWithin n tallies → TalliesWithin (n + 1) (set tallies j (tally_with (get_or tallies j no_tally) party))
@@ -135,46 +135,65 @@ bounded_more n tallies j party sized p q b k h = by (eqb j k) refl
 
 -- ---- the loop
 
-pub parties_from : (count : ℕ) (parties : List Party) (i : ℕ) (none : Party) → i < length parties →
-    parties_sound count (drop i parties) ≡ cond (party_sound count (get_or parties i none)) (parties_sound count (drop (i + 1) parties)) false
-unfolding parties_sound
-parties_from count parties i none h = rw (add-one, drop-cons parties i none h)
-
-pub parties_end : (count : ℕ) (parties : List Party) (i : ℕ) → length parties ≤ i → parties_sound count (drop i parties) ≡ true
-unfolding parties_sound
-parties_end count parties i past = rw (drop_of_length-le parties past)
-
--- an entry whose scheme was never opened; one whose scheme has a place is judged by its figures
-pub never_opened : (count : ℕ) (party : Party) → scheme_place count party.scheme ≡ None → party_sound count party ≡ false
-never_opened count party none = rw none
-
-pub by_figures : (count k : ℕ) (party : Party) → scheme_place count party.scheme ≡ Some k → all_hold (figures_within party) ≡ party_sound count party
-by_figures count k party here = rw here
-
--- what the loop keeps when the first i entries are passed
+-- what the loop keeps when the first i entries are passed: the entries from place i on decide
 pub record Kept (count : ℕ) (tallies : List Tally) (parties : List Party) (i : ℕ) : Type 0 where
+  pub undecided : parties_sound count parties ≡ parties_sound count (drop i parties)
   pub sized : length tallies ≡ most_schemes
   pub tallied : Tallied count tallies (take i parties)
   pub bounded : TalliesWithin i tallies
 
-pub kept_start : (count : ℕ) → count ≤ most_schemes → (parties : List Party) → Kept count no_tallies parties 0
+pub kept_start : (count : ℕ) (tallies : List Tally) (parties : List Party) → tallies ≡ no_tallies → count ≤ most_schemes → Kept count tallies parties 0
 unfolding no_tallies sum_over first_put_in
-kept_start count few parties =
-    record {
+kept_start count tallies parties new few =
+    rw new
+    (record {
+      undecided = refl;
       sized = length-replicate most_schemes no_tally;
       tallied = λ s k place. let placed = scheme_placed count s k place in get_or-replicate most_schemes k no_tally no_tally (omega (arith, placed.kept, placed.next));
       bounded = λ k h. rw (get_or-replicate most_schemes k no_tally no_tally h) (record { many = omega arith; credits = omega arith; put = omega arith });
-    }
+    })
 
-pub kept_more : (tallies : List Tally) (parties : List Party) (i count j : ℕ) (none : Party) → count ≤ most_schemes →
-    scheme_place count (get_or parties i none).scheme ≡ Some j → all_hold (figures_within (get_or parties i none)) ≡ true → i < length parties →
-    Kept count tallies parties i → Kept count (set tallies j (tally_with (get_or tallies j no_tally) (get_or parties i none))) parties (i + 1)
-kept_more tallies parties i count j none few here sound h kept =
-    let party : Party = get_or parties i none in
-    let each = held (figures_within party) sound in
-    let more : take (i + 1) parties ≡ take i parties ++ (party ∷ []) = rw add-one (take-suc parties i none h) in
-    record {
-      sized = simp length-set kept.sized;
-      tallied = rw more (tallied_more count few tallies kept.sized party j here (take i parties) kept.tallied);
-      bounded = bounded_more i tallies j party kept.sized (leb-true _ _ (each 2)) (leb-true _ _ (each 3)) kept.bounded;
-    }
+module _ {count : ℕ} {tallies : List Tally} {parties : List Party} {i : ℕ} (kept : Kept count tallies parties i) where
+  module _ (h : i < length parties) where
+    from_here : parties_sound count parties ≡ cond (party_sound count (get_or parties i no_party)) (parties_sound count (drop (i + 1) parties)) false
+    unfolding parties_sound
+    from_here = kept.undecided ∙ rw (add-one, drop-cons parties i no_party h)
+
+    -- an entry whose scheme was never opened
+    pub never_opened : scheme_place count (get_or parties i no_party).scheme ≡ None → parties_sound count parties ≡ false
+    never_opened none = rw none at from_here
+
+    -- one whose scheme has a place is judged by its figures
+    module _ {j : ℕ} (here : scheme_place count (get_or parties i no_party).scheme ≡ Some j) where
+      by_figures : parties_sound count parties ≡ cond (all_hold (figures_within (get_or parties i no_party))) (parties_sound count (drop (i + 1) parties)) false
+      by_figures = rw here at from_here
+
+      pub figures_fail : all_hold (figures_within (get_or parties i no_party)) ≡ false → parties_sound count parties ≡ false
+      figures_fail failed = by_figures ∙ cond-false _ _ _ failed
+
+      pub kept_more : {tally : Tally} → tally ≡ tally_with (get_or tallies j no_tally) (get_or parties i no_party) → count ≤ most_schemes →
+          all_hold (figures_within (get_or parties i no_party)) ≡ true → Kept count (set tallies j tally) parties (i + 1)
+      kept_more more_tallied few sound =
+          let party : Party = get_or parties i no_party in
+          let each = held (figures_within party) sound in
+          let more : take (i + 1) parties ≡ take i parties ++ (party ∷ []) = rw add-one (take-suc parties i no_party h) in
+          rw more_tallied
+          (record {
+            undecided = by_figures ∙ cond-true _ _ _ sound;
+            sized = simp length-set kept.sized;
+            tallied = rw more (tallied_more count few tallies kept.sized party j here (take i parties) kept.tallied);
+            bounded = bounded_more i tallies j party kept.sized (leb-true _ _ (each 2)) (leb-true _ _ (each 3)) kept.bounded;
+          })
+
+  -- after the last entry
+  pub kept_all : length parties ≤ most_entries → length parties ≡ i → (parties_sound count parties ≡ true) × Tallied count tallies parties × TalliesWithin most_entries tallies
+  unfolding parties_sound
+  kept_all few all =
+      let past : length parties ≤ i = omega arith in (
+        kept.undecided ∙ rw (drop_of_length-le parties past),
+        subst (Tallied count tallies) (take_all i parties past) kept.tallied,
+        λ k h. within_le i most_entries (get_or tallies k no_tally) (omega arith) (kept.bounded k h),
+      )
+
+-- what the loop's goals need of these
+pub ruleset tallying = (scheme_placed, never_opened, figures_fail, kept_all)

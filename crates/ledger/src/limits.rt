@@ -22,8 +22,6 @@ pub const HIGHEST_SUM: u64 = 1_100_000_000_000;
 
 pub type Schemes = [Scheme; MOST_SCHEMES];
 
-// A fixed array, of which the ledger says how many entries it holds: the firmware has no heap.
+// A fixed array, of which the ledger says how many entries it holds, also where that is more than these. That a slice of entries is no
+// longer, and each within the limits, is a clause where it is asked: a lent slice is of no type that could say so.
 pub type Parties = [Party; MOST_ENTRIES];
-
-// What each entry is credited.
-pub type Credits = [u64; MOST_ENTRIES];

@@ -28,7 +28,8 @@ pub struct Party {
     pub paid_out: u64,
 }
 
-// The schemes are a fixed array, of which the first `count` were opened: the firmware has no heap.
+// The schemes are a fixed array, of which the first `count` were opened, and no ArrayVec of the library: a ledger is Copy, and handed over
+// with any count, sound or not. That all places of the array are there is a clause where a proof needs it before the code reads the length.
 // The counts have no limit here, as a ledger is handed over sound or not: where it was tested, clauses say it.
 #[derive(Clone, Copy)]
 pub struct Ledger {
@@ -43,7 +44,7 @@ pub struct Ledger {
     pub schemes: Schemes,
 }
 
-// This and the new ledger are functions: arrays of so many records have no Default.
+// This and the new ledger are functions: `[x; N]` says the value itself, where an array's Default says it place by place.
 #[tactic(auto, unfolding(crate::specs::Records::no_parties))]
 pub fn no_parties() -> Parties
     ensures { result ≡ no_parties }

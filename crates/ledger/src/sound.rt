@@ -6,8 +6,8 @@ ghost use Rattle.ledger.specs.Sound.{all_hold, counts_sound, sums_sound, figures
 ghost use Rattle.ledger.specs.Tallied.{no_tallies, tally_with, Tallied, TallyWithin, TalliesWithin};
 
 use crate::limits::{
-    HIGHEST_CREDITED, HIGHEST_PUT_IN, HIGHEST_SUM, MOST_CONNECTIONS, MOST_ENTRIES_COUNTED,
-    MOST_SCHEMES, MOST_SCHEMES_COUNTED, Parties,
+    HIGHEST_CREDITED, HIGHEST_PUT_IN, HIGHEST_SUM, MOST_CONNECTIONS, MOST_ENTRIES,
+    MOST_ENTRIES_COUNTED, MOST_SCHEMES, MOST_SCHEMES_COUNTED, Parties,
 };
 use crate::lookup::scheme_at;
 use crate::records::{Ledger, Party, Scheme};
@@ -77,7 +77,7 @@ fn tally_with(tally: &Tally, party: &Party) -> Tally
     }
 }
 
-// A function, as an array of so many has no Default.
+// A function: `[x; N]` says the value itself, where an array's Default says it place by place.
 #[tactic(auto, unfolding(crate::specs::Tallied::no_tallies))]
 fn no_tallies() -> Tallies
     ensures { result ≡ no_tallies }
@@ -86,6 +86,7 @@ fn no_tallies() -> Tallies
 }
 
 // What each scheme's entries come to, if every entry is sound.
+#[tactic(auto, using(crate::proofs::Tallying::tallying))]
 fn tally_entries(parties: &[Party], count: u32) -> Option<Tallies>
     requires { (length parties.now ≤ most_entries) × (count ≤ most_schemes) }
     ensures { MatchOption result (parties_sound count parties.now ≡ false) (λ tallies. (parties_sound count parties.now ≡ true) × Tallied count tallies parties.now × TalliesWithin most_entries tallies) }
@@ -152,7 +153,8 @@ fn records_sound(ledger: &Ledger, entries: &[Party]) -> bool
 }
 
 // Whether a ledger is sound with the party table that these are the records of. In this and in the calls the table is
-// lent beside the ledger, a slice as document 01 names it, and is no part of a struct with it.
+// lent beside the ledger, a slice as document 01 names it, and is no part of a struct with it; and that both are sound is a
+// clause of the calls, since a type for it would borrow both, which the calls change.
 #[tactic(auto, unfolding(crate::specs::Sound::sound))]
 pub fn is_sound(ledger: &Ledger, table: &[Party]) -> bool
     ensures holds { result ≡ sound ledger.now table.now (length table.now) }
@@ -164,11 +166,11 @@ pub fn is_sound(ledger: &Ledger, table: &[Party]) -> bool
 }
 
 // The same of an array whose first `room` records are the table, or all of them: a table read from a file has no other length yet.
-#[tactic(auto, unfolding(crate::specs::Sound::sound))]
+// `inline(never)`: in a caller's frame the tallies would stay on the stack.
+#[inline(never)]
+#[tactic(auto, using(crate::proofs::Theorems::SameEntries::sound_in_first))]
 pub fn sound(ledger: &Ledger, parties: &Parties, room: usize) -> bool
     ensures { result ≡ sound ledger.now parties.now room }
 {
-    counts_sound(ledger, room)
-        && sums_sound(ledger)
-        && records_sound(ledger, &parties[..ledger.entries as usize])
+    is_sound(ledger, &parties[..room.min(MOST_ENTRIES)])
 }

@@ -8,7 +8,8 @@ ghost use Rattle.ledger.specs.Table.{credited_more};
 
 use ledger::records::Party;
 
-// Document 01 names the form: a thin function each to append an entry, to credit one and to pay one.
+// Document 01 names the form: a thin function each to append an entry, to credit one and to pay one. Table and place go side by side: a
+// place doesn't know the table that it was found in.
 pub fn put_one(table: &mut [Party], at: usize, party: Party)
     requires { at < length table.old }
     ensures { table.new ≡ set table.old at party }

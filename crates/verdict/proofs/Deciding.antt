@@ -1,7 +1,8 @@
--- K of a scheme, one entry more at a time.
-use Prim.Native.Nat.{ℕ, ◌+◌, ◌<◌}
-use mathlib.Core.Path.{◌≡◌}
-use mathlib.Core.List.{List, map-append}
+-- What deciding reads of a ledger and its table: K of a scheme, one entry more at a time, and the rules on the places that the ledger has.
+use Rattle.std.specs.Prelude.{None, Some, Err, Ok}
+use Prim.Native.Nat.{ℕ, ◌+◌, ◌<◌, ◌≤◌}
+use mathlib.Core.Path.{◌≡◌, refl}
+use mathlib.Core.List.{List, [], map-append}
 use mathlib.Core.Bool.{cond}
 use native.Mathlib.Numerals.{add-one}
 use native.Mathlib.Omega.{arith}
@@ -10,21 +11,68 @@ use lib.ListN.{length, take, get_or}
 use lib.Seq.{take-suc}
 use borrow.Author.Tests.{eq-eqb, ne_eqb}
 use Rattle.ledger.specs.Columns.{scheme_column, capacity_column, sum_over}
+use Rattle.tagged.specs.File.{refusal}
+use Rattle.tagged.specs.Refusals.{no_scheme_left, no_entry_left}
+use Rattle.charge.specs.declared.Bill.{Bill}
+use Rattle.ledger.specs.Books.{Books, scheme_particulars}
+use Rattle.ledger.specs.Lookup.{scheme_place}
+use Rattle.ledger.specs.Records.{no_scheme, no_party}
 use Rattle.ledger.specs.declared.records.Party.{Party}
+use Rattle.ledger.specs.declared.records.Ledger.{Ledger}
 use Rattle.ledger.proofs.Tallying.{sum_more}
+use Rattle.ledger.proofs.Theorems.Sound.{sound_means}
+use Rattle.calls.specs.Rules.{parties_of, capacity_of}
+use Rattle.calls.specs.Verdict.{joining_part, joining_of, schemes_lacking, entries_lacking, entries_needed, course_verdict}
+use Rattle.calls.specs.declared.courses.Joining.{Joining}
+use Rattle.calls.specs.declared.courses.Joining.TheVariants.{Ended}
+use Rattle.calls.specs.declared.courses.Course.{Course}
+use Rattle.calls.proofs.Theorems.ByPlace.{scheme_by_place, capacity_by_place}
+use Rattle.calls.proofs.Theorems.Verdict.{verdict_refused_10, verdict_refused_7, verdict_refused_6, verdict_course}
+use Rattle.verdict.specs.Snapshot.{snapshot_books}
+use Rattle.verdict.proofs.Theorems.Snapshot.{snapshot_counted}
 
 -- K of the first i entries
 abbrev pub capacity_up_to : ℕ → List Party → ℕ → ℕ
 capacity_up_to s parties i = sum_over s (scheme_column (take i parties)) (capacity_column (take i parties))
 
-module _ (s : ℕ) (parties : List Party) (i : ℕ) (none : Party) (within : i < length parties) where
-  capacity_more : capacity_up_to s parties (i + 1) ≡ capacity_up_to s parties i + cond (eqb (get_or parties i none).scheme s) (get_or parties i none).capacity 0
-  capacity_more =
-      rw (add-one, take-suc parties i none)
-      (simp map-append (sum_more s (λ party. party.scheme) (λ party. party.capacity) (get_or parties i none) (take i parties)))
+pub capacity_none : (s : ℕ) (capacities : List ℕ) → sum_over s [] capacities ≡ 0
+unfolding sum_over
+capacity_none s capacities = refl
 
-  pub capacity_own : (get_or parties i none).scheme ≡ s → capacity_up_to s parties (i + 1) ≡ capacity_up_to s parties i + (get_or parties i none).capacity
+module _ (s : ℕ) (parties : List Party) (i : ℕ) (within : i < length parties) where
+  capacity_more : capacity_up_to s parties (i + 1) ≡ capacity_up_to s parties i + cond (eqb (get_or parties i no_party).scheme s) (get_or parties i no_party).capacity 0
+  capacity_more =
+      rw (add-one, take-suc parties i no_party within)
+      (simp map-append (sum_more s (λ party. party.scheme) (λ party. party.capacity) (get_or parties i no_party) (take i parties)))
+
+  pub capacity_own : (get_or parties i no_party).scheme ≡ s → capacity_up_to s parties (i + 1) ≡ capacity_up_to s parties i + (get_or parties i no_party).capacity
   capacity_own own = rw (eq-eqb _ _ own) at capacity_more
 
-  pub capacity_other : ((get_or parties i none).scheme ≡ s → ⊥) → capacity_up_to s parties (i + 1) ≡ capacity_up_to s parties i
+  pub capacity_other : ((get_or parties i no_party).scheme ≡ s → ⊥) → capacity_up_to s parties (i + 1) ≡ capacity_up_to s parties i
   capacity_other other = omega (arith, rw (ne_eqb _ _ other) at capacity_more)
+
+-- ---- the joining and the course, by what the ledger has at its places
+
+module _ (ledger : Ledger) (table : List Party) (room : ℕ) (places : ledger.count ≤ length ledger.schemes) where
+  module _ (bill : Bill) (asked : bill.applicant.scheme ≡ 0 → ⊥) where
+    pub joining_missing : scheme_place ledger.count bill.applicant.scheme ≡ None → joining_part (snapshot_books ledger table room) bill ≡ Ended
+    joining_missing none = rw (ne_eqb _ _ asked, scheme_by_place ledger table bill.applicant.scheme places, none)
+
+    pub joining_placed : (at : ℕ) → scheme_place ledger.count bill.applicant.scheme ≡ Some at → (joining : Joining) →
+        ((books : Books) (number : ℕ) → capacity_of (parties_of bill.applicant.scheme books) ≡
+        sum_over bill.applicant.scheme (scheme_column (take ledger.entries table)) (capacity_column (take ledger.entries table)) →
+        joining ≡ joining_of books bill (scheme_particulars number (get_or ledger.schemes at no_scheme))) →
+        joining ≡ joining_part (snapshot_books ledger table room) bill
+    joining_placed at place joining told =
+        rw (ne_eqb _ _ asked, scheme_by_place ledger table bill.applicant.scheme places, place)
+        (told (snapshot_books ledger table room) (1 + at) (capacity_by_place bill.applicant.scheme ledger table))
+
+  pub course_by_counts : (course : Course) → ledger.entries ≤ length table → course_verdict (snapshot_books ledger table room) course ≡
+      cond (schemes_lacking ledger.count course.opens) (Err (refusal no_scheme_left 0 0))
+      (cond (entries_lacking ledger.entries room (entries_needed course)) (Err (refusal no_entry_left 0 0)) (Ok course))
+  course_by_counts course kept =
+      let counted = snapshot_counted ledger table room places kept in
+      rw (counted.schemes, counted.entries)
+
+-- the refusals in their order, and the course that is left
+pub ruleset in_order = (sound_means, verdict_refused_10, verdict_refused_7, verdict_refused_6, verdict_course)

@@ -16,6 +16,7 @@ use calls::courses::{Contribution, Course, Joining, Verdict};
 use charge::Bill;
 use ledger::limits::{MOST_CONNECTIONS, MOST_ENTRIES_COUNTED, Schemes};
 use ledger::records::{Ledger, Party, Scheme};
+use tagged::file::Refusal;
 use tagged::refusals::{
     MONTH_BEFORE_LAST, NO_CONNECTION_LEFT, NO_ENTRY_LEFT, NO_SCHEME_LEFT, SCHEME_NEVER_OPENED,
 };
@@ -37,6 +38,7 @@ fn opens_scheme(bill: &Bill) -> bool
 }
 
 // K: the capacity of all parties of a scheme.
+#[tactic(auto, using(crate::proofs::Deciding::capacity_none, crate::proofs::Deciding::capacity_own, crate::proofs::Deciding::capacity_other))]
 fn capacity_of(entries: &[Party], scheme: u16) -> u64
     requires { length entries.now ≤ most_entries }
     ensures { (result ≡ sum_over scheme (scheme_column entries.now) (capacity_column entries.now)) × (result ≤ 4294967295 * length entries.now) }
@@ -80,7 +82,7 @@ fn joining_of(entries: &[Party], scheme: &Scheme, bill: &Bill) -> Joining
     })
 }
 
-#[tactic(auto, using(ledger::proofs::Theorems::Lookup::scheme_placed))]
+#[tactic(auto, using(ledger::proofs::Theorems::Lookup::scheme_placed, crate::proofs::Deciding::joining_missing))]
 fn joining_part(ledger: &Ledger, table: &[Party], bill: &Bill) -> Joining
     requires { (ledger.now.count ≤ most_schemes) × (ledger.now.entries ≤ most_entries) × (ledger.now.entries ≤ length table.now) × (1 ≤ bill.now.applicant.capacity) }
     ensures { (room : ℕ) → result ≡ joining_part (snapshot_books ledger.now table.now room) bill.now }
@@ -112,34 +114,35 @@ fn schemes_lacking(schemes: &Schemes, count: u32, opens: bool) -> bool
 }
 
 // 8 and 9, where the table has `room` records.
+#[tactic(auto, using(crate::proofs::Deciding::course_by_counts))]
 fn course_verdict(ledger: &Ledger, room: usize, course: Course) -> Verdict
     requires { (ledger.now.count ≤ most_schemes) × (ledger.now.entries ≤ most_entries) }
     ensures decided { (table : List Party) → ledger.now.entries ≤ length table → result ≡ course_verdict (snapshot_books ledger.now table room) course }
     ensures places { length ledger.now.schemes ≡ most_schemes }
 {
     if schemes_lacking(&ledger.schemes, ledger.count, course.opens) {
-        return Err(NO_SCHEME_LEFT);
+        return Err(Refusal::of_call(NO_SCHEME_LEFT));
     }
     if entries_lacking(ledger.entries, room, entries_needed(&course)) {
-        return Err(NO_ENTRY_LEFT);
+        return Err(Refusal::of_call(NO_ENTRY_LEFT));
     }
     Ok(course)
 }
 
-#[tactic(auto, using(ledger::proofs::Theorems::Sound::sound_means, calls::proofs::Theorems::Verdict::verdict_refused_10, calls::proofs::Theorems::Verdict::verdict_refused_7, calls::proofs::Theorems::Verdict::verdict_refused_6))]
+#[tactic(auto, using(crate::proofs::Deciding::in_order))]
 pub fn verdict_of(ledger: &Ledger, table: &[Party], bill: &Bill) -> Verdict
     requires { (sound ledger.now table.now (length table.now) ≡ true) × (1 ≤ bill.now.applicant.capacity) }
     ensures decided { result ≡ verdict (snapshot_books ledger.now table.now (length table.now)) bill.now }
     ensures places { OnOk result (length ledger.now.schemes ≡ most_schemes) }
 {
     if MOST_CONNECTIONS <= ledger.connections {
-        return Err(NO_CONNECTION_LEFT);
+        return Err(Refusal::of_call(NO_CONNECTION_LEFT));
     }
     if bill.applicant.month < ledger.month {
-        return Err(MONTH_BEFORE_LAST);
+        return Err(Refusal::of_call(MONTH_BEFORE_LAST));
     }
     if ledger.count < u32::from(bill.applicant.scheme) {
-        return Err(SCHEME_NEVER_OPENED);
+        return Err(Refusal::of_call(SCHEME_NEVER_OPENED));
     }
     let course = Course {
         joining: joining_part(ledger, table, bill),

@@ -1,3 +1,4 @@
+-- The theorems of AcceptAnswers, which go by the cases of the call's definition.
 use Rattle.accept_rules.specs.Theorems.AcceptAnswers.{accept_answers, answers_only, accept_refused_changes_nothing, accept_refusal_numbers}
 use Rattle.accept_rules.proofs.accept_answers.Goals as goal
 

@@ -1,3 +1,4 @@
+-- The cases are computed where they are stated, in specs/Cases.
 use Rattle.accept_rules.specs.Cases.Accept.{accept_cases_hold}
 use Rattle.accept_rules.specs.Cases.BuildingOn.{short_table_cases_hold}
 use Rattle.accept_rules.proofs.accept_cases_hold.Goals as goal

@@ -173,7 +173,7 @@ module _ (state : State) (pricing : Pricing) (places : length state.ledger.schem
 
       full : most_schemes < state.ledger.count + new → Accepts-as (is_refused (refusal no_scheme_left 0 0)) state
       full lacks =
-          by_course (Err no_scheme_left)
+          by_course (Err (refusal no_scheme_left 0 0))
           (course_refused_8 (books_on state) course (rw schemes (schemes_lacking_lem opens.part state.ledger.count opens.needs stands.schemes lacks)))
 
       module _ (some : state.ledger.count + new ≤ most_schemes) where
@@ -182,7 +182,7 @@ module _ (state : State) (pricing : Pricing) (places : length state.ledger.schem
 
         no_entries : EntriesLacking state (entries + new) → Accepts-as (is_refused (refusal no_entry_left 0 0)) state
         no_entries lacks =
-            by_course (Err no_entry_left)
+            by_course (Err (refusal no_entry_left 0 0))
             (course_refused_9 (books_on state) course few (rw (entered, ← needed) (entries_lacking_lem state h.billed.stands (entries + new) lacks)))
 
         both : EntriesLeft state (entries + new) → Accepts-as (accepted_as bill joining opening) after
@@ -196,10 +196,10 @@ module _ (state : State) (pricing : Pricing) (places : length state.ledger.schem
   accepts_as : {answer : CallAnswer} {after : State} → Answers state pricing answer after → Accepts-as answer after
   accepts_as (refused_13 unsound) = by_decision (refused (refusal ledger_unsound 0 0)) (rw unsound)
   accepts_as (refused_by_pricing {r} stands e) = by_decision (refused r) (rw (stands, e))
-  accepts_as (refused_10 {bill} h taken) = by_verdict bill (Err no_connection_left) h (verdict_refused_10 (books_on state) bill taken)
-  accepts_as (refused_7 {bill} h connections before) = by_verdict bill (Err month_before_last) h (verdict_refused_7 (books_on state) bill connections before)
+  accepts_as (refused_10 {bill} h taken) = by_verdict bill (Err (refusal no_connection_left 0 0)) h (verdict_refused_10 (books_on state) bill taken)
+  accepts_as (refused_7 {bill} h connections before) = by_verdict bill (Err (refusal month_before_last 0 0)) h (verdict_refused_7 (books_on state) bill connections before)
   accepts_as (refused_6 {bill} h never) =
-      by_verdict bill (Err scheme_never_opened) h.billed (verdict_refused_6 (books_on state) bill h.connections h.month (omega arith))
+      by_verdict bill (Err (refusal scheme_never_opened 0 0)) h.billed (verdict_refused_6 (books_on state) bill h.connections h.month (omega arith))
   accepts_as (refused_8 {bill} h joining opening lacks) = full bill h (joining_is bill joining) (opening_is bill opening) lacks
   accepts_as (refused_9 {bill} h joining opening some lacks) = no_entries bill h (joining_is bill joining) (opening_is bill opening) some lacks
   accepts_as (accepts {bill} h joining opening some left) = both bill h (joining_is bill joining) (opening_is bill opening) some left

@@ -117,7 +117,7 @@ module _ (ledger : Ledger) (parties : List Party) (room : ℕ) (places : length 
         FitsIfAccepted ledger.entries room parties (verdict_plan ledger parties room bill v)
     bill_fits bill (Ok course) accepts acceptance e =
         course_fits bill course (course_conditions (snapshot_books ledger parties room) bill course accepts)
-    bill_fits bill (Err number) refuses acceptance e = impossible cc
+    bill_fits bill (Err r) refuses acceptance e = impossible cc
 
     priced_fits : (pricing : Pricing) → FitsIfAccepted ledger.entries room parties (priced_plan ledger parties room pricing)
     priced_fits (Ok bill) =

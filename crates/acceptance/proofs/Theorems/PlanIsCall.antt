@@ -204,7 +204,7 @@ module _ (ledger : Ledger) (table parties : List Party) (snapshot : take ledger.
   verdict_is_call : (bill : Bill) (v : Verdict) → sound ledger table (length table) ≡ true → verdict (books_of ledger table) bill ≡ v →
       IsCall ledger table (verdict_plan ledger parties (length table) bill v) (decided_by (books_of ledger table) bill v)
   verdict_is_call bill (Ok course) stands accepts = course_is_call bill course stands accepts
-  verdict_is_call bill (Err number) stands refuses = record { answers = refl; leaving = refl }
+  verdict_is_call bill (Err r) stands refuses = record { answers = refl; leaving = refl }
 
   priced_is_call : (pricing : Pricing) → sound ledger table (length table) ≡ true →
       IsCall ledger table (priced_plan ledger parties (length table) pricing) (accept_by (books_of ledger table) pricing)

@@ -3,6 +3,7 @@ use Rattle.std.specs.Prelude.{ℕ, ◌+◌, ◌-◌, ◌<◌, ◌≤◌, ◌≡�
 use Rattle.std.proofs.Common.{ap, subst, ◌∙◌, arith, leb-false, ltb-true, ltb-false, eqb-true}
 use Rattle.std.proofs.lemmas.Bool.{eqb-false}
 use Rattle.tagged.proofs.Theorems.Impossible.{impossible}
+use Rattle.tagged.specs.File.{refusal}
 use Rattle.tagged.specs.Refusals.{scheme_never_opened, month_before_last, no_scheme_left, no_entry_left, no_connection_left}
 use Rattle.charge.specs.declared.Bill.{Bill}
 use Rattle.ledger.specs.Limits.{most_schemes, most_entries, most_connections}
@@ -38,7 +39,7 @@ pub record CourseConditions (books : Books) (bill : Bill) (course : Course) : Ty
 
 abbrev pub VerdictConditions : Books → Bill → Verdict → Type 0
 VerdictConditions books bill (Ok course) = CourseConditions books bill course
-VerdictConditions books bill (Err number) = Unit {0}
+VerdictConditions books bill (Err r) = Unit {0}
 
 -- entries are left, where any is needed
 record EntriesLeft (entries room needed : ℕ) : Type 0 where
@@ -62,7 +63,7 @@ not_many false many h o = impossible cc
 
 -- a verdict refuses with one of them, or accepts the request's course, which has passed every test
 pub verdict_by : (P : Verdict → Type 0) (books : Books) (bill : Bill) →
-    ((number : ℕ) → one_of verdict_numbers number ≡ true → P (Err number)) →
+    ((number : ℕ) → one_of verdict_numbers number ≡ true → P (Err (refusal number 0 0))) →
     (CourseConditions books bill (course_of books bill) → P (Ok (course_of books bill))) → P (verdict books bill)
 unfolding verdict
 verdict_by P books bill refuses accepts =

@@ -4,7 +4,7 @@ use Rattle.std.specs.Prelude.{ℕ, ◌+◌, ◌≡◌, refl, List, [], ◌∷◌
 use Rattle.tagged.specs.File.{refusal}
 use Rattle.reconciliation.specs.Reconciliation.{reconciliation_of}
 use Rattle.reconciliation.specs.declared.Reconciliation.{Reconciliation}
-use Rattle.charge.specs.declared.Terms.{Terms}
+use Rattle.rate_book.specs.declared.fields.Terms.{Terms}
 use Rattle.charge.specs.declared.Applicant.{Applicant}
 use Rattle.charge.specs.declared.Bill.{Bill}
 use Rattle.ledger.specs.Lists.{numbered_from}
@@ -152,32 +152,32 @@ abbrev pub verdict_cases : List ((Books × Bill) × Verdict)
 verdict_cases =
     -- the 64th and the 65th scheme
     ((books 3000 2 63 2 3, opening), Ok opens) ∷
-    ((books 3000 2 64 2 3, opening), Err 8) ∷
+    ((books 3000 2 64 2 3, opening), Err (refusal 8 0 0)) ∷
     -- the 512th and the 513th entry, opening and joining
     ((books 3000 2 1 511 600, opening), Ok opens) ∷
-    ((books 3000 2 1 512 600, opening), Err 9) ∷
+    ((books 3000 2 1 512 600, opening), Err (refusal 9 0 0)) ∷
     ((books 3000 2 1 511 600, joining), Ok (joins 500 100 30)) ∷
-    ((books 3000 2 1 512 600, joining), Err 9) ∷
+    ((books 3000 2 1 512 600, joining), Err (refusal 9 0 0)) ∷
     -- the table's last record, and none left; "an opening on table length 0 is 9"
     ((books 3000 2 1 2 3, opening), Ok opens) ∷
-    ((books 3000 2 1 2 2, opening), Err 9) ∷
+    ((books 3000 2 1 2 2, opening), Err (refusal 9 0 0)) ∷
     ((books 3000 2 1 2 3, joining), Ok (joins 500 100 30)) ∷
-    ((books 3000 2 1 2 2, joining), Err 9) ∷
-    ((books 3000 0 0 0 0, opening), Err 9) ∷
+    ((books 3000 2 1 2 2, joining), Err (refusal 9 0 0)) ∷
+    ((books 3000 0 0 0 0, opening), Err (refusal 9 0 0)) ∷
     -- connection 1,000,000 and the one after it
     ((books 3000 999999 1 2 3, opening), Ok opens) ∷
-    ((books 3000 1000000 1 2 3, opening), Err 10) ∷
+    ((books 3000 1000000 1 2 3, opening), Err (refusal 10 0 0)) ∷
     ((books 3000 999999 1 2 3, joining), Ok (joins 500 100 30)) ∷
-    ((books 3000 1000000 1 2 3, joining), Err 10) ∷
+    ((books 3000 1000000 1 2 3, joining), Err (refusal 10 0 0)) ∷
     -- "month 24,314 after 24,315 is 7"
     ((books 3000 2 1 2 3, with_month 24315 opening), Ok opens) ∷
-    ((books 3000 2 1 2 3, with_month 24314 opening), Err 7) ∷
-    ((books 3000 2 1 2 3, with_month 24314 (bill_of book 1000)), Err 7) ∷
-    ((books 3000 2 1 2 3, with_month 24314 joining), Err 7) ∷
+    ((books 3000 2 1 2 3, with_month 24314 opening), Err (refusal 7 0 0)) ∷
+    ((books 3000 2 1 2 3, with_month 24314 (bill_of book 1000)), Err (refusal 7 0 0)) ∷
+    ((books 3000 2 1 2 3, with_month 24314 joining), Err (refusal 7 0 0)) ∷
     -- the last scheme, and the number after it
     ((books 3000 2 1 2 3, in_scheme 1 (bill_of book 0)), Ok (joins 500 100 30)) ∷
-    ((books 3000 2 1 2 3, in_scheme 2 (bill_of book 0)), Err 6) ∷
-    ((books 3000 2 64 2 3, in_scheme 65 (bill_of book 0)), Err 6) ∷
+    ((books 3000 2 1 2 3, in_scheme 2 (bill_of book 0)), Err (refusal 6 0 0)) ∷
+    ((books 3000 2 64 2 3, in_scheme 65 (bill_of book 0)), Err (refusal 6 0 0)) ∷
     -- X the threshold, and one cent more; a mark opens nothing
     ((books 3000 2 1 2 3, bill_of book 1000), Ok plain) ∷
     ((books 3000 2 1 2 3, bill_of book 1001), Ok opens) ∷
@@ -204,18 +204,18 @@ verdict_cases =
     ((books 3000 2 1 2 3, with_month 24398 joining_by_other), Ok (joins 500 100 30)) ∷
     ((books 3000 2 1 2 3, with_month 24399 joining_by_other), Ok ended) ∷
     -- two at once: 10 before 7, 6, 8 and 9; 7 before 6, 8 and 9, and before "small"; 6 before 9; 8 before 9
-    ((books 3000 1000000 1 2 3, with_month 24314 (bill_of book 1000)), Err 10) ∷
-    ((books 3000 1000000 1 2 3, in_scheme 2 (bill_of book 0)), Err 10) ∷
-    ((books 3000 1000000 64 2 3, opening), Err 10) ∷
-    ((books 3000 1000000 1 2 2, opening), Err 10) ∷
-    ((books 3000 1000000 1 2 2, joining), Err 10) ∷
-    ((books 3000 2 1 2 3, with_month 24314 (in_scheme 2 (bill_of book 0))), Err 7) ∷
-    ((books 3000 2 64 2 3, with_month 24314 opening), Err 7) ∷
-    ((books 3000 2 1 2 2, with_month 24314 opening), Err 7) ∷
-    ((books 3000 2 1 2 2, with_month 24314 joining), Err 7) ∷
-    ((books 2999 2 1 2 3, with_month 24314 joining), Err 7) ∷
-    ((books 3000 2 1 2 2, in_scheme 2 (bill_of book 0)), Err 6) ∷
-    ((books 3000 2 64 512 512, opening), Err 8) ∷
+    ((books 3000 1000000 1 2 3, with_month 24314 (bill_of book 1000)), Err (refusal 10 0 0)) ∷
+    ((books 3000 1000000 1 2 3, in_scheme 2 (bill_of book 0)), Err (refusal 10 0 0)) ∷
+    ((books 3000 1000000 64 2 3, opening), Err (refusal 10 0 0)) ∷
+    ((books 3000 1000000 1 2 2, opening), Err (refusal 10 0 0)) ∷
+    ((books 3000 1000000 1 2 2, joining), Err (refusal 10 0 0)) ∷
+    ((books 3000 2 1 2 3, with_month 24314 (in_scheme 2 (bill_of book 0))), Err (refusal 7 0 0)) ∷
+    ((books 3000 2 64 2 3, with_month 24314 opening), Err (refusal 7 0 0)) ∷
+    ((books 3000 2 1 2 2, with_month 24314 opening), Err (refusal 7 0 0)) ∷
+    ((books 3000 2 1 2 2, with_month 24314 joining), Err (refusal 7 0 0)) ∷
+    ((books 2999 2 1 2 3, with_month 24314 joining), Err (refusal 7 0 0)) ∷
+    ((books 3000 2 1 2 2, in_scheme 2 (bill_of book 0)), Err (refusal 6 0 0)) ∷
+    ((books 3000 2 64 512 512, opening), Err (refusal 8 0 0)) ∷
     []
 
 -- document 02, E4: a joiner who builds on
@@ -238,38 +238,38 @@ building_on_cases =
     ((books 3000 2 1 2 4, with_month 24399 building_on), Ok (and_opens ended)) ∷
     ((books 3000 2 1 2 4, with_month 24399 (with_mark 2 building_on)), Ok ended) ∷
     -- two entries are needed: the table has none, one and two left
-    ((books 3000 2 1 2 2, building_on), Err 9) ∷
-    ((books 3000 2 1 2 3, building_on), Err 9) ∷
+    ((books 3000 2 1 2 2, building_on), Err (refusal 9 0 0)) ∷
+    ((books 3000 2 1 2 3, building_on), Err (refusal 9 0 0)) ∷
     ((books 3000 2 1 2 4, building_on), Ok (and_opens (joins 500 100 30))) ∷
     -- and of 512
-    ((books 3000 2 1 512 600, building_on), Err 9) ∷
-    ((books 3000 2 1 511 600, building_on), Err 9) ∷
+    ((books 3000 2 1 512 600, building_on), Err (refusal 9 0 0)) ∷
+    ((books 3000 2 1 511 600, building_on), Err (refusal 9 0 0)) ∷
     ((books 3000 2 1 510 600, building_on), Ok (and_opens (joins 500 100 30))) ∷
     -- one is needed, by the opening or by the joining: none left, and one
-    ((books 2999 2 1 2 2, building_on), Err 9) ∷
+    ((books 2999 2 1 2 2, building_on), Err (refusal 9 0 0)) ∷
     ((books 2999 2 1 2 3, building_on), Ok (and_opens small)) ∷
-    ((books 3000 2 1 2 2, with_month 24399 building_on), Err 9) ∷
+    ((books 3000 2 1 2 2, with_month 24399 building_on), Err (refusal 9 0 0)) ∷
     ((books 3000 2 1 2 3, with_month 24399 building_on), Ok (and_opens ended)) ∷
-    ((books 3000 2 1 2 2, with_mark 1 building_on), Err 9) ∷
+    ((books 3000 2 1 2 2, with_mark 1 building_on), Err (refusal 9 0 0)) ∷
     ((books 3000 2 1 2 3, with_mark 1 building_on), Ok (joins 500 100 30)) ∷
     -- none is needed
     ((books 2999 2 1 2 2, with_mark 1 building_on), Ok small) ∷
     ((books 3000 2 1 2 2, with_month 24399 (with_mark 1 building_on)), Ok ended) ∷
     -- the 64th and the 65th scheme; 8 before 9; where none opens, it is never 8
     ((books 3000 2 63 2 4, building_on), Ok (and_opens (joins 500 100 30))) ∷
-    ((books 3000 2 64 2 4, building_on), Err 8) ∷
-    ((books 3000 2 64 512 512, building_on), Err 8) ∷
-    ((books 2999 2 64 2 4, building_on), Err 8) ∷
-    ((books 3000 2 64 2 4, with_month 24399 building_on), Err 8) ∷
+    ((books 3000 2 64 2 4, building_on), Err (refusal 8 0 0)) ∷
+    ((books 3000 2 64 512 512, building_on), Err (refusal 8 0 0)) ∷
+    ((books 2999 2 64 2 4, building_on), Err (refusal 8 0 0)) ∷
+    ((books 3000 2 64 2 4, with_month 24399 building_on), Err (refusal 8 0 0)) ∷
     ((books 3000 2 64 2 4, joining), Ok (joins 500 100 30)) ∷
     ((books 3000 2 64 2 4, with_mark 1 building_on), Ok (joins 500 100 30)) ∷
     ((books 3000 2 64 2 4, with_mark 2 building_on), Ok (joins 500 100 30)) ∷
-    ((books 3000 2 64 512 512, with_mark 1 building_on), Err 9) ∷
+    ((books 3000 2 64 512 512, with_mark 1 building_on), Err (refusal 9 0 0)) ∷
     -- 10, 7 and 6 come before; 6 before the opening, though the scheme that opens would have the number
-    ((books 3000 1000000 64 512 512, building_on), Err 10) ∷
-    ((books 3000 2 64 512 512, with_month 24314 building_on), Err 7) ∷
-    ((books 3000 2 1 2 4, in_scheme 2 building_on), Err 6) ∷
-    ((books 3000 2 64 512 512, in_scheme 65 building_on), Err 6) ∷
+    ((books 3000 1000000 64 512 512, building_on), Err (refusal 10 0 0)) ∷
+    ((books 3000 2 64 512 512, with_month 24314 building_on), Err (refusal 7 0 0)) ∷
+    ((books 3000 2 1 2 4, in_scheme 2 building_on), Err (refusal 6 0 0)) ∷
+    ((books 3000 2 64 512 512, in_scheme 65 building_on), Err (refusal 6 0 0)) ∷
     []
 
 pub verdict_cases_hold : map (λ row. verdict row.0.0 row.0.1) verdict_cases ≡ map (λ row. row.1) verdict_cases

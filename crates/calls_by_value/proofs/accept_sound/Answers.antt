@@ -1,6 +1,5 @@
--- On a table that is sound the plan is the call (accept_kept).
-use Rattle.std.proofs.Common.{rules, length, ◌≡◌}
-use Rattle.ledger.specs.Limits.{most_entries}
+-- On a table that is sound the plan is the call (accept_kept), and so it is on the array's first records (on_records).
+use Rattle.std.proofs.Common.{rules}
 use Rattle.ledger.proofs.Places.{schemes_places}
 use Rattle.acceptance.proofs.Carrying.{accept_kept}
 use Rattle.calls_by_value.proofs.ByRoom.{on_records}
@@ -8,8 +7,6 @@ use Rattle.calls_by_value.proofs.accept_sound.Goals as goal
 
 pub returns : goal.returns
 returns c =
-    let args = c.args in
     let made = c.accept_sound-answer.ensures in
-    let all : length args.parties ≡ most_entries = search rules in
-    on_records args.room c.records_of-records.result args.parties all c.records_of-records.ensures _ c.accept_sound-answer.auto.table args.ledger _ _ _
-    (accept_kept args.ledger _ (schemes_places args.ledger _ c.well_formed.0) args.book.now args.request.now made.answer made.ledger made.table)
+    on_records c.args.room _ c.args.parties (search rules) c.records_of-records.ensures _ c.accept_sound-answer.auto.table c.args.ledger _ _ _
+    (accept_kept _ _ (schemes_places c.args.ledger _ c.well_formed.0) _ _ made.answer made.ledger made.table)

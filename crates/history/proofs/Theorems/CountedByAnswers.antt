@@ -163,4 +163,4 @@ counted_by_answers room history book request bill acceptance priced =
         let credits = credits_by (books_in room history) bill course.joining in
         let is : acceptance_of (books_in room history) bill course ≡ acceptance = cc e in
         subst (λ a. CountedByAnswers history bill a (recorded history (accepted bill course credits))) is (counted history bill credits room course)
-    by_verdict (Err number) e = impossible cc
+    by_verdict (Err r) e = impossible cc

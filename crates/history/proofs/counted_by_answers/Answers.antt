@@ -1,6 +1,6 @@
+-- The theorem of CountedByAnswers, which goes by the verdict's cases.
 use Rattle.history.proofs.Theorems.CountedByAnswers.{counted_by_answers}
-use Rattle.history.proofs.Theorems.CreditedGrows.{credited_in_joinings}
 use Rattle.history.proofs.counted_by_answers.Goals as goal
 
-pub returns : goal.returns
-returns c = record { accepts = counted_by_answers; others = credited_in_joinings }
+pub returns-clause-accepts : goal.returns-clause-accepts
+returns-clause-accepts c = counted_by_answers

@@ -1,3 +1,4 @@
+-- The theorems of EveryListOfCalls, by induction on the list.
 use Rattle.history.proofs.Theorems.EveryListOfCalls.{every_list_of_calls, shown_state, trace_exists}
 use Rattle.history.proofs.every_list_of_calls.Goals as goal
 

@@ -1,3 +1,4 @@
+-- The histories are computed in proofs/Cases.
 use Rattle.history.proofs.Cases.Accounts.{marked_history}
 use Rattle.history.proofs.Cases.BuildingOn.{built_on}
 use Rattle.history.proofs.Cases.Fair.{tight_bounds}

@@ -3,7 +3,7 @@ use Rattle.std.specs.Prelude.{ℕ, ◌≡◌, List, ◌∷◌, replicate, Ok}
 use Rattle.reconciliation.specs.Reconciliation.{reconciliation_of}
 use Rattle.charge.specs.Price.{price_of}
 use Rattle.charge.specs.Cases.MarkedFigures.{tier, connection, request_by}
-use Rattle.charge.specs.declared.Terms.{Terms}
+use Rattle.rate_book.specs.declared.fields.Terms.{Terms}
 use Rattle.charge.specs.declared.Bill.{Bill}
 use Rattle.history.specs.Cases.CentsBook.{book_with}
 

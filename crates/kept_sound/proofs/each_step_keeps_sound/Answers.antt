@@ -1,3 +1,4 @@
+-- The theorems of SoundSteps, one for each step.
 use Rattle.kept_sound.proofs.Theorems.SoundSteps.{booked_keeps_sound, joined_keeps_sound, opened_keeps_sound}
 use Rattle.kept_sound.proofs.each_step_keeps_sound.Goals as goal
 

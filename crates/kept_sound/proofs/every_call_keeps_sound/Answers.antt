@@ -1,3 +1,4 @@
+-- The theorems of KeptSound, which go by what each call decides.
 use Rattle.kept_sound.proofs.Theorems.KeptSound.{call_keeps_sound, leaves_places, leaves_length}
 use Rattle.kept_sound.proofs.every_call_keeps_sound.Goals as goal
 

@@ -1,7 +1,9 @@
 -- Soundness is of the ledger, its entries and whether they fit the table's length, alone.
-use Rattle.std.specs.Prelude.{ℕ, ◌≤◌, ◌≡◌, true, false, take, leb}
+use Rattle.std.specs.Prelude.{ℕ, ◌≤◌, min, ◌≡◌, true, false, length, take, leb}
 use Rattle.std.proofs.Math.Path.{refl, ap}
-use Rattle.std.proofs.Common.{sym, ◌∙◌, leb-true, le-leb}
+use Rattle.std.proofs.Common.{sym, ◌∙◌, arith, leb-true, le-leb}
+use Rattle.std.proofs.lemmas.Bool.Decides.{same_from_decides}
+use Rattle.std.proofs.lemmas.List.{length-take, take-take}
 use mathlib.Core.List.{List}
 use Rattle.std.proofs.Math.Bool.{Bool, cond}
 use Rattle.ledger.specs.Limits.{most_entries}
@@ -49,3 +51,22 @@ pub sound_in : (ledger : Ledger) (parties others : List Party) (room other : ℕ
 sound_in ledger parties others room other same fits holds =
     let both = le-leb _ _ fits ∙ sym (le-leb _ _ (sound_means ledger parties room holds).in_table) in
     same_sound (record { fit = both; entries = λ limit within. same }) ∙ holds
+
+-- with an array of 512 records it is as sound as with the first `room` of them alone, or with all where there are no more
+pub sound_in_first : (ledger : Ledger) (parties : List Party) (room : ℕ) → length parties ≡ most_entries →
+    sound ledger parties room ≡ sound ledger (take (min room most_entries) parties) (length (take (min room most_entries) parties))
+sound_in_first ledger parties room records =
+    let first = take (min room most_entries) parties in
+    let size = length-take (min room most_entries) parties in
+    same_from_decides _ _ (λ stands. stands, λ stands. stands) (
+      λ stands.
+          let means = sound_means ledger first (length first) stands in
+          let within : ledger.entries ≤ min room most_entries = omega (arith, means.in_table, size) in
+          let fits : ledger.entries ≤ room = omega (arith, within) in
+          sound_in ledger first parties (length first) room (sym (take-take ledger.entries (min room most_entries) parties within)) fits stands,
+      λ stands.
+          let means = sound_means ledger parties room stands in
+          let within : ledger.entries ≤ min room most_entries = omega (arith, means.entries, means.in_table) in
+          let fits : ledger.entries ≤ length first = omega (arith, size, within, records) in
+          sound_in ledger parties first room (length first) (take-take ledger.entries (min room most_entries) parties within) fits stands,
+    )

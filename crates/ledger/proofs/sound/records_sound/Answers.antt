@@ -2,8 +2,7 @@
 use Rattle.std.proofs.Common.{ap, subst, sym, ◌∙◌}
 use Rattle.ledger.specs.Sound.{schemes_sound, all_zero}
 use Rattle.ledger.specs.Tallied.{Tallied}
-use Rattle.ledger.proofs.Rest.{by_each}
-use Rattle.ledger.proofs.Tests.{last_holds}
+use Rattle.ledger.proofs.Rest.{by_each, last_holds}
 use Rattle.ledger.proofs.sound.records_sound.Goals as goal
 
 pub returns-then-schemes_sound-clause-holds : goal.returns-then-schemes_sound-clause-holds

@@ -1,12 +1,6 @@
 -- The loop keeps the tallies of the entries passed, each at its scheme's place, and that the entries from its place on decide.
-use Rattle.std.proofs.Common.{drop, ◌≡◌}
-use Rattle.ledger.specs.Sound.{parties_sound}
 use Rattle.ledger.proofs.Tallying.{Kept}
 use Rattle.ledger.proofs.sound.tally_entries.Given as goal
 
 abbrev pub invariant-loop-party : goal.invariant-loop-party
-invariant-loop-party l =
-    record {
-      undecided : parties_sound l.count l.parties ≡ parties_sound l.count (drop l.party-index l.parties);
-      kept : Kept l.count l.tallies l.parties l.party-index;
-    }
+invariant-loop-party l = Kept l.count l.tallies l.parties l.party-index
