@@ -6,7 +6,7 @@ ghost use Rattle.std.specs.Prelude.{◌≡◌, take, drop};
 ghost use Rattle.stored.specs.Writing.{write_of};
 ghost use Rattle.stored.specs.Reading.{read_of};
 
-pub use calls_by_value::{accept, hand_over, pay_out};
+pub use calls_by_value::{AcceptedTable, ChangedTable, accept, hand_over, pay_out};
 use ledger::limits::Parties;
 use ledger::records::Ledger;
 use stored::writing::Written;
@@ -21,7 +21,8 @@ pub fn write(ledger: Ledger, parties: Parties, room: usize, out: &mut [u8]) -> W
     pioneer::write(&ledger, &parties[..records], out)
 }
 
-// The answer stands beside them: ledger and parties come back in either case.
+// The answer stands beside them: ledger and parties come back in either case. Beside AcceptedTable: one type over the answer would be an
+// alias for each of the two, and say no more.
 #[derive(Clone, Copy)]
 pub struct ReadTable {
     pub answer: FileAnswer,

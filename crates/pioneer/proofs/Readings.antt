@@ -1,10 +1,9 @@
 -- What a reading leaves of the ledger and the table, by its answer.
 use Rattle.std.specs.Prelude.{ℕ, ◌≤◌, ◌≡◌, refl, List, ◌++◌, length, take, drop, Err, Ok}
-use Rattle.std.proofs.Common.{sym, ap, ◌∙◌}
+use Rattle.std.proofs.Common.{sym, ap, ◌∙◌, arith, length-append, length-take-le}
 use Rattle.tagged.proofs.Theorems.Impossible.{impossible}
 use Rattle.tagged.specs.File.{fields_part, FileAnswer}
 use Rattle.tagged.specs.declared.file.Refusal.{Refusal}
-use Rattle.ledger.specs.Limits.{most_entries}
 use Rattle.ledger.specs.Lists.{at_start}
 use Rattle.ledger.specs.Records.{no_parties}
 use Rattle.ledger.specs.SoundConditions.{SoundLedger}
@@ -37,9 +36,10 @@ module _ (ledger : Ledger) (table : List Party) (file : List ℕ) where
 
   -- one that stands has room for its entries, and puts them into the first records
   pub record Reads (after : Ledger) (parties : List Party) : Type 0 where
-    pub limit : after.entries ≤ most_entries
-    pub room : after.entries ≤ length table
-    pub ends : read_of ledger table file ≡ ending (Ok tt) after (take after.entries parties ++ drop after.entries table)
+    pub limit : after.entries ≤ length parties
+    pub many : after.entries ≡ length (take after.entries parties)
+    pub room : length (take after.entries parties) ≤ length table
+    pub ends : read_of ledger table file ≡ ending (Ok tt) after (take after.entries parties ++ drop (length (take after.entries parties)) table)
 
   entries_stored : (n : ℕ) → n ≡ length (stored_entries s) → take n (at_start (stored_entries s) no_parties) ++ drop n table ≡ at_start (stored_entries s) table
   entries_stored n e = rw e (ap (λ (entries : List Party). entries ++ drop (length (stored_entries s)) table) (take_at_start (stored_entries s) no_parties))
@@ -55,12 +55,17 @@ module _ (ledger : Ledger) (table : List Party) (file : List ℕ) where
           sound_means (stored_ledger s) (stored_entries s) (length table) (accepted_means (length table) file stands).holds in
           let ledgers : after ≡ stored_ledger s = ap (λ (b : ReadBack). b.ledger) back in
           let records : parties ≡ at_start (stored_entries s) no_parties = ap (λ (b : ReadBack). b.parties) back in
+          let entries : ℕ = (stored_ledger s).entries in
+          let first : List Party = at_start (stored_entries s) no_parties in
+          let limit : entries ≤ length first = omega (arith, entries_count s, length-append (stored_entries s) (drop (length (stored_entries s)) no_parties)) in
+          let many : length (take entries first) ≡ entries = length-take-le entries first limit in
           rw (ledgers, records)
           (record {
-            limit = means.entries;
-            room = means.in_table;
+            limit = limit;
+            many = sym many;
+            room = omega (arith, means.in_table);
             ends =
                 ap (λ answer. table_by answer ledger table s) stands
-                ∙ ap (ending (Ok tt) (stored_ledger s)) (sym (entries_stored (stored_ledger s).entries (entries_count s)));
+                ∙ ap (ending (Ok tt) (stored_ledger s)) (rw many (sym (entries_stored entries (entries_count s))));
           })
       by (Err r) stands back = let told = ap (λ (b : ReadBack). b.answer) back in impossible cc

@@ -11,6 +11,7 @@ use ledger::records::{Ledger, Party};
 pub use stored_writing::write;
 use tagged::file::FileAnswer;
 
+#[tactic(auto, using(crate::proofs::Readings::refused_end))]
 pub fn read(ledger: &mut Ledger, table: &mut [Party], file: &[u8]) -> FileAnswer
     ensures { (result ≡ (read_of ledger.old table.old file.now).answer)
         × (ledger.new ≡ (read_of ledger.old table.old file.now).ledger)

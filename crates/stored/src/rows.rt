@@ -16,7 +16,7 @@ pub const STORED_ROWS: [Row; 4] = [
 ];
 
 // Whether a file stands as a stored ledger: its last five bytes, its check and its fields. `number` is the
-// file's in a refusal.
+// file's in a refusal. A function for each kind of file, so that no caller needs to know its rows.
 pub fn stored_stands(number: u8, file: &[u8]) -> FileAnswer
     ensures { result ≡ file_answer stored_rows number file.now }
 {

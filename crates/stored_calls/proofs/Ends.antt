@@ -1,21 +1,21 @@
 -- Reading, the call and writing by value end as the call on stored bytes does: what was read is sound, and the call leaves it so, so that nothing is
 -- tested again.
-use Rattle.std.specs.Prelude.{Err, Ok}
-use Prim.Native.Nat.{ℕ, zero, suc, ◌≤◌, min}
+use Rattle.std.specs.Prelude.{Err, Ok, ◌-◌}
+use Prim.Native.Nat.{ℕ, ◌+◌, ◌≤◌, min}
 use mathlib.Core.Path.{◌≡◌, refl, sym, ap, ap₂, subst, ◌∙◌}
-use mathlib.Core.List.{List, [], ◌∷◌}
+use mathlib.Core.List.{List, ◌++◌}
 use mathlib.Core.Bool.{true}
 use native.Mathlib.Omega.{arith}
-use lib.ListN.{length, take, length-take}
-use lib.Seq.{take-take}
+use lib.ListN.{length, take, drop, length-take}
+use lib.Seq.{take-take, take-append-add}
+use Rattle.std.proofs.lemmas.List.{drop-take}
 use Rattle.tagged.specs.File.{fields_part, FileAnswer}
 use Rattle.tagged.specs.declared.file.Refusal.{Refusal}
 use Rattle.ledger.specs.Limits.{most_schemes, most_entries}
 use Rattle.ledger.specs.Lists.{at_start}
 use Rattle.ledger.specs.Records.{no_parties, new_ledger}
-use Rattle.ledger.proofs.Theorems.Table.{length_no_parties}
 use Rattle.ledger.specs.Sound.{sound}
-use Rattle.ledger.proofs.Theorems.Sound.{sound_means, new_ledger_sound}
+use Rattle.ledger.proofs.Theorems.Sound.{sound_means}
 use Rattle.ledger.specs.declared.records.Party.{Party}
 use Rattle.ledger.specs.declared.records.Ledger.{Ledger}
 use Rattle.calls.specs.Decision.{Call, CallAnswer}
@@ -36,24 +36,21 @@ use Rattle.stored_calls.proofs.Theorems.StoredCallsRefusals.{places_read, sound_
 -- ---- reading
 
 -- what is placed within the first records of a list
-at_start_within : {A : Type 0} (elements others : List A) (room : ℕ) → length elements ≤ room → length elements ≤ length others →
+at_start_within : {A : Type 0} (elements others : List A) (room : ℕ) → length elements ≤ room →
     take room (at_start elements others) ≡ at_start elements (take room others)
-at_start_within [] others room fits few = refl
-at_start_within (x ∷ elements) others zero fits few = absurd (omega (arith, fits))
-at_start_within (x ∷ elements) [] (suc room) fits few = absurd (omega (arith, few))
-at_start_within (x ∷ elements) (y ∷ others) (suc room) fits few =
-    ap (λ l. x ∷ l) (at_start_within elements others room (omega (arith, fits)) (omega (arith, few)))
+at_start_within elements others room fits =
+    let past = room - length elements in
+    let whole : length elements + past ≡ room = omega arith in
+    rw whole at (take-append-add elements (drop (length elements) others) past ∙ ap (λ l. elements ++ l) (sym (drop-take (length elements) past others)))
 
-ok_no_refusal : {r : Refusal} → ◌≡◌ {A = FileAnswer} (Ok tt) (Err r) → ⊥
-ok_no_refusal e = cc
-
--- what is read by value, into new records
-pub reads : (file : List ℕ) (room : ℕ) {parties : List Party} {ledger : Ledger} → of_reading (Ok parties) ledger ≡ read_back new_ledger (min room most_entries) file →
+-- what is read by value, into a new ledger and its records
+pub reads : (file : List ℕ) (room : ℕ) {fresh : Ledger} {records : ℕ} → fresh ≡ new_ledger → records ≡ min room most_entries →
+    {parties : List Party} {ledger : Ledger} → of_reading (Ok parties) ledger ≡ read_back fresh records file →
     stored_read file room ≡ record { answer = Ok tt; ledger = ledger; table = take room parties }
 unfolding stored_read
-reads file room {parties} {ledger} e =
+reads file room new few {parties} {ledger} e =
     ap (λ records. table_by (read_answer records file) new_ledger (take room no_parties) (fields_part file)) (length_room room)
-    ∙ by_answer (read_answer (min room most_entries) file) refl e
+    ∙ by_answer (read_answer (min room most_entries) file) refl (e ∙ ap₂ (λ ledger records. read_back ledger records file) new few)
   where
     s : List ℕ
     s = fields_part file
@@ -63,16 +60,17 @@ reads file room {parties} {ledger} e =
     by_answer (Ok _) stands e =
         let fits = (accepted_means (min room most_entries) file stands).fits in
         ap (λ table. record { answer = Ok tt; ledger = stored_ledger s; table = table })
-        (sym (at_start_within (stored_entries s) no_parties room (omega (arith, fits)) (omega (arith, fits, length_no_parties))))
+        (sym (at_start_within (stored_entries s) no_parties room (omega (arith, fits))))
         ∙ (λ i. record { answer = Ok tt; ledger = (sym e i).ledger; table = take room (sym e i).parties })
-    by_answer (Err r) refused e = absurd (ok_no_refusal (ap (λ (read : ReadBack). read.answer) e))
+    by_answer (Err r) refused e = let apart = ap (λ (read : ReadBack). read.answer) e in cc
 
-pub reads_not : (file : List ℕ) (room : ℕ) {r : Refusal} {ledger : Ledger} → of_reading (Err r) ledger ≡ read_back new_ledger (min room most_entries) file →
-    (stored_read file room).answer ≡ Err r
+pub reads_not : (file : List ℕ) (room : ℕ) {fresh : Ledger} {records : ℕ} → fresh ≡ new_ledger → records ≡ min room most_entries →
+    {r : Refusal} {ledger : Ledger} → of_reading (Err r) ledger ≡ read_back fresh records file → (stored_read file room).answer ≡ Err r
 unfolding stored_read
-reads_not file room {r} {ledger} e =
+reads_not file room new few {r} {ledger} e =
     ap (λ records. (table_by (read_answer records file) new_ledger (take room no_parties) (fields_part file)).answer) (length_room room)
-    ∙ by_answer (read_answer (min room most_entries) file) (ap (λ (read : ReadBack). read.answer) e)
+    ∙ by_answer (read_answer (min room most_entries) file)
+    (ap (λ (read : ReadBack). read.answer) (e ∙ ap₂ (λ ledger records. read_back ledger records file) new few))
   where
     s : List ℕ
     s = fields_part file
@@ -92,40 +90,34 @@ form_of_sound ledger parties table out entries holds =
 
 -- ---- a call once the ledger is read
 
-module _ (file : List ℕ) (room : ℕ) (call : Call) (ledger : Ledger) (parties : List Party)
-    (same : stored_read file room ≡ record { answer = Ok tt; ledger = ledger; table = take room parties }) where
+abbrev Reads : List ℕ → ℕ → Ledger → List Party → Type 0
+Reads file room ledger parties = stored_read file room ≡ record { answer = Ok tt; ledger = ledger; table = take room parties }
+
+pub sound_here : (file : List ℕ) (room : ℕ) (ledger : Ledger) (parties : List Party) → Reads file room ledger parties → SoundOnRecords room ledger parties
+sound_here file room ledger parties same =
+    subst (λ (end : ReadEnd). sound end.ledger end.table (length end.table) ≡ true) same (sound_read file room (ap (λ (end : ReadEnd). end.answer) same))
+
+module _ (file : List ℕ) {room : ℕ} {ledger : Ledger} {parties : List Party} {call : Call} {answer : CallAnswer} {after : Ledger} {left : List Party}
+    (promise : PromisedOnRecords room ledger parties call answer after left) (same : Reads file room ledger parties) (fits : Fits call) where
   abbrev before : State
   before = state_of ledger (take room parties)
 
-  pub sound_here : SoundOnRecords room ledger parties
-  sound_here =
-      subst (λ (end : ReadEnd). sound end.ledger end.table (length end.table) ≡ true) same (sound_read file room (ap (λ (end : ReadEnd). end.answer) same))
+  places : length ledger.schemes ≡ most_schemes
+  places = subst (λ (end : ReadEnd). length end.ledger.schemes ≡ most_schemes) same (places_read file room)
 
-  module _ (fits : Fits call) {answer : CallAnswer} {after : Ledger} {left : List Party}
-      (promise : PromisedOnRecords room ledger parties call answer after left) where
-    places : length ledger.schemes ≡ most_schemes
-    places = subst (λ (end : ReadEnd). length end.ledger.schemes ≡ most_schemes) same (places_read file room)
+  kept : sound after (take room left) (length (take room left)) ≡ true
+  kept =
+      subst (λ (state : State). sound state.ledger state.table (length state.table) ≡ true) (sym promise.promised.leaving)
+      (ap (sound (leaves before call).ledger (leaves before call).table) (leaves_length before call places)
+      ∙ call_keeps_sound before call places fits (sound_here file room ledger parties same))
 
-    kept : sound after (take room left) (length (take room left)) ≡ true
-    kept =
-        subst (λ (state : State). sound state.ledger state.table (length state.table) ≡ true) (sym promise.promised.leaving)
-        (ap (sound (leaves before call).ledger (leaves before call).table) (leaves_length before call places)
-        ∙ call_keeps_sound before call places fits sound_here)
+  pub counts_kept : (after.count ≤ most_schemes) × (after.entries ≤ most_entries)
+  counts_kept = let means = sound_means after (take room left) (length (take room left)) kept in (means.schemes, means.entries)
 
-    pub counts_kept : (after.count ≤ most_schemes) × (after.entries ≤ most_entries)
-    counts_kept = let means = sound_means after (take room left) (length (take room left)) kept in (means.schemes, means.entries)
-
-    pub call_ends : (out : List ℕ) → end_by answer (form_end after left out) out ≡ stored_call_of file room call out
-    call_ends out =
-        let means = sound_means after (take room left) (length (take room left)) kept in
-        let entries = take-take after.entries room left (omega (arith, means.in_table, length-take room left)) in
-        ap (λ written. end_by answer written out) (form_of_sound after left (take room left) out (sym entries) kept)
-        ∙ (λ i. end_by (promise.promised.answers i) (write_of (promise.promised.leaving i).ledger (promise.promised.leaving i).table out) out)
-        ∙ ap (λ end. call_on_read end call out) (sym same)
-
--- a new ledger and no entries
-pub new_written : {ledger : Ledger} {parties : List Party} (out : List ℕ) → ledger ≡ new_ledger → parties ≡ no_parties →
-    form_end ledger parties out ≡ write_of new_ledger no_parties out
-new_written out fresh nothing =
-    (λ i. form_end (fresh i) (nothing i) out)
-    ∙ form_of_sound new_ledger no_parties no_parties out refl (new_ledger_sound no_parties (length no_parties))
+  pub call_ends : (out : List ℕ) → end_by answer (form_end after left out) out ≡ stored_call_of file room call out
+  call_ends out =
+      let means = sound_means after (take room left) (length (take room left)) kept in
+      let entries = take-take after.entries room left (omega (arith, means.in_table, length-take room left)) in
+      ap (λ written. end_by answer written out) (form_of_sound after left (take room left) out (sym entries) kept)
+      ∙ (λ i. end_by (promise.promised.answers i) (write_of (promise.promised.leaving i).ledger (promise.promised.leaving i).table out) out)
+      ∙ ap (λ end. call_on_read end call out) (sym same)

@@ -58,7 +58,8 @@ fn read_stored(file: &[u8], room: usize) -> Result<Stored, Refusal>
     Ok(Stored { ledger, parties })
 }
 
-// The ledger and the table after an accept, which alone has an acceptance to hand back beside the length.
+// The ledger and the table after an accept, which alone has an acceptance to hand back beside the length: one function for this and
+// the next would tell apart in its promise what each answers.
 fn write_accepted(
     accepted: AcceptedTable,
     out: &mut [u8],
@@ -89,6 +90,8 @@ fn write_changed(
 }
 
 // Each of the three calls reads, decides and writes, a line for each: one function over a closure for the decision would be no shorter.
+// File and room go side by side, as C hands them over: a pair would be made for one call and taken apart in `read_stored`.
+#[tactic(auto, using(crate::proofs::Ends::sound_here))]
 pub fn accept_stored(
     file: &[u8],
     room: usize,
@@ -104,6 +107,7 @@ pub fn accept_stored(
     write_accepted(accepted, out)
 }
 
+#[tactic(auto, using(crate::proofs::Ends::sound_here, crate::proofs::Ends::counts_kept, crate::proofs::Ends::call_ends))]
 pub fn pay_out_stored(
     file: &[u8],
     room: usize,
@@ -119,6 +123,7 @@ pub fn pay_out_stored(
     write_changed(read.ledger, changed, out)
 }
 
+#[tactic(auto, using(crate::proofs::Ends::sound_here, crate::proofs::Ends::counts_kept, crate::proofs::Ends::call_ends))]
 pub fn hand_over_stored(
     file: &[u8],
     room: usize,
@@ -135,6 +140,7 @@ pub fn hand_over_stored(
 }
 
 // The stored form of a new ledger, which every list of calls starts from.
+#[tactic(auto, using(stored::proofs::Theorems::Writing::write_sound, ledger::proofs::Theorems::Sound::new_ledger_sound))]
 pub fn new_stored(out: &mut [u8]) -> Result<usize, StoredRefusal>
     ensures result_value { of_stored_answer result ≡ (new_stored_of out.old).answer }
     ensures out_after { out.new ≡ (new_stored_of out.old).output }

@@ -18,6 +18,7 @@ use ledger::limits::{MOST_SCHEMES, Parties, Schemes};
 use ledger::records::{Ledger, Party, Scheme};
 use numbers::big_endian::BigEndian;
 use tagged::file::Refusal;
+use tagged::find::next_field;
 use tagged::refusals::{LEDGER_UNSOUND, NO_ENTRY_LEFT, VALUE_NOT_LISTED};
 
 // A record that a stored ledger has a field for each of.
@@ -55,6 +56,7 @@ impl StoredRecord for Scheme {
 
     ghost of_bytes = { scheme_of_bytes };
 
+    #[tactic(auto, unfolding(stored::specs::Layout::values_at))]
     fn read(value: &[u8]) -> Scheme {
         Scheme {
             cost: u32::read(value, 0),
@@ -84,6 +86,7 @@ impl StoredRecord for Party {
 
     ghost of_bytes = { party_of_bytes };
 
+    #[tactic(auto, unfolding(stored::specs::Layout::values_at))]
     fn read(value: &[u8]) -> Party {
         Party {
             scheme: u16::read(value, 0),
@@ -102,13 +105,15 @@ impl StoredRecord for Party {
     ghost most_fits = { Prim.search rules };
 }
 
+// A function: `[x; N]` says the value itself, where an array's Default says it place by place.
+#[tactic(auto, unfolding(stored::specs::Form::no_schemes))]
 fn no_schemes() -> Schemes
     ensures { result ≡ no_schemes }
 {
     [Scheme::default(); MOST_SCHEMES]
 }
 
-// The fields of a stored ledger, which walk.
+// The fields of a stored ledger, which walk. A type for each kind of file, as its readers are methods.
 #[derive(Clone, Copy)]
 struct StoredFields<'a> {
     fields: &'a [u8],
@@ -116,7 +121,7 @@ struct StoredFields<'a> {
 }
 
 impl<'a> StoredFields<'a> {
-    // The records of a file, in the first places, and how many they are. `inline(never)`, here and below:
+    // The records of a file, in the first places, and how many they are: a ledger holds both so. `inline(never)`:
     // in a caller's frame the copies of the records would stay on the stack.
     #[inline(never)]
     fn read_records<R: StoredRecord>(self, records: &mut [R]) -> usize
@@ -127,16 +132,17 @@ impl<'a> StoredFields<'a> {
         let mut count: usize = 0;
         let mut rest = self.fields;
         // Document 01 names the form: the part from a field's end onward goes on to the next step.
-        while !rest.is_empty() {
-            if rest[0] == R::TAG {
-                records[count] = R::read(tagged::find::next_value(rest));
+        while let Some(field) = next_field(rest) {
+            if field.tag == R::TAG {
+                records[count] = R::read(field.value);
                 count += 1;
             }
-            rest = tagged::find::next_rest(rest);
+            rest = field.rest;
         }
         count
     }
 
+    #[tactic(auto, using(crate::proofs::Walking::head_long, stored::proofs::Theorems::StoredFields::schemes_collected), unfolding(stored::specs::Form::stored_ledger, stored::specs::Layout::values_at))]
     fn read_ledger(self, entries: usize) -> Ledger
         requires { (entries ≡ length (stored_entries self.fields.now)) × (entries ≤ most_entries) }
         ensures { result ≡ stored_ledger self.entry.fields.now }
@@ -156,15 +162,8 @@ impl<'a> StoredFields<'a> {
     }
 }
 
-// Whether a ledger is sound with these entries, in a table of `room` records.
-#[inline(never)]
-fn is_sound(ledger: &Ledger, parties: &Parties, room: usize) -> bool
-    ensures { result ≡ sound ledger.now parties.now room }
-{
-    ledger::sound::sound(ledger, parties, room)
-}
-
 // The ledger and the entries of a file's fields, where they are sound in a table of `room` records.
+#[tactic(auto, using(crate::proofs::Walking::few_entries_walked, stored::proofs::Theorems::StoredFields::entries_collected, stored::proofs::Theorems::Reading::sound_placed), unfolding(stored::specs::Reading::table_answer))]
 fn read_values(ledger: &mut Ledger, room: usize, stored: StoredFields) -> Result<Parties, Refusal>
     ensures { of_reading result ledger.new ≡ read_by (table_answer room stored.entry.fields.now) ledger.old stored.entry.fields.now }
 {
@@ -174,7 +173,7 @@ fn read_values(ledger: &mut Ledger, room: usize, stored: StoredFields) -> Result
         return Err(Refusal::of_call(NO_ENTRY_LEFT));
     }
     let read = stored.read_ledger(entries);
-    if !is_sound(&read, &parties, room) {
+    if !ledger::sound::sound(&read, &parties, room) {
         return Err(Refusal::of_call(LEDGER_UNSOUND));
     }
     *ledger = read;
@@ -182,13 +181,14 @@ fn read_values(ledger: &mut Ledger, room: usize, stored: StoredFields) -> Result
 }
 
 // The stored ledger and its entries, or the refusal, which leaves the present ledger; `room` is the table's length.
+// By a function of its own beside a book's and a request's: its values are judged against the table too.
+#[tactic(auto, unfolding(stored::specs::Reading::read_answer))]
 pub fn read(ledger: &mut Ledger, room: usize, file: &[u8]) -> Result<Parties, Refusal>
     ensures { of_reading result ledger.new ≡ read_back ledger.old room file.now }
 {
     stored::rows::stored_stands(1, file)?;
     let fields = tagged::file::fields_part(file);
-    if let Err(place) = field_values::judged::judge_letters(fields, b"PION") {
-        return Err(Refusal::of_file(VALUE_NOT_LISTED, 1, place));
-    }
+    let judged = field_values::judged::judge_letters(fields, b"PION");
+    judged.map_err(|place| Refusal::of_file(VALUE_NOT_LISTED, 1, place))?;
     read_values(ledger, room, StoredFields { fields })
 }

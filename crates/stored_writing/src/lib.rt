@@ -31,6 +31,7 @@ fn write_start(out: &mut [u8], at: usize, tag: u8, len: u16)
 }
 
 // Field 01, which the form starts with.
+#[tactic(auto, using(crate::proofs::Fields::written_letters))]
 fn write_letters(out: &mut [u8])
     requires { 7 ≤ length out.old }
     ensures { out.new ≡ written out.old 0 (encoded_parts (letters_part ∷ [])) }
@@ -40,6 +41,7 @@ fn write_letters(out: &mut [u8])
 }
 
 // Field 02, which stands after it.
+#[tactic(auto, using(crate::proofs::Fields::written_head), unfolding(stored::proofs::Theorems::Layout::written_each))]
 fn write_head(out: &mut [u8], ledger: &Ledger)
     requires { header_length ≤ length out.old }
     ensures { out.new ≡ written out.old 7 (encoded_parts (head_part (head_values ledger.now) ∷ [])) }
@@ -52,6 +54,7 @@ fn write_head(out: &mut [u8], ledger: &Ledger)
 }
 
 // A record that has a field of its own.
+// Beside stored_reading's trait of this name: reading and writing are two crates, so that an edit of one proves little again.
 trait StoredRecord: Copy {
     ghost LENGTH: { ℕ };
 
@@ -74,6 +77,7 @@ impl StoredRecord for Scheme {
 
     ghost part = { scheme_part };
 
+    #[tactic(auto, using(crate::proofs::Fields::written_scheme))]
     fn write(self, out: &mut [u8], at: usize) {
         write_start(out, at, 3, 24);
         self.cost.write(out, at + 3);
@@ -94,6 +98,7 @@ impl StoredRecord for Party {
 
     ghost part = { party_part };
 
+    #[tactic(auto, using(crate::proofs::Fields::written_party))]
     fn write(self, out: &mut [u8], at: usize) {
         write_start(out, at, 4, 30);
         self.scheme.write(out, at + 3);
@@ -108,6 +113,7 @@ impl StoredRecord for Party {
 }
 
 // The fields of these records, one after the other.
+#[tactic(auto, using(crate::proofs::Fields::written_no_fields))]
 fn write_records<R: StoredRecord>(out: &mut [u8], at: usize, records: &[R])
     requires { at + R.LENGTH * length records.now ≤ length out.old }
     ensures { out.new ≡ written out.old at (encoded_parts (map R.part records.now)) }
@@ -149,6 +155,7 @@ fn write_check(out: &mut [u8], at: usize)
 
 // The stored form at the start of a lent buffer, of a ledger that was tested already. The table's first records are its entries.
 // Apart from `write`, so that a ledger that a call has left sound isn't tested again.
+#[tactic(auto, using(std::proofs::lemmas::Grind::common_steps, stored::proofs::Theorems::Form::length_form, stored::proofs::Theorems::Form::length_fields, crate::proofs::Fields::written_form))]
 pub fn write_form(ledger: &Ledger, table: &[Party], out: &mut [u8]) -> Written
     requires { (ledger.now.count ≤ most_schemes) × (ledger.now.entries ≤ length table.now) }
     ensures value { result ≡ form_answer ledger.now table.now out.old }

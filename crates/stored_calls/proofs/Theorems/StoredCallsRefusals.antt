@@ -166,7 +166,7 @@ module _ (file : List ℕ) (room : ℕ) (book request out : List ℕ) (bill : Bi
       either true = refl
       either false = refl
 
-  refuses_9 : EntryNeeded books bill → verdict books bill ≡ Err no_entry_left
+  refuses_9 : EntryNeeded books bill → verdict books bill ≡ Err (refusal no_entry_left 0 0)
   unfolding verdict
   refuses_9 due =
       rw (

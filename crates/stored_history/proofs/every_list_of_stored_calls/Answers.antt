@@ -1,3 +1,4 @@
+-- The theorems of EveryListOfStoredCalls, which rest on those of the same calls in memory.
 use Rattle.stored_history.proofs.Theorems.EveryListOfStoredCalls.{every_list_of_stored_calls, kept_reads_back, stored_trace_exists, new_stored_kept}
 use Rattle.stored_history.proofs.every_list_of_stored_calls.Goals as goal
 

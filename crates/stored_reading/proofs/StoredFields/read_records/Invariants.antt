@@ -3,8 +3,8 @@ use Rattle.std.proofs.Common.{length}
 use Rattle.stored_reading.proofs.Collecting.{Collected}
 use Rattle.stored_reading.proofs.StoredFields.read_records.Given as goal
 
-abbrev pub invariant-loop-rest : goal.invariant-loop-rest
-invariant-loop-rest g l = Collected g.R.StoredRecord.of_bytes g.R.StoredRecord.TAG g.R.StoredRecord.size l.self.fields.now l.initial.records l.records l.count l.rest
+abbrev pub invariant-loop-field : goal.invariant-loop-field
+invariant-loop-field g l = Collected g.R.StoredRecord.of_bytes g.R.StoredRecord.TAG g.R.StoredRecord.size l.self.fields.now l.initial.records l.records l.count l.rest
 
-abbrev pub decreases-loop-rest : goal.decreases-loop-rest
-decreases-loop-rest g l = length l.rest
+abbrev pub decreases-loop-field : goal.decreases-loop-field
+decreases-loop-field g l = length l.rest
