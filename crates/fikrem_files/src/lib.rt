@@ -6,34 +6,25 @@ ghost use Rattle.std.specs.Prelude.{◌≡◌};
 ghost use Rattle.tagged.specs.File.{answer_of};
 ghost use Rattle.rate_book.specs.Book.{book_of};
 ghost use Rattle.request.specs.Request.{request_of};
-ghost use Rattle.fikrem_files.specs.FileResult.{file_read_alone, file_result};
+ghost use Rattle.quoting_unit.specs.Interface.{answer_result};
+ghost use Rattle.fikrem_files.specs.FileResult.{file_read_alone};
 
-use tagged::file::Refusal;
+use quoting_unit::result_of_answer;
 
 // a refusal's file where a file is read alone
 const FILE_READ_ALONE: u8 = 1;
 
-// A number, since it crosses to C; no From, since neither a number nor a Result is this crate's own.
-fn result_of_reading<Values: Drop>(read: Result<Values, Refusal>) -> u64
-    ensures { result ≡ file_result (answer_of read) }
-{
-    match read {
-        Ok(_) => 0,
-        Err(refusal) => quoting_unit::result_of(refusal, 0),
-    }
-}
-
 // Whether a rate book can be read.
-// This and the next are two functions, as C has a name for each.
+// This and the next are two functions, as C has a name for each; the result is a number, since it crosses to C.
 pub fn fikrem_check_book(book: &[u8]) -> u64
-    ensures { result ≡ file_result (answer_of (book_of file_read_alone book.now)) }
+    ensures { result ≡ answer_result (answer_of (book_of file_read_alone book.now)) }
 {
-    result_of_reading(rate_book::book::read_book(FILE_READ_ALONE, book))
+    result_of_answer(rate_book::book::read_book(FILE_READ_ALONE, book))
 }
 
 // Whether a request can be read.
 pub fn fikrem_check_request(request: &[u8]) -> u64
-    ensures { result ≡ file_result (answer_of (request_of file_read_alone request.now)) }
+    ensures { result ≡ answer_result (answer_of (request_of file_read_alone request.now)) }
 {
-    result_of_reading(request::values::read_request(FILE_READ_ALONE, request))
+    result_of_answer(request::values::read_request(FILE_READ_ALONE, request))
 }

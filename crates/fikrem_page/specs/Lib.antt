@@ -1,2 +1,1 @@
-pub mod PageResult
 pub mod Cases

@@ -6,16 +6,13 @@
 ghost use Rattle.std.specs.Prelude.{◌≡◌};
 ghost use Rattle.charge.specs.Price.{price_of};
 ghost use Rattle.page_text.specs.Page.{page_written, page_output};
-ghost use Rattle.fikrem_page.specs.PageResult.{page_result};
+ghost use Rattle.quoting_unit.specs.Interface.{answer_result};
 
 // The page of a request by a rate book, at the start of the lent output.
-// The result is a number, since it crosses to C; price and price band write their figures before the 0, so each says it by itself.
+// The result is a number, since it crosses to C.
 pub fn fikrem_page(book: &[u8], request: &[u8], out: &mut [u8]) -> u64
-    ensures value { result ≡ page_result (page_written (price_of book.now request.now) out.old) }
+    ensures value { result ≡ answer_result (page_written (price_of book.now request.now) out.old) }
     ensures out_after { out.new ≡ page_output (price_of book.now request.now) out.old }
 {
-    match page_text::page(book, request, out) {
-        Ok(()) => 0,
-        Err(refusal) => quoting_unit::result_of(refusal, 0),
-    }
+    quoting_unit::result_of_answer(page_text::page(book, request, out))
 }

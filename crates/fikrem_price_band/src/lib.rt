@@ -33,6 +33,7 @@ fn band_places(band: Band) -> [i64; BAND]
 
 // Lowest and highest IR, CC and NC of a request by a rate book, with these figures in place of its field 08.
 // The result is a number, since it crosses to C.
+#[tactic(auto, using(price_band::proofs::Theorems::Band::band_fits))]
 pub fn fikrem_price_band(
     book: &[u8],
     request: &[u8],
@@ -55,6 +56,7 @@ pub fn fikrem_price_band(
         transmission_low,
         transmission_high,
     };
+    // The 0 stands by itself: the figures are written before it.
     match price_band::price_band(book, request, bands) {
         Ok(band) => {
             figures[..BAND].copy_from_slice(&band_places(band));

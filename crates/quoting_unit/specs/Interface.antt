@@ -1,6 +1,7 @@
 -- What every call shares: the result, in which a refusal is told, and the lent buffers: the five places of an answer, the twenty-seven of the figures.
-use Rattle.std.specs.Prelude.{ℕ, ◌+◌, ◌*◌, ◌/◌, ◌%◌, Bool, cond, List, [], ◌∷◌, ◌++◌, ltb, eqb, ℤ, length, drop}
+use Rattle.std.specs.Prelude.{ℕ, Err, Ok, ◌+◌, ◌*◌, ◌/◌, ◌%◌, Bool, cond, List, [], ◌∷◌, ◌++◌, ltb, eqb, ℤ, length, drop}
 use Rattle.tagged.specs.Refusals.{low_above_high}
+use Rattle.tagged.specs.File.{FileAnswer}
 use Rattle.tagged.specs.declared.file.Refusal.{Refusal}
 use Rattle.reconciliation.specs.Figures.{figure_values}
 use Rattle.reconciliation.specs.declared.Reconciliation.{Reconciliation}
@@ -31,6 +32,11 @@ place_in_result place = cond (ltb highest_place place) highest_place place
 
 abbrev pub result_of : Refusal → ℕ → ℕ
 result_of r of_ledger = r.number % file_weight + file_weight * (r.file % 4) + ledger_weight * (of_ledger % 2) + place_weight * place_in_result r.place
+
+-- of a call that tells nothing beside its result and needs no stored ledger
+abbrev pub answer_result : FileAnswer → ℕ
+answer_result (Ok _) = 0
+answer_result (Err r) = result_of r 0
 
 -- a result taken apart: the header's FIKREM_NUMBER, FIKREM_FILE, FIKREM_OF_LEDGER and FIKREM_PLACE
 abbrev pub number_in : ℕ → ℕ

@@ -5,11 +5,12 @@
 
 ghost use Rattle.std.specs.Prelude.{◌≡◌, ◌≤◌, length, Ok};
 ghost use Rattle.numbers.specs.Check.{check};
+ghost use Rattle.tagged.specs.File.{answer_of};
 ghost use Rattle.reconciliation.specs.Figures.{percent_is_there, percent_figure, percent_quotient, percent_remainder, figure_values};
 ghost use Rattle.reconciliation.specs.FigureLimits.{RemainderWithin, FiguresWithin};
 ghost use Rattle.calls.specs.Decision.{accept, pay_out, hand_over};
 ghost use Rattle.stored_calls.specs.StoredCalls.{refused_by, of_stored_accept, of_stored_answer};
-ghost use Rattle.quoting_unit.specs.Interface.{answer_places, figure_places, highest_place, place_in_result, result_of, is_done, is_refused, outcome_of, answer_after, figures_after, lent_figures, lent_output, lent_both, lent_answer};
+ghost use Rattle.quoting_unit.specs.Interface.{answer_places, figure_places, highest_place, place_in_result, result_of, answer_result, is_done, is_refused, outcome_of, answer_after, figures_after, lent_figures, lent_output, lent_both, lent_answer};
 ghost use Rattle.quoting_unit.specs.Unit.{price, slip_text, new_ledger, on_ledger, check_ledger, unit_call, written_places, unit_slip_ending, acceptance_places, unit_call_ending, check_ending};
 
 use calls::answers::{Acceptance, JoiningAnswer};
@@ -37,7 +38,8 @@ const HIGHEST_PLACE: u64 = 72057594037927935;
 // The result where the answer or the figures are too short.
 const TOO_SHORT: u64 = OUTPUT_TOO_SHORT as u64;
 
-// How a call ends. The C interface tells a refusal by a result other than 0 alone, so the result stands beside what is told.
+// How a call ends. C and the promise go by the result alone: of a refusal whose result were 0 a Result would leave the answer as it was,
+// so the result stands beside what is told.
 #[derive(Clone, Copy)]
 struct Outcome {
     // 0 where the call is done
@@ -65,6 +67,17 @@ pub fn result_of(refusal: Refusal, of_ledger: u8) -> u64
     let low = number % FILE_WEIGHT + FILE_WEIGHT * (file % 4) + LEDGER_WEIGHT * (ledger % 2);
     let place = place_in_result(refusal.place);
     low + PLACE_WEIGHT * place
+}
+
+// The result of a call that tells nothing beside it, and needs no stored ledger: 0 where it is done, otherwise its refusal.
+// No From, since neither a number nor a Result is this crate's own.
+pub fn result_of_answer<Values: Drop>(answer: Result<Values, Refusal>) -> u64
+    ensures { result ≡ answer_result (answer_of answer) }
+{
+    match answer {
+        Ok(_) => 0,
+        Err(refused) => result_of(refused, 0),
+    }
 }
 
 fn done(told: [u64; ANSWER]) -> Outcome
@@ -97,7 +110,7 @@ fn write_answer(outcome: Outcome, answer: &mut [u64]) -> u64
 
 // A percentage in four places: whether it is there, rounded, and the exact figure's quotient and remainder.
 // All four are numbers, since they cross to C.
-#[derive(Clone, Copy)]
+#[derive(Clone, Copy, Default)]
 struct PercentPlaces {
     is_there: i64,
     figure: i64,
@@ -119,12 +132,7 @@ fn percent_places(percent: Percent) -> PercentPlaces
             quotient: whole.quotient,
             remainder: signed(whole.remainder),
         },
-        None => PercentPlaces {
-            is_there: 0,
-            figure: 0,
-            quotient: 0,
-            remainder: 0,
-        },
+        None => PercentPlaces::default(),
     }
 }
 
@@ -176,6 +184,8 @@ fn write_figures(r: Reconciliation, figures: &mut [i64])
 }
 
 // The reconciliation of a request by a rate book, into the figures.
+// Here and below all arguments stand side by side, as the C interface has numbers and lent buffers alone. The 0 stands by itself here: the figures
+// are written before it.
 pub fn fikrem_price(book: &[u8], request: &[u8], figures: &mut [i64]) -> u64
     ensures { let end = unit_call (price book.now request.now) (lent_figures figures.old) in
         (result ≡ end.result) × (figures.new ≡ end.lent.figures) }
@@ -199,7 +209,7 @@ fn written_places(length: usize) -> [u64; ANSWER]
     [0, 0, 0, 0, length as u64]
 }
 
-// Three, with the call's and the check's below: what is told, or whose file a refusal is of, differs in each.
+// By name and no From, here and below: a refusal is the files' here, the stored ledger's in a check, and either one's in a call.
 fn slip_outcome(written: SlipWritten) -> Outcome
     ensures { result ≡ outcome_of (unit_slip_ending written) }
 {
@@ -286,7 +296,6 @@ fn acceptance_outcome(accepted: StoredAcceptance) -> Outcome
 }
 
 // Accept on a stored ledger: the new stored form into the lent output, and the reconciliation into the figures.
-// Here and below all arguments stand side by side: the C interface has numbers and lent buffers alone.
 pub fn fikrem_accept(
     stored: &[u8],
     table_size: usize,

@@ -11,13 +11,14 @@ use Rattle.book_zones.specs.Zones.{judge_zones_from}
 use Rattle.rate_book.specs.Book.{book_of}
 use Rattle.request.specs.Request.{request_of}
 use Rattle.charge.specs.Cases.MarkedFigures.{slip_book, slip_request, scheme_request}
-use Rattle.fikrem_files.specs.FileResult.{file_read_alone, file_result}
+use Rattle.quoting_unit.specs.Interface.{answer_result}
+use Rattle.fikrem_files.specs.FileResult.{file_read_alone}
 
 abbrev book_result : List ℕ → ℕ
-book_result file = file_result (answer_of (book_of file_read_alone file))
+book_result file = answer_result (answer_of (book_of file_read_alone file))
 
 abbrev request_result : List ℕ → ℕ
-request_result file = file_result (answer_of (request_of file_read_alone file))
+request_result file = answer_result (answer_of (request_of file_read_alone file))
 
 -- the slip's files; each as the other kind, whose field 02 at 7 has another length; no bytes; a request's capacity at 153 at its lowest and one below
 pub file_results :

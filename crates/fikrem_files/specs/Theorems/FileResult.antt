@@ -9,13 +9,14 @@ use Rattle.request.specs.Request.{request_of}
 use Rattle.request.proofs.Theorems.Request.{request_refusal_numbers}
 use Rattle.ledger.specs.RefusalNumbers.{one_to}
 use Rattle.ledger.proofs.Theorems.RefusalNumbers.{within_one_to}
+use Rattle.quoting_unit.specs.Interface.{answer_result}
 use Rattle.quoting_unit.specs.UnitResults.{Results}
 use Rattle.quoting_unit.proofs.Theorems.UnitResults.{is_done, is_refused}
-use Rattle.fikrem_files.specs.FileResult.{file_read_alone, file_result}
+use Rattle.fikrem_files.specs.FileResult.{file_read_alone}
 
 -- the result of a reading, by its answer
 abbrev FileResults : FileAnswer → Type 0
-FileResults answer = Results (answer ≡ Ok tt) (one_to value_not_listed) (file_result answer)
+FileResults answer = Results (answer ≡ Ok tt) (one_to value_not_listed) (answer_result answer)
 
 reading_results : (answer : FileAnswer) → RefusesTo value_not_listed file_read_alone answer → FileResults answer
 reading_results (Ok _) h = is_done refl

@@ -37,7 +37,7 @@ acceptance_in default (is_refused r) = default
 module _ (books : Books) (acceptance : Acceptance) where
   of_verdict : (bill : Bill) (v : Verdict) → answer_to books (decided_by books bill v) ≡ is_accepted acceptance → acceptance.reconciliation ≡ bill.reconciliation
   of_verdict bill (Ok course) e = ap (λ told. (acceptance_in acceptance told).reconciliation) (sym e)
-  of_verdict bill (Err number) e = other cc
+  of_verdict bill (Err r) e = other cc
 
   of_pricing : (pricing : Pricing) → answer_to books (accept_by books pricing) ≡ is_accepted acceptance → BilledBy pricing acceptance
   of_pricing (Ok bill) e = record { bill = bill; priced = refl; same = of_verdict bill (verdict books bill) e }

@@ -6,6 +6,7 @@ use native.Mathlib.Omega.{arith}
 use Rattle.tagged.specs.File.{file_answer, answer_of, fields_part, refusal, FileAnswer}
 use Rattle.tagged.specs.Find.{field_start, field_value}
 use Rattle.tagged.proofs.Theorems.Walk.{by_test}
+use Rattle.tagged.proofs.Theorems.Impossible.{impossible}
 use Rattle.tagged.specs.Refusals.{bespoke_not_allowed, no_entry_left, pay_out_above_credit, ledger_unsound, output_too_short}
 use Rattle.tagged.specs.declared.file.Refusal.{Refusal}
 use Rattle.field_values.specs.Judged.{judge, same_bytes}
@@ -27,6 +28,7 @@ use Rattle.ledger.specs.Sound.{sound}
 use Rattle.ledger.specs.declared.records.Party.{Party}
 use Rattle.ledger.specs.declared.records.Ledger.{Ledger}
 use Rattle.calls.specs.Verdict.{verdict, Verdict}
+use Rattle.calls.proofs.Theorems.VerdictConditions.{verdict_by}
 use Rattle.calls.specs.Decision.{Call, accept, pay_out, hand_over, decided_by, accept_by, pay_out_by, hand_over_by, decided, CallAnswer, is_accepted, is_done, is_refused, answer_to}
 use Rattle.calls.specs.Carried.{State, books_on}
 use Rattle.calls.specs.Calls.{state_of, answered, leaves}
@@ -116,12 +118,18 @@ AnswerBy size is_done = Unit {0}
 AnswerBy size (is_refused r) = PlacedBy size r
 
 module _ (size : ℕ) (five : 5 ≤ size) (books : Books) where
-  by_verdict : (bill : Bill) (v : Verdict) → AnswerBy size (answer_to books (decided_by books bill v))
-  by_verdict bill (Ok course) = tt
-  by_verdict bill (Err number) = (omega arith, omega arith)
+  by_verdict : (bill : Bill) (v : Verdict) → ((r : Refusal) → v ≡ Err r → r ≡ refusal r.number 0 0) → AnswerBy size (answer_to books (decided_by books bill v))
+  by_verdict bill (Ok course) told = tt
+  by_verdict bill (Err r) told = subst (PlacedBy size) (sym (told r refl)) (omega arith, omega arith)
+
+  -- what a verdict refuses with names no file and no place
+  no_file : (bill : Bill) (r : Refusal) → verdict books bill ≡ Err r → r ≡ refusal r.number 0 0
+  no_file bill =
+      verdict_by (λ v. (r : Refusal) → v ≡ Err r → r ≡ refusal r.number 0 0) books bill
+      (λ number one r e. let same : refusal number 0 0 ≡ r = cc in subst (λ x. x ≡ refusal x.number 0 0) same refl) (λ has r e. impossible cc)
 
   by_pricing : (pricing : Pricing) → PricingBy size pricing → AnswerBy size (answer_to books (accept_by books pricing))
-  by_pricing (Ok bill) h = by_verdict bill (verdict books bill)
+  by_pricing (Ok bill) h = by_verdict bill (verdict books bill) (no_file bill)
   by_pricing (Err r) h = h
 
   pay_out_placed : (at : Found EntryParticulars) (amount : ℕ) → AnswerBy size (answer_to books (pay_out_by at amount))
