@@ -3,8 +3,8 @@
 
 pub mod refused;
 
-ghost use Rattle.std.specs.Prelude.{◌≤◌, IfOk};
-ghost use Rattle.arrayvec.specs.ArrayVec.{array_vec_len};
+ghost use Rattle.std.specs.Prelude.{◌≡◌, [], IfOk};
+ghost use Rattle.std.specs.Str.{IsUtf8};
 ghost use Rattle.std.specs.Counts.{IsPrefixLen};
 
 use arrayvec::ArrayVec;
@@ -33,7 +33,8 @@ fn read_all(file: &mut impl Read, space: &mut [u8]) -> io::Result<usize>
 // read counts as empty, and so does one whose name is no UTF-8.
 // So a count and no error: no program tells such a file from an empty one.
 pub fn read_file(files: &impl Files, name: &[u8], space: &mut [u8]) -> usize
-    ensures { IsPrefixLen result space.new }
+    ensures within { IsPrefixLen result space.new }
+    ensures no_name { ¬ IsUtf8 name.now → result ≡ 0 }
 {
     let Ok(path) = str::from_utf8(name) else {
         return 0;
@@ -45,11 +46,12 @@ pub fn read_file(files: &impl Files, name: &[u8], space: &mut [u8]) -> usize
 }
 
 // The first bytes of a file, as many as `MOST`. A file that can't be read counts as empty.
-pub fn read_start<const MOST: usize>(
+// Which bytes a file holds, the library's contracts don't say, and so no clause can: the clause is of a name that no file has.
+pub fn read_start<const MOST: usize, N: AsSlice<u8> + Drop>(
     files: &impl Files,
-    name: impl AsSlice<u8> + Drop,
+    name: N,
 ) -> ArrayVec<u8, MOST>
-    ensures { array_vec_len result ≤ MOST }
+    ensures { ¬ IsUtf8 (N.items name) → result.items ≡ [] }
 {
     let mut bytes = ArrayVec::from([0u8; MOST]);
     let size = read_file(files, name.as_slice(), bytes.as_mut_slice());

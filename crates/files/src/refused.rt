@@ -1,5 +1,6 @@
 // The line of a refusal.
-ghost use Rattle.std.specs.Prelude.{◌++◌, Some, codes, decimal};
+ghost use Rattle.std.specs.Prelude.{Some};
+ghost use Rattle.files.specs.Refused.{refused_text};
 
 use std::fmt;
 use tagged::file::Refusal;
@@ -9,7 +10,7 @@ use tagged::file::Refusal;
 pub struct Refused(pub Refusal);
 
 impl fmt::Display for Refused {
-    ghost output = { λ r. Some (codes "REFUSED " ++ decimal r.0.number ++ codes " " ++ decimal r.0.file ++ codes " " ++ decimal r.0.place) };
+    ghost output = { λ r. Some (refused_text r.0) };
 
     fn fmt<W: fmt::Write>(&self, f: &mut fmt::Formatter<W>) -> fmt::Result {
         let Refusal {

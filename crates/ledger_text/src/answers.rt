@@ -1,4 +1,7 @@
 // The lines of the calls' answers.
+ghost use Rattle.std.specs.Prelude.{Some};
+ghost use Rattle.ledger_text.specs.Answers.{answered_text, length_text};
+
 use calls::answers::{Acceptance, JoiningAnswer};
 use files::refused::Refused;
 use std::fmt;
@@ -9,6 +12,8 @@ use tagged::file::Refusal;
 pub struct Answered<T>(pub Result<T, Refusal>);
 
 impl<T: fmt::Display> fmt::Display for Answered<T> {
+    ghost output = { λ a. answered_text T.output a.0 };
+
     fn fmt<W: fmt::Write>(&self, f: &mut fmt::Formatter<W>) -> fmt::Result {
         match &self.0 {
             Ok(answer) => write!(f, "{answer}"),
@@ -64,6 +69,8 @@ impl fmt::Display for Joining {
 pub struct FormLength(pub usize);
 
 impl fmt::Display for FormLength {
+    ghost output = { λ n. Some (length_text n.0) };
+
     fn fmt<W: fmt::Write>(&self, f: &mut fmt::Formatter<W>) -> fmt::Result {
         write!(f, "LENGTH {}", self.0)
     }

@@ -76,6 +76,7 @@ impl<'a> fmt::Display for LedgerLines<'a> {
     fn fmt<W: fmt::Write>(&self, f: &mut fmt::Formatter<W>) -> fmt::Result {
         let ledger = self.ledger;
         writeln!(f, "{}", Figures(ledger))?;
+        // Two loops of three lines: one function over either record would ask for `Numbered<&R>: Display` and be no shorter.
         let schemes = ledger.schemes.iter().take(ledger.count as usize);
         for (number, record) in (1usize..).zip(schemes) {
             writeln!(f, "{}", Numbered { number, record })?;

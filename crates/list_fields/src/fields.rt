@@ -3,6 +3,7 @@ ghost use Rattle.std.specs.Prelude.{◌≤◌, length};
 ghost use Rattle.std.specs.Iterator.{at_most};
 
 use std::fmt;
+use tagged::find::next_field;
 
 // A field's tag, the offset of its value and the value's length.
 #[derive(Clone, Copy)]
@@ -42,13 +43,13 @@ impl<'a> Iterator for Fields<'a> {
     ghost remaining = { λ s. at_most (length s.rest.now) };
 
     fn next(&mut self) -> Option<Field> {
-        let tag = *self.rest.first()?;
-        if self.rest.len() < 3 {
-            return None;
-        }
-        let len = tagged::find::next_value(self.rest).len();
+        let field = next_field(self.rest)?;
         let start = self.fields.len() - self.rest.len() + 3;
-        self.rest = tagged::find::next_rest(self.rest);
-        Some(Field { tag, start, len })
+        self.rest = field.rest;
+        Some(Field {
+            tag: field.tag,
+            start,
+            len: field.value.len(),
+        })
     }
 }

@@ -11,6 +11,7 @@ const PAGES: [(&str, &str); 3] = [
     ("rates_with_opex.bin", "job_special_pricing.bin"),
 ];
 
+// One loop, as in slip_refusals but for the printer and the last pairs: each text is a program of its own.
 fn main(rt: HostRuntime) {
     for (book, request) in UNREADABLE.iter().chain(&REFUSED).chain(&PAGES) {
         print_page(&rt, *book, *request);

@@ -20,28 +20,30 @@ const FILE_SIZE: usize = 4_096;
 // How many bytes are read of a stored ledger or of the script, and written of a stored form.
 const LONGEST_FILE: usize = 65_536;
 
-// Writes the stored form into a lent output, and how long it is: 0 where that is refused.
-fn write_form(rt: &impl Print, state: &State, out: &mut [u8]) -> io::Result<usize> {
+// Writes the stored form into a lent output: the form's bytes, none where that is refused.
+fn write_form<'a>(
+    rt: &impl Print,
+    state: &State,
+    out: &'a mut [u8],
+) -> io::Result<Option<&'a [u8]>> {
     let written = state.write(out);
     println!(rt;
         "write to {} bytes: {}",
         out.len(),
         Answered(written.map(FormLength))
     )?;
-    Ok(written.unwrap_or(0))
+    Ok(written.ok().and_then(|size| out.get(..size)))
 }
 
 // The written form read back and written again.
 fn over_and_back(rt: &impl Print, state: &State) -> io::Result<()> {
     let mut out = [0u8; LONGEST_FILE];
-    let size = write_form(rt, state, &mut out)?;
-    let form = out.get(..size);
+    let form = write_form(rt, state, &mut out)?;
     let mut again = State::new();
     let read = again.read(form.unwrap_or(b""));
     println!(rt; "read what was written: {}", Answered(read.map(|_| "READ")))?;
     let mut second_out = [0u8; LONGEST_FILE];
-    let second_size = write_form(rt, &again, &mut second_out)?;
-    if form == second_out.get(..second_size) {
+    if form == write_form(rt, &again, &mut second_out)? {
         println!(rt; "the second writing gives the same bytes")?;
     } else {
         println!(rt; "THE SECOND WRITING DIFFERS")?;
@@ -80,8 +82,7 @@ fn carry_out(
         }
         Line::Write(size) => {
             let mut space = [0u8; LONGEST_FILE];
-            let most = if size <= LONGEST_FILE { size } else { 0 };
-            write_form(rt, state, &mut space[..most])?;
+            write_form(rt, state, space.get_mut(..size).unwrap_or(&mut []))?;
         }
         Line::OverAndBack => over_and_back(rt, state)?,
         Line::New => *state = State::new(),

@@ -3,12 +3,12 @@ use calls::answers::{AcceptAnswer, Answer};
 use ledger::limits::{MOST_ENTRIES, Parties};
 use ledger::records::{Ledger, Party};
 use ledger_text::records::{LedgerLines, Numbered};
+use lent_table::{AcceptedTable, ChangedTable, ReadTable};
 use stored::writing::Written;
 use tagged::file::FileAnswer;
 
 // The table is the first `room` records of the parties, as `lent_table` takes them: it may grow and
 // shrink between calls, and the records past it stay.
-// An array in a field is put back by a local of its own: stored straight from a field, it can't be proved yet.
 #[derive(Clone, Copy)]
 pub struct State {
     pub ledger: Ledger,
@@ -26,35 +26,52 @@ impl State {
     }
 
     pub fn accept(&mut self, book: &[u8], request: &[u8]) -> AcceptAnswer {
-        let after = lent_table::accept(self.ledger, self.parties, self.room, book, request);
-        let parties = after.parties;
-        self.ledger = after.ledger;
+        let AcceptedTable {
+            answer,
+            ledger,
+            parties,
+        } = lent_table::accept(self.ledger, self.parties, self.room, book, request);
+        self.ledger = ledger;
         self.parties = parties;
-        after.answer
+        answer
     }
 
+    // One call each, its array put back: a closure for the call would be no shorter.
     pub fn pay_out(&mut self, entry: u32, amount: u64) -> Answer {
-        let after = lent_table::pay_out(self.ledger, self.parties, self.room, entry, amount);
-        let parties = after.parties;
+        let ChangedTable { answer, parties } = lent_table::pay_out(
+            self.ledger,
+            self.parties,
+            self.room,
+            entry,
+            amount,
+        );
         self.parties = parties;
-        after.answer
+        answer
     }
 
     pub fn hand_over(&mut self, entry: u32, person: u32) -> Answer {
-        let after = lent_table::hand_over(self.ledger, self.parties, self.room, entry, person);
-        let parties = after.parties;
+        let ChangedTable { answer, parties } = lent_table::hand_over(
+            self.ledger,
+            self.parties,
+            self.room,
+            entry,
+            person,
+        );
         self.parties = parties;
-        after.answer
+        answer
     }
 
     // What is read; a new ledger with no entries where the reading is refused.
     pub fn read(&mut self, file: &[u8]) -> FileAnswer {
         *self = State::new();
-        let read = lent_table::read(self.ledger, self.parties, self.room, file);
-        let parties = read.parties;
-        self.ledger = read.ledger;
+        let ReadTable {
+            answer,
+            ledger,
+            parties,
+        } = lent_table::read(self.ledger, self.parties, self.room, file);
+        self.ledger = ledger;
         self.parties = parties;
-        read.answer
+        answer
     }
 
     pub fn write(&self, out: &mut [u8]) -> Written {

@@ -19,6 +19,7 @@ const SLIPS: [(&str, &str); 11] = [
     ("rates_with_opex.bin", "job_special_pricing.bin"),
 ];
 
+// One loop, as in page_refusals but for the printer and the last pairs: each text is a program of its own.
 fn main(rt: HostRuntime) {
     for (book, request) in UNREADABLE.iter().chain(&REFUSED).chain(&SLIPS) {
         print_slip(&rt, *book, *request);

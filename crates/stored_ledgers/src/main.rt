@@ -37,22 +37,30 @@ const FILES: [(&str, usize, usize); 14] = [
     ("one_scheme.bin", 2, 129),
 ];
 
-// A ledger and the table's records.
+// A ledger and its table, the first `room` of the records.
+// Of its own beside stored_calls' type, which is made for one call and leaves the room to its caller: the program
+// reads and writes alone, and takes none of the calls.
 #[derive(Drop)]
 struct Stored {
     ledger: Ledger,
     parties: Parties,
+    room: usize,
 }
 
 impl Stored {
     fn read(room: usize, file: &[u8]) -> Result<Stored, Refusal> {
         let mut ledger = ledger::records::new_ledger();
         let parties = stored_reading::read(&mut ledger, room, file)?;
-        Ok(Stored { ledger, parties })
+        Ok(Stored {
+            ledger,
+            parties,
+            room,
+        })
     }
 
-    fn write(&self, room: usize, out: &mut [u8]) -> Result<usize, Refusal> {
-        stored_writing::write(&self.ledger, &self.parties[..room.min(MOST_ENTRIES)], out)
+    fn write(&self, out: &mut [u8]) -> Result<usize, Refusal> {
+        let table = &self.parties[..self.room.min(MOST_ENTRIES)];
+        stored_writing::write(&self.ledger, table, out)
     }
 }
 
@@ -68,17 +76,11 @@ impl fmt::Display for Stored {
 }
 
 // Writes a ledger into an output, and holds its stored form against a file.
-fn write_back(
-    rt: &impl Print,
-    stored: &Stored,
-    room: usize,
-    output: usize,
-    file: &[u8],
-) -> io::Result<()> {
+fn write_back(rt: &impl Print, stored: &Stored, output: usize, file: &[u8]) -> io::Result<()> {
     let mut space = [0u8; LONGEST_FORM];
     let out = &mut space[..output.min(LONGEST_FORM)];
     print!(rt; " OUTPUT {output} ")?;
-    match stored.write(room, out) {
+    match stored.write(out) {
         Err(refusal) => println!(rt; "{}", Refused(refusal)),
         Ok(size) => {
             let same = out.get(..size).is_some_and(|form| form == file);
@@ -96,7 +98,7 @@ fn show(rt: &(impl Files + Print), name: &str, room: usize, output: usize) -> io
         Err(refusal) => println!(rt; "{}", Refused(refusal)),
         Ok(stored) => {
             print!(rt; "{stored}")?;
-            write_back(rt, &stored, room, output, file.as_slice())
+            write_back(rt, &stored, output, file.as_slice())
         }
     }
 }
@@ -108,6 +110,7 @@ fn unsound_ledger() -> Stored {
     Stored {
         ledger,
         parties: ledger::records::no_parties(),
+        room: MOST_ENTRIES,
     }
 }
 
@@ -115,8 +118,9 @@ fn run(rt: &(impl Files + Print)) -> io::Result<()> {
     for (name, room, output) in FILES {
         show(rt, name, room, output)?;
     }
-    print!(rt; "unsound TABLE {MOST_ENTRIES}")?;
-    write_back(rt, &unsound_ledger(), MOST_ENTRIES, LONGEST_FORM, b"")
+    let unsound = unsound_ledger();
+    print!(rt; "unsound TABLE {}", unsound.room)?;
+    write_back(rt, &unsound, LONGEST_FORM, b"")
 }
 
 // What standard output doesn't take is lost: the run ends there.
