@@ -158,9 +158,7 @@ pub fn price_values(
     requires { BookWithin book × RatesWithin rates book.zones × RequestWithin request × (distribution ≤ highest_revenue) × (transmission ≤ highest_revenue) }
     ensures { result ≡ values_priced book rates request distribution transmission }
 {
-    let Some(zone) = zone_found(&book, request.zone) else {
-        return Err(Refusal::of_file(ZONE_NOT_IN_BOOK, 2, 0));
-    };
+    let zone = zone_found(&book, request.zone).ok_or(Refusal::of_file(ZONE_NOT_IN_BOOK, 2, 0))?;
     // By a local each: an array that a literal takes straight from a field can't be proved yet.
     let modes = request.modes;
     let posted = rates[zone];

@@ -1,4 +1,4 @@
--- A ledger that code holds has a place for each of the most schemes for schemes.
+-- A ledger that code holds has all its places for schemes, as many as it may hold at most.
 use mathlib.Core.Path.{◌≡◌}
 use mathlib.Core.List.{List}
 use mir.Val.{Val}

@@ -1,4 +1,4 @@
--- The schemes and the zeros past the last one, one place at a time.
+-- The schemes, one place at a time; the zeros past the last one, all at once; and the last test of a list.
 use Prim.Native.Nat.{ℕ, suc, ◌+◌, ◌<◌, ◌≤◌}
 use mathlib.Core.Path.{◌≡◌, refl, sym, ◌∙◌}
 use mathlib.Core.List.{List}

@@ -1,6 +1,6 @@
 // A scheme's and an entry's place, by its number. Nothing else turns a number into a place.
 // A place is an index, since schemes and entries stand in fixed arrays by number: the firmware has no map.
-// Two functions of one form, as schemes and entries are counted in two widths: over a third for both they would be two names for it.
+// Two functions of one form, as schemes and entries are numbered in two widths: over a third for both they would be two names for it.
 ghost use Rattle.std.specs.Prelude.{◌≡◌};
 ghost use Rattle.ledger.specs.Lookup.{scheme_place, entry_place};
 

@@ -44,7 +44,8 @@ pub struct Ledger {
     pub schemes: Schemes,
 }
 
-// This and the new ledger are functions: `[x; N]` says the value itself, where an array's Default says it place by place.
+// This and the new ledger are functions: `[x; N]` says the value itself, where an array's Default says it place by place. One for each
+// list, as each is promised by a definition of its own.
 #[tactic(auto, unfolding(crate::specs::Records::no_parties))]
 pub fn no_parties() -> Parties
     ensures { result ≡ no_parties }

@@ -77,7 +77,8 @@ fn tally_with(tally: &Tally, party: &Party) -> Tally
     }
 }
 
-// A function: `[x; N]` says the value itself, where an array's Default says it place by place.
+// A function: `[x; N]` says the value itself, where an array's Default says it place by place. One for each list, as each is promised
+// by a definition of its own.
 #[tactic(auto, unfolding(crate::specs::Tallied::no_tallies))]
 fn no_tallies() -> Tallies
     ensures { result ≡ no_tallies }

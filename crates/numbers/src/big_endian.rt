@@ -2,6 +2,8 @@
 ghost use Rattle.std.specs.Prelude.{◌≡◌, ◌+◌, ◌≤◌, ℕ, length};
 ghost use Rattle.numbers.specs.BigEndian.{number_at, bytes_of, written};
 
+use std::array;
+
 // A number of a width in a file.
 pub trait BigEndian {
     ghost width: { ℕ };
@@ -40,7 +42,7 @@ impl BigEndian for u16 {
 
     #[tactic(auto, using(crate::proofs::StdBytes::read_2))]
     fn read(bytes: &[u8], at: usize) -> u16 {
-        u16::from_be_bytes([bytes[at], bytes[at + 1]])
+        u16::from_be_bytes(array::from_fn(|i| bytes[at + i]))
     }
 
     #[tactic(auto, using(crate::proofs::StdBytes::written_2))]
@@ -56,7 +58,7 @@ impl BigEndian for u32 {
 
     #[tactic(auto, using(crate::proofs::StdBytes::read_4))]
     fn read(bytes: &[u8], at: usize) -> u32 {
-        u32::from_be_bytes([bytes[at], bytes[at + 1], bytes[at + 2], bytes[at + 3]])
+        u32::from_be_bytes(array::from_fn(|i| bytes[at + i]))
     }
 
     #[tactic(auto, using(crate::proofs::StdBytes::written_4))]
@@ -72,16 +74,7 @@ impl BigEndian for u64 {
 
     #[tactic(auto, using(crate::proofs::StdBytes::read_8))]
     fn read(bytes: &[u8], at: usize) -> u64 {
-        u64::from_be_bytes([
-            bytes[at],
-            bytes[at + 1],
-            bytes[at + 2],
-            bytes[at + 3],
-            bytes[at + 4],
-            bytes[at + 5],
-            bytes[at + 6],
-            bytes[at + 7],
-        ])
+        u64::from_be_bytes(array::from_fn(|i| bytes[at + i]))
     }
 
     #[tactic(auto, using(crate::proofs::StdBytes::written_8))]

@@ -146,7 +146,7 @@ fn signed_amount(cents: i64) -> Columns
     amount
 }
 
-// A line: a label at its start, an amount with byte 0A at its end, and blanks between.
+// A line: a label at its start, an amount with byte 0A at its end, and blanks between. In bytes and not by Display, as the amounts are.
 fn line(label: &[u8], columns: Columns) -> [u8; LINE]
     requires { (length label.now ≤ 32) × (length columns ≤ 32) }
     ensures { (amount : List ℕ) → columns ≡ amount ++ 10 ∷ [] → result ≡ line label.now amount }

@@ -22,10 +22,10 @@ fn files_page(book: &[u8], request: &[u8], out: &mut [u8]) -> PageWritten
 
 // The page, or the line `REFUSED n file place` as a slip has it, at the start of a lent buffer.
 fn page_or_refusal(book: &[u8], request: &[u8], text: &mut [u8]) -> SlipWritten {
-    match files_page(book, request, text) {
-        Ok(()) => Ok(PAGE),
-        Err(refusal) => slip_text::slip_text(Err(refusal), text),
-    }
+    let written = files_page(book, request, text);
+    written
+        .map(|()| PAGE)
+        .or_else(|refusal| slip_text::slip_text(Err(refusal), text))
 }
 
 // Prints the page of a rate book and a request, each by its file's name, or the line of the refusal.

@@ -67,7 +67,7 @@ pub struct Bounds {
     pub nc: u64,
 }
 
-// Here and below plain numbers with their bounds: what is kept from step to step is a Near, whose members hold them.
+// Here and below plain numbers with their bounds: what is kept from step to step is a Near or an Offs, whose members hold them.
 pub fn capped(x: u64) -> u64
     ensures { result ≤ limit }
 {

@@ -209,7 +209,8 @@ fn written_places(length: usize) -> [u64; ANSWER]
     [0, 0, 0, 0, length as u64]
 }
 
-// By name and no From, here and below: a refusal is the files' here, the stored ledger's in a check, and either one's in a call.
+// By name and no From, here and below: each name says what is told; and a refusal is the files' here, the stored ledger's in a check,
+// and either one's in a call.
 fn slip_outcome(written: SlipWritten) -> Outcome
     ensures { result ≡ outcome_of (unit_slip_ending written) }
 {

@@ -60,6 +60,7 @@ pub struct Reconciliation {
 }
 
 // No TryFrom: below 2 to the 63rd nothing fails, and there would be a failure to take apart.
+// Here and below a plain number under that limit: a type for it would be opened at once.
 pub fn signed(x: u64) -> i64
     requires { x < signed_below }
     ensures { result ≡ pos x }

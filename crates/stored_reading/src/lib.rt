@@ -105,7 +105,8 @@ impl StoredRecord for Party {
     ghost most_fits = { Prim.search rules };
 }
 
-// A function: `[x; N]` says the value itself, where an array's Default says it place by place.
+// A function: `[x; N]` says the value itself, where an array's Default says it place by place. One for each list, as each is promised
+// by a definition of its own.
 #[tactic(auto, unfolding(stored::specs::Form::no_schemes))]
 fn no_schemes() -> Schemes
     ensures { result ≡ no_schemes }

@@ -1,4 +1,4 @@
--- Each line is the definition's by the contract of `line` at its amount, in its order.
+-- Each line is the definition's, in its order: by the contract of `unsigned_line`, or by that of `line` at a signed amount.
 use Rattle.std.proofs.Common.{rules}
 use mir.Syntax.{w64}
 use mir.Val.{SFits}

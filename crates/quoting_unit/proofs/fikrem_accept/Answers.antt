@@ -1,4 +1,4 @@
--- Each return is one case: answer short, figures short, not read, refused, and accepted, whose figures `accepted_bounded` bounds.
+-- The figures of an acceptance are bounded (`accepted_bounded`), and there is room for them.
 use Rattle.std.proofs.Common.{arith, sym}
 use Rattle.numbers.specs.BigEndian.{Bytes}
 use Rattle.quoting_unit.proofs.Theorems.UnitFigures.{accepted_bounded}

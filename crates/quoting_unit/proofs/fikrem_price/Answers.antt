@@ -1,4 +1,4 @@
--- Short figures are 14; a priced request's figures are bounded (`priced_within`) and are written; a refusal writes none.
+-- A priced request's figures are bounded (`priced_within`), and there is room for them.
 use Rattle.std.proofs.Common.{arith, sym, ◌∙◌}
 use Rattle.numbers.specs.BigEndian.{Bytes}
 use Rattle.charge.proofs.Theorems.Bill.{priced_within}

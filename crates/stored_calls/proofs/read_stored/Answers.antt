@@ -1,4 +1,4 @@
--- Entries that are accepted fit the table, so that what is read by value is the definition's reading (`reads`).
+-- Entries that are accepted fit the table, so that what is read by value is the definition's reading (`reads`; `reads_not` where it is refused).
 use Rattle.std.proofs.Common.{rules}
 use Rattle.stored_calls.proofs.Ends.{reads, reads_not}
 use Rattle.stored_calls.proofs.read_stored.Goals as goal

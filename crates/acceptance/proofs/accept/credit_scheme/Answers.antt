@@ -1,4 +1,4 @@
--- An entry of the scheme gets its credit, and another stays as it is (credited_own, credited_other).
+-- An entry of the scheme gets its credit, and another stays as it is (credited_none before the first, then credited_own, credited_other).
 use Rattle.acceptance.proofs.Booking.{credited_none, credited_own, credited_other}
 use Rattle.acceptance.proofs.accept.credit_scheme.Goals as goal
 use Rattle.acceptance.proofs.accept.credit_scheme.Goals.{then-party-scheme, else-party-scheme}
