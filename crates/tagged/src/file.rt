@@ -8,7 +8,7 @@ use numbers::big_endian::BigEndian;
 
 // How a call is refused: document 01's number, the file and the place.
 // Number and file are bytes and no kinds: they cross to C, and the slip prints any.
-#[derive(Clone, Copy)]
+#[derive(Clone, Copy, Debug, PartialEq, Eq)]
 pub struct Refusal {
     pub number: u8,
     pub file: u8,
