@@ -91,22 +91,22 @@ static uint64_t hand_over(uint32_t entry, uint32_t person, size_t out_size, size
     return fikrem_hand_over(lent.stored, stored_size, table_size, entry, person, lent.out, out_size, lent.answer, answer_places);
 }
 
-static uint64_t check_ledger(size_t answer_places)
+static uint64_t judge_ledger(size_t answer_places)
 {
     mark();
-    return fikrem_check_ledger(lent.stored, stored_size, table_size, lent.answer, answer_places);
+    return fikrem_judge_ledger(lent.stored, stored_size, table_size, lent.answer, answer_places);
 }
 
-static uint64_t check_book(const uint8_t *file, size_t size)
+static uint64_t judge_book(const uint8_t *file, size_t size)
 {
     mark();
-    return fikrem_check_book(file, size);
+    return fikrem_judge_book(file, size);
 }
 
-static uint64_t check_request(const uint8_t *file, size_t size)
+static uint64_t judge_request(const uint8_t *file, size_t size)
 {
     mark();
-    return fikrem_check_request(file, size);
+    return fikrem_judge_request(file, size);
 }
 
 /* How they end. */
@@ -267,10 +267,10 @@ static void try_hand_over(void)
     tell("hand-over, 4 places of the answer", hand_over(2, 4712, stored_size, FIKREM_ANSWER - 1));
 }
 
-static void try_check_ledger(void)
+static void try_judge_ledger(void)
 {
-    tell("check", check_ledger(FIKREM_ANSWER));
-    tell("check, 4 places of the answer", check_ledger(FIKREM_ANSWER - 1));
+    tell("judging a ledger", judge_ledger(FIKREM_ANSWER));
+    tell("judging a ledger, 4 places of the answer", judge_ledger(FIKREM_ANSWER - 1));
 }
 
 /* The check of the bytes before the stored ledger's last two, which hold it, and of none. */
@@ -282,17 +282,17 @@ static void try_check(void)
 }
 
 /* The two files read alone: as they are, each as the other, and a request with a mark that there isn't. */
-static void try_check_files(void)
+static void try_judge_files(void)
 {
-    if (check_book(lent.book, book_size) == FIKREM_DONE && check_request(lent.request, request_size) == FIKREM_DONE) {
-        puts("check of a book and of a request: done");
+    if (judge_book(lent.book, book_size) == FIKREM_DONE && judge_request(lent.request, request_size) == FIKREM_DONE) {
+        puts("judging a book and a request: done");
     }
-    tell("check of a book, which is a request", check_book(lent.request, request_size));
-    tell("check of a request, which is a book", check_request(lent.book, book_size));
+    tell("judging a book, which is a request", judge_book(lent.request, request_size));
+    tell("judging a request, which is a book", judge_request(lent.book, book_size));
     value_of(lent.request, 0x0C)[8] = 3;
-    tell("check of a request, a byte altered", check_request(lent.request, request_size));
+    tell("judging a request, a byte altered", judge_request(lent.request, request_size));
     set_check(lent.request, request_size);
-    tell("check of a request, mark 3", check_request(lent.request, request_size));
+    tell("judging a request, mark 3", judge_request(lent.request, request_size));
     value_of(lent.request, 0x0C)[8] = 0;
     set_check(lent.request, request_size);
 }
@@ -303,7 +303,7 @@ static void try_unread_ledger(void)
     tell("  accept", accept(sizeof lent.out, FIKREM_FIGURES, FIKREM_ANSWER));
     tell("  pay-out", pay_out(1, 0, stored_size, FIKREM_ANSWER));
     tell("  hand-over", hand_over(2, 4712, stored_size, FIKREM_ANSWER));
-    tell("  check", check_ledger(FIKREM_ANSWER));
+    tell("  judging", judge_ledger(FIKREM_ANSWER));
 }
 
 int main(int count, char **names)
@@ -312,8 +312,10 @@ int main(int count, char **names)
         fprintf(stderr, "usage: %s BOOK REQUEST\n", names[0]);
         return 2;
     }
+    same_version();
     book_size = read_file(names[1], lent.book);
     request_size = read_file(names[2], lent.request);
+    printf("version: %" PRIu32 "\n", fikrem_version());
     try_price();
     try_classes();
     try_price_band();
@@ -322,9 +324,9 @@ int main(int count, char **names)
     try_accept();
     try_pay_out();
     try_hand_over();
-    try_check_ledger();
+    try_judge_ledger();
     try_check();
-    try_check_files();
+    try_judge_files();
 
     puts("a table of one record, two entries stored");
     table_size = 1;

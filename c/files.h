@@ -1,12 +1,23 @@
-/* The sample files that the C programs read and alter. */
+/* What the C programs share: the library's version, and the sample files that they read and alter. */
 #ifndef FILES_H
 #define FILES_H
+
+#include "fikrem.h"
 
 #include <stdint.h>
 #include <stdio.h>
 #include <stdlib.h>
 
 enum { FILE_SIZE = 4096 };
+
+/* Ends the program where the library is of another version than the header. */
+static void same_version(void)
+{
+    if (fikrem_version() != FIKREM_VERSION) {
+        fputs("libfikrem.a is of another version than fikrem.h\n", stderr);
+        exit(2);
+    }
+}
 
 static size_t read_file(const char *name, uint8_t *bytes)
 {

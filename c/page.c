@@ -39,6 +39,7 @@ int main(int count, char **names)
         fprintf(stderr, "usage: %s BOOK REQUEST\n", names[0]);
         return 2;
     }
+    same_version();
     book_size = read_file(names[1], book);
     request_size = read_file(names[2], request);
     uint64_t result = call(sizeof out);

@@ -6,6 +6,10 @@ int main(void)
 {
     static uint8_t book[4096], request[4096], text[FIKREM_TEXT_SIZE];
     uint64_t answer[FIKREM_ANSWER];
+    if (fikrem_version() != FIKREM_VERSION) {
+        fputs("libfikrem.a is of another version than fikrem.h\n", stderr);
+        return 255;
+    }
     FILE *rates = fopen("rates.bin", "rb"), *job = fopen("job.bin", "rb");
     size_t book_size = rates ? fread(book, 1, sizeof book, rates) : 0;
     size_t request_size = job ? fread(request, 1, sizeof request, job) : 0;

@@ -24,6 +24,11 @@ static ucontext_t here, there;
 
 static void nothing(void) {}
 
+static void version(void)
+{
+    result = fikrem_version() - FIKREM_VERSION;
+}
+
 static void price(void)
 {
     result = fikrem_price(book, book_size, request, request_size, figures, FIKREM_FIGURES);
@@ -37,6 +42,12 @@ static void price_band(void)
 static void slip_text(void)
 {
     result = fikrem_slip_text(book, book_size, request, request_size, text, sizeof text, answer, FIKREM_ANSWER);
+}
+
+/* A request without its last byte isn't priced: its slip is the line of its refusal. */
+static void slip_text_of_a_refusal(void)
+{
+    result = fikrem_slip_text(book, book_size, request, request_size - 1, text, sizeof text, answer, FIKREM_ANSWER);
 }
 
 static void page(void)
@@ -65,25 +76,25 @@ static void hand_over(void)
     result = fikrem_hand_over(stored, stored_size, FIKREM_TABLE_SIZE, 1, 7, out, FIKREM_LEDGER_SIZE, answer, FIKREM_ANSWER);
 }
 
-static void check_ledger(void)
+static void judge_ledger(void)
 {
-    result = fikrem_check_ledger(stored, stored_size, FIKREM_TABLE_SIZE, answer, FIKREM_ANSWER);
+    result = fikrem_judge_ledger(stored, stored_size, FIKREM_TABLE_SIZE, answer, FIKREM_ANSWER);
 }
 
-static void check_book(void)
+static void judge_book(void)
 {
-    result = fikrem_check_book(book, book_size);
+    result = fikrem_judge_book(book, book_size);
 }
 
-static void check_request(void)
+static void judge_request(void)
 {
-    result = fikrem_check_request(request, request_size);
+    result = fikrem_judge_request(request, request_size);
 }
 
 static void check(void)
 {
     uint32_t kept = 256u * stored[stored_size - 2] + stored[stored_size - 1];
-    result = fikrem_check(stored, stored_size - 2) == kept ? FIKREM_DONE : FIKREM_CHECK;
+    result = fikrem_check(stored, stored_size - 2) == kept ? FIKREM_DONE : FIKREM_CHECK_DIFFERS;
 }
 
 /* Bytes of the painted stack that a call has written. */
@@ -143,21 +154,24 @@ int main(int count, char **names)
         fprintf(stderr, "usage: %s BOOK REQUEST\n", names[0]);
         return 2;
     }
+    same_version();
     book_size = read_file(names[1], book);
     request_size = read_file(names[2], request);
+    tell("version", version, 1);
     tell("price", price, 4);
     tell("price band", price_band, 4);
-    tell("slip text", slip_text, 16);
+    tell("slip text", slip_text, 6);
+    tell("slip text of a refusal", slip_text_of_a_refusal, 6);
     tell("page", page, 4);
-    tell("new ledger", new_ledger, 40);
+    tell("new ledger", new_ledger, 20);
     fill(511);
-    tell("accept", accept, 136);
+    tell("accept", accept, 28);
     keep();
-    tell("pay-out", pay_out, 112);
-    tell("hand-over", hand_over, 112);
-    tell("check", check_ledger, 80);
+    tell("pay-out", pay_out, 28);
+    tell("hand-over", hand_over, 28);
+    tell("judging a ledger", judge_ledger, 28);
+    tell("judging a book", judge_book, 2);
+    tell("judging a request", judge_request, 1);
     tell("check of bytes", check, 1);
-    tell("check of a book", check_book, 1);
-    tell("check of a request", check_request, 1);
     return 0;
 }

@@ -1,10 +1,9 @@
 /* Fikrem for the firmware of quoting units: connection charges and pioneer ledgers on lent buffers.
  *
- * Link target/staticlib/libquoting_unit.a (x86-64), and before it libfikrem_page.a for fikrem_page, libfikrem_price_band.a for
- * fikrem_price_band, and libfikrem_files.a for fikrem_check_book and fikrem_check_request. They need memcpy and memset, which every C
- * library has, and nothing else. No call allocates, keeps anything or writes past the sizes that it is handed. Every buffer is a
- * pointer and its size in elements. No pointer is NULL, also where its size is 0, and no two buffers of one call overlap where one of
- * them is written.
+ * Link target/staticlib/libfikrem.a, with -Wl,--gc-sections so that a program has what it calls and no more. It runs on every x86-64
+ * processor. Of the C library it needs memcpy, memmove and memset, and nothing else. No call allocates, keeps anything or writes past
+ * the sizes that it is handed. Every buffer is a pointer and its size in elements. No pointer is NULL, also where its size is 0, and no
+ * two buffers of one call overlap where one of them is written.
  *
  * docs/FORMAT.md has the bytes of a rate book, a request and a stored ledger with every limit; docs/RULES.md the rules: which bespoke
  * rates are allowed ('Charge and reconciliation'), when a scheme opens or is joined ('Accept'), which ledgers are sound ('Soundness').
@@ -12,8 +11,8 @@
  * Money is in whole cents, capacity in hundredths of a kVA; a month is year * 12 + (month - 1), so that April 2026 is 24315.
  *
  * A call takes at most this much stack, in KiB, as c/stack.c measures it on a painted stack with the longest ledger: price 4, price
- * band 4, page 4, slip text 16, new ledger 40, check of a ledger 80, pay-out and hand-over 112, accept 136, check of bytes, of a book
- * and of a request 1.
+ * band 4, page 4, slip text 6, new ledger 20, accept 28, pay-out 28, hand-over 28, judging a ledger 28, a book 2, a request 1, check of
+ * bytes 1, version 1.
  */
 #ifndef FIKREM_H
 #define FIKREM_H
@@ -21,44 +20,47 @@
 #include <stddef.h>
 #include <stdint.h>
 
-/* The version of this interface. */
-#define FIKREM_VERSION 4
+/* The version of this interface: a program compares it with fikrem_version() before its first call of another function. */
+#define FIKREM_VERSION 5
 
-/* Each result but that of fikrem_check is FIKREM_DONE, or a refusal: its number, its file, whether it is of the stored ledger
- * itself, and its place, which these take out of it. A refused call has written nothing: every byte of every buffer is as it was.
+/* Each result but those of fikrem_check and fikrem_version is FIKREM_DONE, or a refusal: its number, its file, whether it is of the
+ * stored ledger itself, and its place, which these take out of it. No refusal is 0. A refused call has written nothing: every byte of
+ * every buffer is as it was.
  *
+ * Number: 1 to 31, of which this version has those of enum fikrem_number.
  * File: 1 the book, or the stored ledger where that is refused itself; 2 the request, and for 4 and 5; 0 from number 6 on, and for 3
  * where a figure of fikrem_price_band is past its limit.
  * Of ledger: 1 where the stored ledger itself is refused, so that file 1 is not mistaken for the book; otherwise 0.
- * Place: the offset of a byte in the file for 1 to 3 (0 where the file is 0), the tier, 1 to 5, for 5, otherwise 0. For 1 the offset of the first field
- * that can't stand there, or 0 where the last five bytes are wrong; for 2 of the check; for 3 of the value's first byte. */
-#define FIKREM_NUMBER(result) ((result) % 16)
-#define FIKREM_FILE(result) ((result) / 16 % 4)
-#define FIKREM_OF_LEDGER(result) ((result) / 64 % 2)
+ * Place: the offset of a byte in the file for 1 to 3 (0 where the file is 0), the tier, 1 to 5, for 5, otherwise 0. For 1 the offset of
+ * the first field that can't stand there, or 0 where the last five bytes are wrong; for 2 of the check; for 3 of the value's first
+ * byte. A place above 2^56 - 1 is told as that. */
+#define FIKREM_NUMBER(result) ((result) % 32)
+#define FIKREM_FILE(result) ((result) / 32 % 4)
+#define FIKREM_OF_LEDGER(result) ((result) / 128 % 2)
 #define FIKREM_PLACE(result) ((result) / 256)
 
-/* FIKREM_NUMBER of a result. */
+/* FIKREM_NUMBER of a result; docs/REFUSALS.md has the table of them. */
 enum fikrem_number {
     FIKREM_DONE = 0,
-    FIKREM_NO_WALK = 1,        /* a field can't stand at the place, or the file's last five bytes are wrong */
-    FIKREM_CHECK = 2,          /* the file's check differs */
-    FIKREM_VALUE = 3,          /* a value is past its limits, or the file's letters differ; in a stored ledger only the letters */
-    FIKREM_ZONE = 4,           /* the request's zone is not in the book */
-    FIKREM_BESPOKE = 5,        /* a bespoke rate is not allowed */
-    FIKREM_NO_SCHEME = 6,      /* the scheme that the request joins was never opened */
-    FIKREM_MONTH = 7,          /* the month is before the last accepted */
-    FIKREM_SCHEMES_FULL = 8,   /* there are 64 schemes, and one must open */
-    FIKREM_ENTRIES_FULL = 9,   /* the table has fewer records than the stored ledger has entries, or than it would have after accept */
-    FIKREM_CONNECTIONS = 10,   /* 1,000,000 connections are taken */
-    FIKREM_NO_ENTRY = 11,      /* there is no such entry */
-    FIKREM_ABOVE_CREDIT = 12,  /* the pay-out is above the standing credit */
-    FIKREM_UNSOUND = 13,       /* the stored ledger is unsound */
-    FIKREM_SHORT_BUFFER = 14,  /* the output, the answer or the figures are too short */
-    FIKREM_LOW_ABOVE_HIGH = 15 /* a low revenue is above its high */
+    FIKREM_FILE_DOES_NOT_WALK = 1,     /* a field can't stand at the place, or the file's last five bytes are wrong */
+    FIKREM_CHECK_DIFFERS = 2,          /* the file's check differs */
+    FIKREM_VALUE_NOT_LISTED = 3,       /* a value is past its limits, or the file's letters differ; in a stored ledger only the letters */
+    FIKREM_ZONE_NOT_IN_BOOK = 4,       /* the request's zone is not in the book */
+    FIKREM_BESPOKE_NOT_ALLOWED = 5,    /* a bespoke rate is not allowed */
+    FIKREM_SCHEME_NEVER_OPENED = 6,    /* the scheme that the request joins was never opened */
+    FIKREM_MONTH_BEFORE_LAST = 7,      /* the month is before the last accepted */
+    FIKREM_NO_SCHEME_LEFT = 8,         /* there are 64 schemes, and one must open */
+    FIKREM_NO_ENTRY_LEFT = 9,          /* the table has fewer records than the stored ledger has entries, or than it would have after accept */
+    FIKREM_NO_CONNECTION_LEFT = 10,    /* 1,000,000 connections are taken */
+    FIKREM_NO_SUCH_ENTRY = 11,         /* there is no such entry */
+    FIKREM_PAY_OUT_ABOVE_CREDIT = 12,  /* the pay-out is above the standing credit */
+    FIKREM_LEDGER_UNSOUND = 13,        /* the stored ledger is unsound */
+    FIKREM_OUTPUT_TOO_SHORT = 14,      /* the output, the answer or the figures are too short */
+    FIKREM_LOW_ABOVE_HIGH = 15         /* a low revenue is above its high */
 };
 
 /* The answer of a done call: at least FIKREM_ANSWER places. Where it has fewer, or the figures fewer than FIKREM_FIGURES, the
- * result is FIKREM_SHORT_BUFFER before anything else. Places past these are left as they were, and a place that a call has
+ * result is FIKREM_OUTPUT_TOO_SHORT before anything else. Places past these are left as they were, and a place that a call has
  * nothing for is 0. */
 enum fikrem_answer {
     FIKREM_JOINING = 0,        /* accept: one of enum fikrem_joining */
@@ -69,8 +71,8 @@ enum fikrem_answer {
     FIKREM_ANSWER = 5
 };
 
-/* The same places where fikrem_check_ledger is done: schemes, entries, connections, the last accepted month. */
-enum fikrem_checked { FIKREM_SCHEMES = 0, FIKREM_ENTRIES = 1, FIKREM_CONNECTED = 2, FIKREM_LAST_MONTH = 3 };
+/* The same places where fikrem_judge_ledger is done: schemes, entries, connections, the last accepted month. */
+enum fikrem_judged { FIKREM_SCHEMES = 0, FIKREM_ENTRIES = 1, FIKREM_CONNECTED = 2, FIKREM_LAST_MONTH = 3 };
 
 /* What became of the joining that accept was asked for. A scheme may open beside each of them: the applicant is its first entry, which
  * follows the joiner's in the table. A connection with which no scheme is joined or opened is plain. */
@@ -84,8 +86,8 @@ enum fikrem_joining {
 /* The figures of a done call: at least FIKREM_FIGURES places, in cents. A percentage has two places: 1 and the percentage, or 0
  * and 0 where there is none, and from 21 on two more: the whole percent rounded down, below 0 too, and the remainder, so that
  * 100 * numerator = quotient * divisor + remainder with a remainder from 0 to divisor - 1; 0 and 0 where there is none. Up to
- * version 3 there were 21 places: a caller with so few gets FIKREM_SHORT_BUFFER. CC holds no pioneer contribution: a joiner owes CC
- * and what was collected. */
+ * version 3 there were 21 places: a caller with so few gets FIKREM_OUTPUT_TOO_SHORT. CC holds no pioneer contribution: a joiner owes
+ * CC and what was collected. */
 enum fikrem_figure {
     FIKREM_ME = 0,             /* minimum scheme extension */
     FIKREM_MC = 1,             /* capacity: the demands of the five tiers at their rates */
@@ -146,6 +148,9 @@ enum fikrem_band {
 extern "C" {
 #endif
 
+/* FIKREM_VERSION of the header that the library was made with. No refusals. */
+uint32_t fikrem_version(void);
+
 /* The reconciliation of a request by a rate book, into the figures. Refusals in turn: 14; the book's 1 to 3, the request's 1 to 3;
  * 4, 5. */
 uint64_t fikrem_price(const uint8_t *book, size_t book_size, const uint8_t *request, size_t request_size,
@@ -154,7 +159,7 @@ uint64_t fikrem_price(const uint8_t *book, size_t book_size, const uint8_t *requ
 /* Lowest and highest IR, CC and NC where year-one revenue is known only between two figures, in cents, which stand in for the
  * request's field 08; that field is judged all the same. Each of the six is what fikrem_price gives for some revenues between them, and
  * it gives nothing outside for any. Refusals in turn: 14 for fewer than FIKREM_BAND places; the book's 1 to 3, the request's 1 to 3; 4,
- * 5; 3 with file and place 0 for a figure above 1,000,000,000; 15 for a low above its high. In libfikrem_price_band.a. */
+ * 5; 3 with file and place 0 for a figure above 1,000,000,000; 15 for a low above its high. */
 uint64_t fikrem_price_band(const uint8_t *book, size_t book_size, const uint8_t *request, size_t request_size,
                            uint64_t distribution_low, uint64_t distribution_high,
                            uint64_t transmission_low, uint64_t transmission_high,
@@ -167,14 +172,14 @@ uint64_t fikrem_slip_text(const uint8_t *book, size_t book_size, const uint8_t *
 
 /* The reconciliation as a page into out, FIKREM_PAGE_SIZE bytes, without a closing 0: the lines ME, MC, CE, CC2, TW, HR, OL, IC, IR,
  * CC, NIC, NC, each a label of 32 bytes, an amount in dollars of 31 bytes, aligned to the right, and byte 0A. Refusals in turn: the
- * book's 1 to 3, the request's 1 to 3; 4, 5; 14 for out. In libfikrem_page.a. */
+ * book's 1 to 3, the request's 1 to 3; 4, 5; 14 for out. */
 uint64_t fikrem_page(const uint8_t *book, size_t book_size, const uint8_t *request, size_t request_size,
                      uint8_t *out, size_t out_size);
 
 /* Whether a rate book or a request can be read, for whoever writes one. A file read alone is file 1, a request too. Refusals in
- * turn: 1, 2, 3. In libfikrem_files.a. */
-uint64_t fikrem_check_book(const uint8_t *book, size_t book_size);
-uint64_t fikrem_check_request(const uint8_t *request, size_t request_size);
+ * turn: 1, 2, 3. */
+uint64_t fikrem_judge_book(const uint8_t *book, size_t book_size);
+uint64_t fikrem_judge_request(const uint8_t *request, size_t request_size);
 
 /* The calls on a ledger take its stored form and write the ledger after them into out, FIKREM_LEDGER_SIZE bytes at most. After a
  * done call out holds the ledger: its first answer[FIKREM_WRITTEN] bytes are the next call's stored, and that number is its
@@ -202,7 +207,7 @@ uint64_t fikrem_hand_over(const uint8_t *stored, size_t stored_size, size_t tabl
 
 /* Whether a stored ledger can be read; where it can, the answer has what it holds. Refusals in turn: 14; the stored ledger's 1, 2,
  * 3, 9, 13. */
-uint64_t fikrem_check_ledger(const uint8_t *stored, size_t stored_size, size_t table_size,
+uint64_t fikrem_judge_ledger(const uint8_t *stored, size_t stored_size, size_t table_size,
                              uint64_t *answer, size_t answer_places);
 
 /* The check of these bytes, 0 to 65520, for whoever writes a book or a request: of all its bytes before the last two, which are

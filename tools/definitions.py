@@ -21,11 +21,11 @@ root = pathlib.Path(__file__).resolve().parent.parent
 ROOTS = "numbers/Check reconciliation/ExactPercent charge/Price price_band/PriceBand price_band/BandPromises slip_text/Slip slip_text/ExactReading " \
     "page_text/Page page_text/AmountGrammar page_text/PageColumns calls/Calls " \
     "accept_rules/AcceptAnswers stored/Reading stored/Writing stored_calls/StoredCalls " \
-    "quoting_unit/Unit fikrem_price_band/BandResult fikrem_files/FileResult history/DemandThree " \
+    "quoting_unit/Unit fikrem_c/BandResult fikrem_c/FileResult fikrem_c/Version history/DemandThree " \
     "stored_history/StoredDemandThree"
 MOST_LINES = 4000
 # the laws' statements, beside those
-MOST_LAW_LINES = 130
+MOST_LAW_LINES = 190
 WORD = re.compile(r"[^\s(){}\[\],;:.&«»⌜⌝λ]+")
 # in code a word also ends at the brackets of a type's parameters, and at what stands before a value
 CODE_WORD = re.compile(r"[^\s(){}\[\],;:.&«»⌜⌝λ<>!*|?]+")
@@ -47,7 +47,7 @@ SPECS = re.compile(r"Rattle\.(\w+)\.specs\.((?:Cases\.|Theorems\.)?\w+)")
 
 
 def crates():
-    return [line.split(":")[0] for line in (root / "crates.txt").read_text().splitlines() if line and not line.startswith("#")]
+    return [line.split(":")[0].split()[0] for line in (root / "crates.txt").read_text().splitlines() if line and not line.startswith("#")]
 
 
 def is_comment(line):

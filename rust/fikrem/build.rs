@@ -1,5 +1,4 @@
-//! Links libquoting_unit.a and the libraries beside it from the folder FIKREM_LIB, or from the repository's
-//! target/staticlib.
+//! Links libfikrem.a from the folder FIKREM_LIB, or from the repository's target/staticlib.
 
 use std::env;
 use std::path::PathBuf;
@@ -14,10 +13,8 @@ fn main() {
     // cargo runs this in the package's folder and the linker in another, so that a relative folder would be two
     assert!(folder.is_absolute(), "FIKREM_LIB is {}: name the folder from the root on", folder.display());
     println!("cargo:rustc-link-search=native={}", folder.display());
-    for name in ["quoting_unit", "fikrem_page", "fikrem_price_band", "fikrem_files"] {
-        let library = folder.join(format!("lib{name}.a"));
-        println!("cargo:rerun-if-changed={}", library.display());
-        assert!(library.exists(), "there is no {}: build it by 'python3 tools/archives.py'", library.display());
-        println!("cargo:rustc-link-lib=static:-bundle={name}");
-    }
+    let library = folder.join("libfikrem.a");
+    println!("cargo:rerun-if-changed={}", library.display());
+    assert!(library.exists(), "there is no {}: build it by 'python3 tools/archives.py'", library.display());
+    println!("cargo:rustc-link-lib=static:-bundle=fikrem");
 }

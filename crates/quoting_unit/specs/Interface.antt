@@ -5,7 +5,7 @@ use Rattle.tagged.specs.File.{FileAnswer}
 use Rattle.tagged.specs.declared.file.Refusal.{Refusal}
 use Rattle.reconciliation.specs.Figures.{figure_values}
 use Rattle.reconciliation.specs.declared.Reconciliation.{Reconciliation}
-use Rattle.quoting_unit.specs.declared.Outcome.{Outcome}
+use Rattle.quoting_unit.specs.declared.outcomes.Outcome.{Outcome}
 
 -- ---- the result: 0 where the call is done, otherwise the refusal
 
@@ -15,10 +15,10 @@ last_number = low_above_high
 
 -- what one counts in a result: of the file, of whether it is of the stored ledger itself, of the place
 abbrev pub file_weight : ℕ
-file_weight = 16
+file_weight = 32
 
 abbrev pub ledger_weight : ℕ
-ledger_weight = 64
+ledger_weight = 128
 
 abbrev pub place_weight : ℕ
 place_weight = 256

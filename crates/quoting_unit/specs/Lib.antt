@@ -1,4 +1,5 @@
 pub mod Interface
+pub mod Laws
 pub mod RefusalPlaces
 pub mod Unit
 pub mod ResultParts

@@ -173,6 +173,17 @@ impl Bench {
         self.beside(&mut library, &Call::HandOver { entry: 1, person: 7 })
     }
 
+    /// Of a cent to the entry that every later one has credited.
+    fn pay_out(&self) -> Times {
+        let mut out = vec![0; LONGEST_FORM];
+        let mut answer = [0; ANSWER];
+        let mut library = || {
+            let result = raw::pay_out(black_box(&self.stored), LONGEST_TABLE, 1, 1, &mut out, &mut answer);
+            assert_eq!(black_box(result), 0);
+        };
+        self.beside(&mut library, &Call::PayOut { entry: 1, amount: 1 })
+    }
+
     /// The library's call beside the reference implementation's on the same stored bytes.
     fn beside(&self, library: &mut dyn FnMut(), call: &Call) -> Times {
         let mut out = vec![0; LONGEST_FORM];
@@ -194,10 +205,10 @@ impl Bench {
         measure(&mut library, &mut each)
     }
 
-    fn check(&self) -> Times {
+    fn judging(&self) -> Times {
         let mut answer = [0; ANSWER];
         let mut library = || {
-            let result = raw::check_ledger(black_box(&self.stored), LONGEST_TABLE, &mut answer);
+            let result = raw::judge_ledger(black_box(&self.stored), LONGEST_TABLE, &mut answer);
             assert_eq!(black_box(result), 0);
         };
         let mut reference = || {
@@ -222,8 +233,9 @@ fn beside() {
         table_beside_recurrence(class).print(&name("of the table, beside the library's outside it"));
     }
     Bench::of(1, 511).joining().print("accept: the 512th party joins its scheme, stored in and out");
-    Bench::of(64, 512).check().print("check of a stored ledger of 64 schemes, 512 entries");
+    Bench::of(64, 512).judging().print("check of a stored ledger of 64 schemes, 512 entries");
     Bench::of(64, 512).hand_over().print("read, hand-over and write of the same");
+    Bench::of(64, 512).pay_out().print("read, pay-out and write of the same");
     Bench::of(64, 512).check_of_bytes().print("the check alone of the same, beside byte by byte");
 }
 
@@ -233,18 +245,18 @@ fn growth() {
         "\nGrowth: nanoseconds a call, library / reference and the median ratio, by the entries that one scheme has after it."
     );
     println!(
-        "{:>7} {:>27} {:>27} {:>27}   the library's for one more entry",
-        "entries", "joining", "check", "hand-over"
+        "{:>7} {:>27} {:>27} {:>27} {:>27}   the library's for one more entry",
+        "entries", "joining", "check", "hand-over", "pay-out"
     );
-    let mut last: Option<(usize, [f64; 3])> = None;
+    let mut last: Option<(usize, [f64; 4])> = None;
     for entries in [2, 4, 8, 12, 16, 24, 32, 64, 128, 256, 512] {
         let (before, bench) = (Bench::of(1, entries - 1), Bench::of(1, entries));
-        let times = [before.joining(), bench.check(), bench.hand_over()];
-        let [joining, check, hand_over] = times.each_ref().map(Times::in_short);
-        print!("{entries:>7} {joining:>27} {check:>27} {hand_over:>27}");
+        let times = [before.joining(), bench.judging(), bench.hand_over(), bench.pay_out()];
+        let [joining, check, hand_over, pay_out] = times.each_ref().map(Times::in_short);
+        print!("{entries:>7} {joining:>27} {check:>27} {hand_over:>27} {pay_out:>27}");
         let library = times.each_ref().map(|times| times.lowest()[0]);
         if let Some((fewer, cost)) = last {
-            for call in 0..3 {
+            for call in 0..4 {
                 print!(" {:>6.0}", (library[call] - cost[call]) / (entries - fewer) as f64);
             }
         }
@@ -254,6 +266,7 @@ fn growth() {
 }
 
 fn main() {
+    assert_eq!(fikrem::linked(), Ok(()));
     beside();
     growth();
 }

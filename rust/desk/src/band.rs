@@ -3,7 +3,7 @@
 use crate::file;
 use crate::table::{Limits, REQUEST};
 use crate::unit::{dollars, Unit};
-use fikrem::{Bands, PriceBand, Refusal};
+use fikrem::{Bands, PriceBand, Reason, Refusal};
 
 const DISTRIBUTION: &str = "year-one distribution revenue";
 const TRANSMISSION: &str = "year-one transmission revenue";
@@ -49,8 +49,8 @@ pub fn lines(band: PriceBand) -> String {
 
 /// A refusal of the band itself: 3 for an amount past field 08's limit, 15 for a low above its high.
 pub fn refused(bands: Bands, refusal: Refusal) -> Option<String> {
-    let words = match (refusal.number, refusal.file) {
-        (3, 0) => revenues(bands).into_iter().find_map(|(name, low, high)| {
+    let words = match (refusal.reason, refusal.file) {
+        (Reason::ValueNotListed, 0) => revenues(bands).into_iter().find_map(|(name, low, high)| {
             let Limits::Within(_, most) = REQUEST.slots().into_iter().find(|slot| slot.name() == name)?.value.limits
             else {
                 return None;
@@ -59,12 +59,14 @@ pub fn refused(bands: Bands, refusal: Refusal) -> Option<String> {
             let (past, most) = (Unit::Dollars.said(past), Unit::Dollars.said(most));
             Some(format!("{name} is {past} dollars, allowed are 0.00 to {most}"))
         }),
-        (15, _) => revenues(bands).into_iter().find(|(_, low, high)| low > high).map(|(name, low, high)| {
-            let (low, high) = (Unit::Dollars.said(low), Unit::Dollars.said(high));
-            format!("{name} is {low} to {high} dollars, allowed are a low and a high that isn't below it")
-        }),
+        (Reason::LowAboveHigh, _) => {
+            revenues(bands).into_iter().find(|(_, low, high)| low > high).map(|(name, low, high)| {
+                let (low, high) = (Unit::Dollars.said(low), Unit::Dollars.said(high));
+                format!("{name} is {low} to {high} dollars, allowed are a low and a high that isn't below it")
+            })
+        }
         _ => return None,
     };
-    let words = words.unwrap_or_else(|| refusal.words().to_string());
-    Some(format!("refused, number {}: the band: {words}", refusal.number))
+    let words = words.unwrap_or_else(|| refusal.reason.to_string());
+    Some(format!("refused, number {}: the band: {words}", refusal.number()))
 }

@@ -4,6 +4,7 @@ use crate::table::{Kind, BOOK, REQUEST};
 use crate::text::Fault;
 use crate::unit::Unit;
 use crate::{band, disk, file, help, pack, quote, template, text};
+use fikrem::Reason;
 use std::ffi::{OsStr, OsString};
 use std::path::Path;
 
@@ -28,6 +29,9 @@ type Done = Result<String, Failed>;
 
 /// Runs the program with these arguments.
 pub fn run(arguments: &[OsString]) -> Ended {
+    if let Err(other) = fikrem::linked() {
+        return Ended { status: 2, output: String::new(), errors: format!("fikrem: {other}\n") };
+    }
     let (status, output, errors) = match done(arguments) {
         Ok(output) => (0, output, String::new()),
         Err(Failed::Refused(words)) => (1, String::new(), words),
@@ -118,8 +122,10 @@ fn packing(arguments: &[OsString]) -> Done {
 
 /// The kind that a file is judged as: by its letters; otherwise the one whose fields it follows further.
 fn kind_shown(bytes: &[u8]) -> &'static Kind {
-    let reached =
-        |kind: &Kind| (kind.judge)(bytes).map_or_else(|refusal| (refusal.number == 3, refusal.place), |()| (true, 0));
+    let reached = |kind: &Kind| match (kind.judge)(bytes) {
+        Ok(()) => (true, 0),
+        Err(refusal) => (refusal.reason == Reason::ValueNotListed, refusal.place),
+    };
     file::kind_of(bytes).unwrap_or(if reached(&REQUEST) > reached(&BOOK) { &REQUEST } else { &BOOK })
 }
 

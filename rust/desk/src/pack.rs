@@ -5,7 +5,7 @@ use crate::table::{Form, Kind, Over, Slot, Value, FORM, FORMS, KINDS};
 use crate::text::{self, Fault, Row};
 use crate::unit::Unread;
 use crate::words;
-use fikrem::Refusal;
+use fikrem::{Reason, Refusal};
 use std::collections::BTreeMap;
 
 /// The rows by their names.
@@ -34,7 +34,7 @@ pub fn packed(text: &str) -> Result<(&'static Kind, Vec<u8>), Vec<Fault>> {
 /// The library's refusal of a text's file, with the line of the value that it is about. What is allowed is said of the
 /// widest form that the text may have.
 fn judged(kind: &Kind, bytes: &[u8], refusal: Refusal, widest: Form, named: &Named) -> Fault {
-    match words::wrong_value(kind, bytes, refusal.place, widest).filter(|_| refusal.number == 3) {
+    match words::wrong_value(kind, bytes, refusal.place, widest).filter(|_| refusal.reason == Reason::ValueNotListed) {
         Some(wrong) => {
             let row = named.get(text::plain(&wrong.name).as_str());
             Fault { line: row.map(|row| row.line), words: wrong.words }

@@ -3,7 +3,7 @@
 use crate::file::{self, Found};
 use crate::table::{Kind, Over, BOOK, REQUEST};
 use crate::words;
-use fikrem::Refusal;
+use fikrem::{Reason, Refusal};
 
 /// The values that a quote repeats of what it read, a line each.
 const READ_OF_BOOK: &[&[&str]] = &[&["discount rate", "capacity charged", "credit share"]];
@@ -43,20 +43,24 @@ pub fn refused_file(kind: &Kind, bytes: &[u8], refusal: Refusal) -> (String, Opt
         None if file::has_letters(bytes, "PION") => ("this file is a stored ledger".to_string(), None),
         _ => words::of_file(kind, bytes, refusal),
     };
-    (format!("refused, number {}: the {}: {words}", refusal.number, kind.name), tag)
+    (format!("refused, number {}: the {}: {words}", refusal.number(), kind.name), tag)
 }
 
 /// A refusal of a pricing.
 pub fn refused(book: &[u8], request: &[u8], refusal: Refusal) -> String {
-    let number = refusal.number;
-    match (number, refusal.file) {
-        (1..=3, 1) => refused_file(&BOOK, book, refusal).0,
-        (1..=3, 2) => refused_file(&REQUEST, request, refusal).0,
-        (4, _) => {
+    let number = refusal.number();
+    match (refusal.reason, refusal.file) {
+        (Reason::FileDoesNotWalk | Reason::CheckDiffers | Reason::ValueNotListed, 1) => {
+            refused_file(&BOOK, book, refusal).0
+        }
+        (Reason::FileDoesNotWalk | Reason::CheckDiffers | Reason::ValueNotListed, 2) => {
+            refused_file(&REQUEST, request, refusal).0
+        }
+        (Reason::ZoneNotInBook, _) => {
             let zone = lines(&REQUEST, request, &[&["zone number"]]).join("");
             format!("refused, number {number}: the request: {zone} isn't in the rate book, allowed are {}", zones(book))
         }
-        (5, _) => format!("refused, number {number}: {}", words::not_allowed(refusal.place)),
-        _ => format!("refused, number {number}: {}", refusal.words()),
+        (Reason::BespokeNotAllowed, _) => format!("refused, number {number}: {}", words::not_allowed(refusal.place)),
+        (reason, _) => format!("refused, number {number}: {reason}"),
     }
 }

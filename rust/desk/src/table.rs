@@ -175,7 +175,7 @@ pub const BOOK: Kind = Kind {
             ],
         ),
     ],
-    judge: fikrem::check_book,
+    judge: fikrem::judge_book,
 };
 
 const SPECIAL_PRICING: &str = "special pricing";
@@ -227,7 +227,7 @@ pub const REQUEST: Kind = Kind {
             ],
         ),
     ],
-    judge: fikrem::check_request,
+    judge: fikrem::judge_request,
 };
 
 pub const KINDS: [&Kind; 2] = [&BOOK, &REQUEST];

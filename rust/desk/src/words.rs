@@ -3,7 +3,7 @@
 use crate::file::{self, Found, Part, CHECK_HEAD, TAIL_SIZE};
 use crate::table::{Field, Form, Kind, Limits, Over, Slot, Value, FORM, FORMS, TIERS};
 use crate::unit::Unit;
-use fikrem::Refusal;
+use fikrem::{Reason, Refusal};
 
 /// The words with commas between them and 'or' before the last.
 fn one_of(words: &[&str]) -> String {
@@ -217,18 +217,18 @@ fn hex(bytes: &[u8]) -> String {
     bytes.iter().map(|byte| format!("{byte:02X}")).collect::<Vec<_>>().join(" ")
 }
 
-/// A refusal of a file itself, by 1, 2 or 3; and for 3 the tag of the field that the place is in.
+/// A refusal of a file itself, by 1, 2 or 3, in words; and for 3 the tag of the field that the place is in.
 pub fn of_file(kind: &Kind, bytes: &[u8], refusal: Refusal) -> (String, Option<u8>) {
     let (place, form) = (refusal.place, file::form_of(kind, bytes));
-    match refusal.number {
-        1 => (no_walk(kind, bytes, place), None),
-        2 => {
+    match refusal.reason {
+        Reason::FileDoesNotWalk => (no_walk(kind, bytes, place), None),
+        Reason::CheckDiffers => {
             let given = fikrem::check(bytes.get(..place).unwrap_or_default()).to_be_bytes();
             let (kept, given) = (hex(bytes.get(place..).unwrap_or_default()), hex(&given));
             let words = format!("its check at offset {place} is {kept}, its other bytes give {given}");
             (format!("{words}: it was changed after it was packed"), None)
         }
-        _ => match wrong_value(kind, bytes, place, form) {
+        Reason::ValueNotListed => match wrong_value(kind, bytes, place, form) {
             Some(wrong) => (wrong.words, Some(wrong.field.tag_in(form))),
             None => {
                 let letters: String =
@@ -236,6 +236,7 @@ pub fn of_file(kind: &Kind, bytes: &[u8], refusal: Refusal) -> (String, Option<u
                 (format!("its letters are {letters}, allowed are {}", kind.letters), Some(1))
             }
         },
+        reason => (reason.to_string(), None),
     }
 }
 

@@ -5,6 +5,7 @@ use desk::file::{closed, form_of, put, values, Found};
 use desk::pack::packed;
 use desk::table::{Form, Kind, Limits, BOOK, KINDS, REQUEST};
 use desk::text::{of_file, Fault};
+use fikrem::Reason;
 use generate::damage::{book_past_limits, damaged, request_past_limits};
 use generate::fields::parts;
 use generate::request::Tier;
@@ -174,7 +175,7 @@ fn judged(kind: &Kind, file: &[u8], found: &Found, number: u64, stands: bool) {
         Ok(()) => assert!(stands, "{name} may be {number}"),
         Err(refusal) => {
             assert!(!stands, "{name} may not be {number}");
-            assert_eq!((refusal.number, refusal.file, refusal.place), (3, 1, found.offset), "{name} is {number}");
+            assert_eq!((refusal.number(), refusal.file, refusal.place), (3, 1, found.offset), "{name} is {number}");
             let words = shown(&file).expect_err("it is refused");
             let field = parts(&file).into_iter().find(|part| part.contains(&found.offset)).expect("its field");
             assert!(words.contains(&format!(": {} ", name_told(found))), "{words}");
@@ -347,7 +348,7 @@ fn limits_by_other_values_are_the_librarys() {
         assert_eq!(packed_from(&text), Err(vec![Fault { line: Some(7), words: words.to_string() }]));
     }
     let none = Book { pairs: [(0, 0); 5], ..full_book() }.encode();
-    assert_eq!(fikrem::check_book(&none).map_err(|refusal| (refusal.number, refusal.place)), Err((3, 15)));
+    assert_eq!(fikrem::judge_book(&none).map_err(|refusal| (refusal.number(), refusal.place)), Err((3, 15)));
 }
 
 #[test]
@@ -491,7 +492,7 @@ fn both_or_neither(kind: &Kind, file: &[u8]) -> [bool; 2] {
     let second = (file[refusal.place] == forms[0] && of_form(forms[1]))
         || (file[refusal.place] == forms[1] && of_form(forms[0]));
     let tags: Vec<u8> = starts.iter().map(|&start| file[start]).collect();
-    [refusal.number == 1 && second, tags == others]
+    [refusal.reason == Reason::FileDoesNotWalk && second, tags == others]
 }
 
 /// The number that a refusal's words begin with, which the library gives a file of the kind that they name; for 1 they
@@ -499,15 +500,15 @@ fn both_or_neither(kind: &Kind, file: &[u8]) -> [bool; 2] {
 fn number_told(file: &[u8], words: &str) -> usize {
     let refusals: Vec<_> = KINDS.iter().filter_map(|kind| Some((kind.name, (kind.judge)(file).err()?))).collect();
     let told = |(name, number): (&str, u8)| words.starts_with(&format!("refused, number {number}: the {name}: "));
-    let refusal = refusals.iter().find(|(name, refusal)| told((name, refusal.number)));
+    let refusal = refusals.iter().find(|(name, refusal)| told((name, refusal.number())));
     let (_, refusal) = refusal.unwrap_or_else(|| panic!("{words}, but {refusals:?}"));
     assert!(words.ends_with('\n') && words.lines().count() == 1, "{words:?}");
-    if refusal.number == 1 && !words.contains(" bytes don't end in a check") {
+    if refusal.reason == Reason::FileDoesNotWalk && !words.contains(" bytes don't end in a check") {
         let place = format!(" at offset {}", refusal.place);
         let rest = words.split_once(&place).unwrap_or_else(|| panic!("{words}, but {refusal:?}")).1;
         assert!(!rest.starts_with(|letter: char| letter.is_ascii_digit()), "{words}, but {refusal:?}");
     }
-    usize::from(refusal.number)
+    usize::from(refusal.number())
 }
 
 /// Each value past its limit: its name and its place are told.

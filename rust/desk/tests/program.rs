@@ -600,7 +600,7 @@ fn help_and_version() {
         let template = folder.done(&["template", kind]);
         assert!([limits, note].iter().all(|note| template.lines().any(|line| line == *note)), "{template}");
     }
-    assert_eq!(folder.done(&["--version"]), "fikrem 0.1.0, interface 4\n");
+    assert_eq!(folder.done(&["--version"]), "fikrem 0.1.0, interface 5\n");
 }
 
 /// The program on generated files of both forms: `show` is done with what packs to them.
@@ -639,7 +639,7 @@ fn generated_files_that_are_refused() {
         let request = Request::random(&mut random, &book);
         let books = [book.encode(), widened_book(&book)];
         let requests = [request.encode(), wide_request(&request, request.zone.into())];
-        for ([one, other], judge) in [(books, fikrem::check_book as fn(&[u8]) -> _), (requests, fikrem::check_request)]
+        for ([one, other], judge) in [(books, fikrem::judge_book as fn(&[u8]) -> _), (requests, fikrem::judge_request)]
         {
             let mixed = [(); 2].map(|_| mixture(&mut random, [&one, &other]));
             for file in [damaged(&mut random, &one), damaged(&mut random, &other)].iter().chain(&mixed) {

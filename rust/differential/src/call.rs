@@ -15,7 +15,7 @@ pub enum LibraryCall<'a> {
     Accept { stored: &'a [u8], table_size: usize, book: &'a [u8], request: &'a [u8] },
     PayOut { stored: &'a [u8], table_size: usize, entry: u32, amount: u64 },
     HandOver { stored: &'a [u8], table_size: usize, entry: u32, person: u32 },
-    CheckLedger { stored: &'a [u8], table_size: usize },
+    JudgeLedger { stored: &'a [u8], table_size: usize },
 }
 
 impl<'a> LibraryCall<'a> {
@@ -37,7 +37,7 @@ impl<'a> LibraryCall<'a> {
             LibraryCall::SlipText { book, request } => raw::slip_text(book, request, out, answer),
             LibraryCall::Page { book, request } => match fikrem::page_into(book, request, out) {
                 Ok(()) => raw::DONE,
-                Err(Refusal { number, file, place }) => refused(number, file, false, place),
+                Err(Refusal { reason, file, place }) => refused(reason.number(), file, false, place),
             },
             LibraryCall::NewLedger => raw::new_ledger(out, answer),
             LibraryCall::Accept { stored, table_size, book, request } => {
@@ -49,7 +49,7 @@ impl<'a> LibraryCall<'a> {
             LibraryCall::HandOver { stored, table_size, entry, person } => {
                 raw::hand_over(stored, table_size, entry, person, out, answer)
             }
-            LibraryCall::CheckLedger { stored, table_size } => raw::check_ledger(stored, table_size, answer),
+            LibraryCall::JudgeLedger { stored, table_size } => raw::judge_ledger(stored, table_size, answer),
         }
     }
 
@@ -63,14 +63,14 @@ impl<'a> LibraryCall<'a> {
             LibraryCall::Accept { .. } => "accept",
             LibraryCall::PayOut { .. } => "pay-out",
             LibraryCall::HandOver { .. } => "hand-over",
-            LibraryCall::CheckLedger { .. } => "check ledger",
+            LibraryCall::JudgeLedger { .. } => "judge ledger",
         }
     }
 }
 
-/// A refusal as the library's result: number + 16 × file + 64 × whether it is of the stored ledger + 256 × place.
+/// A refusal as the library's result: number + 32 × file + 128 × whether it is of the stored ledger + 256 × place.
 pub fn refused(number: u8, file: u8, stored: bool, place: usize) -> u64 {
-    u64::from(number) + 16 * u64::from(file) + 64 * u64::from(stored) + 256 * place as u64
+    u64::from(number) + 32 * u64::from(file) + 128 * u64::from(stored) + 256 * place as u64
 }
 
 /// The buffers that a call writes. They start with marks, so that whatever a call must leave alone shows.

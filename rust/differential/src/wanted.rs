@@ -4,10 +4,11 @@ use crate::call::{refused, Buffers, LibraryCall};
 use fikrem::raw::{ANSWER, BAND, FIGURES};
 use generate::{Call, Outcome};
 use reference::ledger::MOST_ENTRIES;
+use reference::refusal::OUTPUT_TOO_SHORT;
 use reference::{page, price, price_band, read_ledger, slip, write_ledger};
 use reference::{Answer, Bill, Joining, Ledger, Party, Percentage, PriceBand, Refusal};
 
-const OUTPUT: Refusal = Refusal { number: 14, file: 0, place: 0 };
+const OUTPUT: Refusal = Refusal::of_call(OUTPUT_TOO_SHORT);
 
 /// A refusal, and whether it is of the stored ledger itself.
 struct Refused {
@@ -85,7 +86,7 @@ fn places_of(call: &LibraryCall, out: &mut [u8], figures: &mut [i64]) -> Result<
         LibraryCall::HandOver { stored, table_size, entry, person } => {
             on_stored(stored, table_size, &Call::HandOver { entry, person }, out)
         }
-        LibraryCall::CheckLedger { stored, table_size } => {
+        LibraryCall::JudgeLedger { stored, table_size } => {
             let (ledger, _) = read(stored, table_size)?;
             Ok([ledger.opened.into(), ledger.entries.into(), ledger.connections.into(), ledger.month.into(), 0])
         }

@@ -1,6 +1,6 @@
 //! Books and requests read alone, by the library and by the reference implementation: file 1 in a refusal, the request too.
 
-use fikrem::{check_book, check_request};
+use fikrem::{judge_book, judge_request};
 use generate::damage::{book_past_limits, damaged, request_past_limits};
 use generate::request::pair;
 use generate::Random;
@@ -11,12 +11,12 @@ use std::collections::BTreeSet;
 /// Both sides on these bytes as a book and as a request: the numbers that they end with, 0 where the file stands.
 fn compare(bytes: &[u8]) -> [u8; 2] {
     let wanted = [RateBook::read(bytes).err(), Request::read(bytes).err()];
-    let seen = [check_book(bytes).err(), check_request(bytes).err()];
+    let seen = [judge_book(bytes).err(), judge_request(bytes).err()];
     for (seen, wanted) in seen.iter().zip(wanted) {
-        let seen = seen.map(|refusal| (refusal.number, refusal.file, refusal.place));
+        let seen = seen.map(|refusal| (refusal.number(), refusal.file, refusal.place));
         assert_eq!(seen, wanted.map(|refusal| (refusal.number, 1, refusal.place)), "{bytes:?}");
     }
-    seen.map(|refusal| refusal.map_or(0, |refusal| refusal.number))
+    seen.map(|refusal| refusal.map_or(0, |refusal| refusal.number()))
 }
 
 #[test]

@@ -11,16 +11,16 @@ pub fn check(bytes: &[u8]) -> u16 {
 }
 
 /// Whether a rate book can be read; it is file 1 in a refusal, by 1, 2 or 3.
-pub fn check_book(book: &[u8]) -> Result<(), Refusal> {
-    match raw::check_book(book) {
+pub fn judge_book(book: &[u8]) -> Result<(), Refusal> {
+    match raw::judge_book(book) {
         raw::DONE => Ok(()),
         result => Err(Refusal::of(result)),
     }
 }
 
 /// Whether a request can be read; it too is file 1 in a refusal, by 1, 2 or 3.
-pub fn check_request(request: &[u8]) -> Result<(), Refusal> {
-    match raw::check_request(request) {
+pub fn judge_request(request: &[u8]) -> Result<(), Refusal> {
+    match raw::judge_request(request) {
         raw::DONE => Ok(()),
         result => Err(Refusal::of(result)),
     }

@@ -154,9 +154,9 @@ pub fn hand_over_into(
 }
 
 /// What a stored ledger holds, if it reads and is sound.
-pub fn check_ledger(stored: &[u8], table_size: usize) -> Result<Holdings, Refusal> {
+pub fn judge_ledger(stored: &[u8], table_size: usize) -> Result<Holdings, Refusal> {
     let mut answer = [0; ANSWER];
-    match raw::check_ledger(stored, table_size, &mut answer) {
+    match raw::judge_ledger(stored, table_size, &mut answer) {
         raw::DONE => Ok(Holdings {
             schemes: answer[raw::SCHEMES] as u16,
             entries: answer[raw::ENTRIES] as u32,

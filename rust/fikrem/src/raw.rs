@@ -1,42 +1,42 @@
-//! `include/fikrem.h` in Rust: its numbers under its names, and its functions on slices. Every result but `check`'s is
-//! `DONE` or a refusal, which has written nothing.
+//! `include/fikrem.h` in Rust: its numbers under its names, and its functions on slices. Every result but those of
+//! `check` and `version` is `DONE` or a refusal, which has written nothing.
 
 #![allow(unsafe_code)]
 
 // The version of the interface.
-pub const VERSION: u64 = 4;
+pub const VERSION: u32 = 5;
 
 // `number` of a result.
 pub const DONE: u64 = 0;
-pub const NO_WALK: u64 = 1;
-pub const CHECK: u64 = 2;
-pub const VALUE: u64 = 3;
-pub const ZONE: u64 = 4;
-pub const BESPOKE: u64 = 5;
-pub const NO_SCHEME: u64 = 6;
-pub const MONTH: u64 = 7;
-pub const SCHEMES_FULL: u64 = 8;
-pub const ENTRIES_FULL: u64 = 9;
-pub const CONNECTIONS: u64 = 10;
-pub const NO_ENTRY: u64 = 11;
-pub const ABOVE_CREDIT: u64 = 12;
-pub const UNSOUND: u64 = 13;
-pub const SHORT_BUFFER: u64 = 14;
+pub const FILE_DOES_NOT_WALK: u64 = 1;
+pub const CHECK_DIFFERS: u64 = 2;
+pub const VALUE_NOT_LISTED: u64 = 3;
+pub const ZONE_NOT_IN_BOOK: u64 = 4;
+pub const BESPOKE_NOT_ALLOWED: u64 = 5;
+pub const SCHEME_NEVER_OPENED: u64 = 6;
+pub const MONTH_BEFORE_LAST: u64 = 7;
+pub const NO_SCHEME_LEFT: u64 = 8;
+pub const NO_ENTRY_LEFT: u64 = 9;
+pub const NO_CONNECTION_LEFT: u64 = 10;
+pub const NO_SUCH_ENTRY: u64 = 11;
+pub const PAY_OUT_ABOVE_CREDIT: u64 = 12;
+pub const LEDGER_UNSOUND: u64 = 13;
+pub const OUTPUT_TOO_SHORT: u64 = 14;
 pub const LOW_ABOVE_HIGH: u64 = 15;
 
 /// The number of the refusal that a result is.
 pub fn number(result: u64) -> u64 {
-    result % 16
+    result % 32
 }
 
 /// Its file.
 pub fn file(result: u64) -> u64 {
-    result / 16 % 4
+    result / 32 % 4
 }
 
 /// 1 where it is of the stored ledger itself.
 pub fn of_ledger(result: u64) -> u64 {
-    result / 64 % 2
+    result / 128 % 2
 }
 
 /// Its place.
@@ -52,7 +52,7 @@ pub const OPENED_SCHEME: usize = 3;
 pub const WRITTEN: usize = 4;
 pub const ANSWER: usize = 5;
 
-// The same places where `check_ledger` is done.
+// The same places where `judge_ledger` is done.
 pub const SCHEMES: usize = 0;
 pub const ENTRIES: usize = 1;
 pub const CONNECTED: usize = 2;
@@ -114,6 +114,7 @@ pub const TABLE_SIZE: usize = 512;
 
 mod declared {
     extern "C" {
+        pub fn fikrem_version() -> u32;
         pub fn fikrem_price(
             book: *const u8,
             book_size: usize,
@@ -152,8 +153,8 @@ mod declared {
             out: *mut u8,
             out_size: usize,
         ) -> u64;
-        pub fn fikrem_check_book(book: *const u8, book_size: usize) -> u64;
-        pub fn fikrem_check_request(request: *const u8, request_size: usize) -> u64;
+        pub fn fikrem_judge_book(book: *const u8, book_size: usize) -> u64;
+        pub fn fikrem_judge_request(request: *const u8, request_size: usize) -> u64;
         pub fn fikrem_new_ledger(out: *mut u8, out_size: usize, answer: *mut u64, answer_places: usize) -> u64;
         pub fn fikrem_accept(
             stored: *const u8,
@@ -192,7 +193,7 @@ mod declared {
             answer: *mut u64,
             answer_places: usize,
         ) -> u64;
-        pub fn fikrem_check_ledger(
+        pub fn fikrem_judge_ledger(
             stored: *const u8,
             stored_size: usize,
             table_size: usize,
@@ -205,6 +206,10 @@ mod declared {
 
 // Safety of every call below: the library reads and writes only within the slices that it is given, keeps none of
 // them, and Rust lends the written ones to nobody else meanwhile.
+
+pub fn version() -> u32 {
+    unsafe { declared::fikrem_version() }
+}
 
 pub fn price(book: &[u8], request: &[u8], figures: &mut [i64]) -> u64 {
     unsafe {
@@ -259,12 +264,12 @@ pub fn page(book: &[u8], request: &[u8], out: &mut [u8]) -> u64 {
     }
 }
 
-pub fn check_book(book: &[u8]) -> u64 {
-    unsafe { declared::fikrem_check_book(book.as_ptr(), book.len()) }
+pub fn judge_book(book: &[u8]) -> u64 {
+    unsafe { declared::fikrem_judge_book(book.as_ptr(), book.len()) }
 }
 
-pub fn check_request(request: &[u8]) -> u64 {
-    unsafe { declared::fikrem_check_request(request.as_ptr(), request.len()) }
+pub fn judge_request(request: &[u8]) -> u64 {
+    unsafe { declared::fikrem_judge_request(request.as_ptr(), request.len()) }
 }
 
 pub fn new_ledger(out: &mut [u8], answer: &mut [u64]) -> u64 {
@@ -331,9 +336,9 @@ pub fn hand_over(stored: &[u8], table_size: usize, entry: u32, person: u32, out:
     }
 }
 
-pub fn check_ledger(stored: &[u8], table_size: usize, answer: &mut [u64]) -> u64 {
+pub fn judge_ledger(stored: &[u8], table_size: usize, answer: &mut [u64]) -> u64 {
     unsafe {
-        declared::fikrem_check_ledger(stored.as_ptr(), stored.len(), table_size, answer.as_mut_ptr(), answer.len())
+        declared::fikrem_judge_ledger(stored.as_ptr(), stored.len(), table_size, answer.as_mut_ptr(), answer.len())
     }
 }
 

@@ -3,29 +3,71 @@
 use crate::raw;
 use std::fmt;
 
-/// The refusals in the header's words, from number 1 on.
-const WORDS: [&str; 15] = [
-    "a field can't stand at the place, or the file's last five bytes are wrong",
-    "the file's check differs",
-    "a value is past its limits, or the file's letters differ; in a stored ledger only the letters",
-    "the request's zone is not in the book",
-    "a bespoke rate is not allowed",
-    "the scheme that the request joins was never opened",
-    "the month is before the last accepted",
-    "there are 64 schemes, and one must open",
-    "the table has fewer records than the stored ledger has entries, or than it would have after accept",
-    "1,000,000 connections are taken",
-    "there is no such entry",
-    "the pay-out is above the standing credit",
-    "the stored ledger is unsound",
-    "the output, the answer or the figures are too short",
-    "a low revenue is above its high",
-];
+/// What a call can be refused for, by number, name and words: docs/REFUSALS.md has the table, which a test holds this
+/// against.
+macro_rules! reasons {
+    ($($number:literal $name:ident $words:literal)*) => {
+        /// What a call is refused for. More may come with a later version of the interface.
+        #[derive(Debug, Clone, Copy, PartialEq, Eq)]
+        #[non_exhaustive]
+        pub enum Reason {
+            $(#[doc = $words] $name,)*
+            /// A number that this version doesn't have.
+            Unknown(u8),
+        }
 
-/// A refusal: its number, 1 to 15, the file it is about and the place in it.
+        impl Reason {
+            /// Of a result 1 to 31.
+            pub fn number(self) -> u8 {
+                match self {
+                    $(Reason::$name => $number,)*
+                    Reason::Unknown(number) => number,
+                }
+            }
+        }
+
+        impl From<u8> for Reason {
+            fn from(number: u8) -> Reason {
+                match number {
+                    $($number => Reason::$name,)*
+                    _ => Reason::Unknown(number),
+                }
+            }
+        }
+
+        impl fmt::Display for Reason {
+            fn fmt(&self, f: &mut fmt::Formatter<'_>) -> fmt::Result {
+                f.write_str(match self {
+                    $(Reason::$name => $words,)*
+                    Reason::Unknown(_) => "this version of the interface has no such refusal",
+                })
+            }
+        }
+    };
+}
+
+reasons! {
+    1 FileDoesNotWalk "a field can't stand at the place, or the file's last five bytes are wrong"
+    2 CheckDiffers "the file's check differs"
+    3 ValueNotListed "a value is past its limits, or the file's letters differ; in a stored ledger only the letters"
+    4 ZoneNotInBook "the request's zone is not in the book"
+    5 BespokeNotAllowed "a bespoke rate is not allowed"
+    6 SchemeNeverOpened "the scheme that the request joins was never opened"
+    7 MonthBeforeLast "the month is before the last accepted"
+    8 NoSchemeLeft "there are 64 schemes, and one must open"
+    9 NoEntryLeft "the table has fewer records than the stored ledger has entries, or than it would have after accept"
+    10 NoConnectionLeft "1,000,000 connections are taken"
+    11 NoSuchEntry "there is no such entry"
+    12 PayOutAboveCredit "the pay-out is above the standing credit"
+    13 LedgerUnsound "the stored ledger is unsound"
+    14 OutputTooShort "the output, the answer or the figures are too short"
+    15 LowAboveHigh "a low revenue is above its high"
+}
+
+/// A refusal: what for, the file it is about and the place in it.
 #[derive(Debug, Clone, Copy, PartialEq, Eq)]
 pub struct Refusal {
-    pub number: u8,
+    pub reason: Reason,
     /// "1 book or a file read alone; 2 request, and for 4 and 5; 0 from 6 on"; 0 too for 3 where a band's figure is past
     /// its limit
     pub file: u8,
@@ -36,19 +78,18 @@ pub struct Refusal {
 impl Refusal {
     pub(crate) fn of(result: u64) -> Refusal {
         let [number, file] = [raw::number(result), raw::file(result)].map(|told| told as u8);
-        Refusal { number, file, place: raw::place(result) as usize }
+        Refusal { reason: Reason::from(number), file, place: raw::place(result) as usize }
     }
 
-    /// The number in words.
-    pub fn words(&self) -> &'static str {
-        let index = usize::from(self.number).wrapping_sub(1);
-        WORDS.get(index).copied().unwrap_or("no refusal")
+    /// The reason's number.
+    pub fn number(&self) -> u8 {
+        self.reason.number()
     }
 }
 
 impl fmt::Display for Refusal {
     fn fmt(&self, f: &mut fmt::Formatter<'_>) -> fmt::Result {
-        write!(f, "refusal {} (file {}, place {}): {}", self.number, self.file, self.place, self.words())
+        write!(f, "refusal {} (file {}, place {}): {}", self.number(), self.file, self.place, self.reason)
     }
 }
 

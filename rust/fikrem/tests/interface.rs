@@ -1,24 +1,36 @@
-//! The three texts of the interface say the same: `include/fikrem.h`, `src/raw.rs` and the libraries' own code. Kinds are
+//! The three texts of the interface say the same: `include/fikrem.h`, `src/raw.rs` and the library's own code. Kinds are
 //! compared in `raw.rs`'s words.
 
-use fikrem::Refusal;
-use std::collections::{BTreeMap, BTreeSet};
-use std::{env, fs, path::Path};
+use fikrem::raw;
+use std::collections::BTreeMap;
+use std::path::{Path, PathBuf};
+use std::{env, fs};
 
 const HEADER: &str = "../../include/fikrem.h";
 const RAW: &str = "src/raw.rs";
-const LIBRARY: &str = "../../crates/quoting_unit/src/lib.rt";
-const BAND_LIBRARY: &str = "../../crates/fikrem_price_band/src/lib.rt";
-/// Each of these libraries has its exports in the crate `NAME_c`.
-const LIBRARIES: [&str; 4] = ["quoting_unit", "fikrem_page", "fikrem_price_band", "fikrem_files"];
+/// The library's crate, and what it has its sizes from.
+const LIBRARY: &str = "../../crates/fikrem_c/src";
+const SHARED: &str = "../../crates/quoting_unit/src";
 
 /// A function's parameters, each with its kind, and the kind of its result.
 type Function = (Vec<(String, String)>, String);
 
+fn path(name: &str) -> PathBuf {
+    Path::new(&env::var("CARGO_MANIFEST_DIR").expect("cargo sets it")).join(name)
+}
+
+fn read(file: &Path) -> String {
+    fs::read_to_string(file).unwrap_or_else(|error| panic!("{}: {error}", file.display()))
+}
+
 fn text(name: &str) -> String {
-    let package = env::var("CARGO_MANIFEST_DIR").expect("cargo sets it");
-    let file = Path::new(&package).join(name);
-    fs::read_to_string(&file).unwrap_or_else(|error| panic!("{}: {error}", file.display()))
+    read(&path(name))
+}
+
+/// The texts of a folder's files, one after the other.
+fn texts(folder: &str) -> String {
+    let files = fs::read_dir(path(folder)).unwrap_or_else(|error| panic!("{folder}: {error}"));
+    files.map(|file| read(&file.expect("an entry of the folder").path())).collect()
 }
 
 /// The part before the closing mark and the part after it.
@@ -60,11 +72,12 @@ fn functions_of_header() -> BTreeMap<String, Function> {
         let [.., result, name] = head.split_whitespace().collect::<Vec<_>>()[..] else {
             panic!("no function: {head}");
         };
-        let parameters = split(parameters, ")").0.split(',').map(|parameter| {
-            let parameter = parameter.trim();
-            let name = parameter.rfind([' ', '*']).map_or(0, |end| end + 1);
-            (parameter[name..].to_string(), kind_of_c(parameter[..name].trim_end()))
-        });
+        let parameters =
+            split(parameters, ")").0.split(',').filter(|&parameter| parameter != "void").map(|parameter| {
+                let parameter = parameter.trim();
+                let name = parameter.rfind([' ', '*']).map_or(0, |end| end + 1);
+                (parameter[name..].to_string(), kind_of_c(parameter[..name].trim_end()))
+            });
         functions.insert(name.to_string(), (parameters.collect(), kind_of_c(result)));
     }
     functions
@@ -98,13 +111,8 @@ fn as_pointer((name, kind): (String, String)) -> Vec<(String, String)> {
     vec![(name.clone(), format!("{pointer} {element}")), (format!("{name}_{count}"), "usize".to_string())]
 }
 
-/// The text of a crate's code.
-fn code(name: &str) -> String {
-    text(&format!("../../crates/{name}/src/lib.rt"))
-}
-
 fn functions_of_library() -> BTreeMap<String, Function> {
-    let library = LIBRARIES.map(|name| code(&format!("{name}_c"))).concat();
+    let library = texts(LIBRARY);
     let exported = library.split("#[unsafe(no_mangle)]").skip(1).map(|part| split(part, "pub extern \"C\" fn ").1);
     exported
         .map(function_of_rust)
@@ -115,44 +123,13 @@ fn functions_of_library() -> BTreeMap<String, Function> {
 #[test]
 fn the_same_functions() {
     let (header, raw, library) = (functions_of_header(), functions_of_raw(), functions_of_library());
-    assert_eq!(library.len(), 12);
+    assert_eq!(library.len(), 13);
     let names = |functions: &BTreeMap<String, Function>| functions.keys().cloned().collect::<Vec<_>>();
     assert_eq!(names(&header), names(&library), "names of {HEADER} and {LIBRARY}");
     assert_eq!(names(&raw), names(&library), "names of {RAW} and {LIBRARY}");
     for (name, function) in &library {
         assert_eq!(&header[name], function, "{name} of {HEADER} and {LIBRARY}");
         assert_eq!(&raw[name], function, "{name} of {RAW} and {LIBRARY}");
-    }
-}
-
-/// A text without its layout: its blanks, its ends of lines, and the comma after a last parameter.
-fn without_layout(text: &str) -> String {
-    text.split_whitespace().collect::<String>().replace(",)", ")")
-}
-
-/// The words of a crate's clauses that stand in other modules, each as `module.word`.
-fn words_of_clauses(code: &str) -> BTreeSet<String> {
-    let imports = code.split("ghost use ").skip(1).map(|import| split(split(import, "};").0, ".{"));
-    imports.flat_map(|(module, words)| words.split(',').map(move |word| format!("{module}.{}", word.trim()))).collect()
-}
-
-/// An export has the parameters and the clauses of the library's function of the same name, word for word and of the same modules, and
-/// calls it.
-#[test]
-fn the_same_clauses() {
-    for name in LIBRARIES {
-        let (library, exports) = (code(name), code(&format!("{name}_c")));
-        let others = words_of_clauses(&exports);
-        let others: Vec<_> = others.difference(&words_of_clauses(&library)).cloned().collect();
-        assert!(others.is_empty(), "{name} takes no such words into its clauses: {others:?}");
-        let library = without_layout(&library);
-        for export in exports.split("pub extern \"C\" fn ").skip(1) {
-            let (head, body) = split(export, "\n{\n");
-            let function = without_layout(&format!("pub fn {head} {{"));
-            assert!(library.contains(&function), "{name} has no function of these clauses: {head}");
-            let called = format!("{name}::{}(", split(head, "(").0);
-            assert!(body.trim_start().starts_with(&called), "not a call of {called}: {body}");
-        }
     }
 }
 
@@ -183,11 +160,9 @@ fn numbers_of_rust(text: &str) -> BTreeMap<String, String> {
 fn the_same_numbers() {
     let (header, raw) = (numbers_of_header(), numbers_of_rust(&text(RAW)));
     assert_eq!(raw, header, "{RAW} and {HEADER}");
-    for (library, names) in [(LIBRARY, &["ANSWER", "FIGURES"][..]), (BAND_LIBRARY, &["BAND"])] {
-        let numbers = numbers_of_rust(&text(library));
-        for &name in names {
-            assert_eq!(numbers.get(name), header.get(name), "{name} of {library} and {HEADER}");
-        }
+    let library = numbers_of_rust(&(texts(LIBRARY) + &texts(SHARED)));
+    for name in ["VERSION", "ANSWER", "FIGURES", "BAND"] {
+        assert_eq!(library.get(name), header.get(name), "{name} of the library and {HEADER}");
     }
     assert_eq!(fikrem::LONGEST_SLIP.to_string(), header["TEXT_SIZE"]);
     assert_eq!(fikrem::PAGE.to_string(), header["PAGE_SIZE"]);
@@ -221,17 +196,30 @@ fn the_same_parts_of_a_result() {
     assert_eq!(parts_of_raw(), parts_of_header(), "{RAW} and {HEADER}");
 }
 
+/// Results, and the number, file, place and 'of ledger' that each stands for.
+const RESULTS: [(u64, [u64; 4]); 8] = [
+    (33, [1, 1, 0, 0]),
+    (31_555, [3, 2, 123, 0]),
+    (1_349, [5, 2, 5, 0]),
+    (141, [13, 0, 0, 1]),
+    (14, [14, 0, 0, 0]),
+    (16, [16, 0, 0, 0]),
+    (255, [31, 3, 0, 1]),
+    (u64::MAX - 94, [1, 1, (1 << 56) - 1, 1]),
+];
+
+/// `raw.rs` takes them apart, and c/result.txt has the same of the header's macros, which c/check.sh holds against c/result.c.
 #[test]
-fn the_same_words() {
-    let header = text(HEADER);
-    let results = split(split(&header, "enum fikrem_number {").1, "};").0;
-    let mut refusals = results.lines().map(str::trim).filter(|line| line.contains("/*"));
-    for number in 1..=15 {
-        let line = refusals.next().unwrap_or_default();
-        let (enumerator, comment) = split(line, "/*");
-        assert_eq!(split(enumerator, " = ").1.trim_end_matches([' ', ',']), number.to_string());
-        let words = Refusal { number, file: 0, place: 0 }.words();
-        assert_eq!(split(comment, "*/").0.trim(), words, "refusal {number}");
+fn results_taken_apart() {
+    let mut lines = String::new();
+    for (result, parts) in RESULTS {
+        assert_eq!(
+            [raw::number(result), raw::file(result), raw::place(result), raw::of_ledger(result)],
+            parts,
+            "{result}"
+        );
+        let [number, file, place, of_ledger] = parts;
+        lines += &format!("{result}: number {number}, file {file}, place {place}, of ledger {of_ledger}\n");
     }
-    assert_eq!(refusals.next(), None);
+    assert_eq!(lines, text("../../c/result.txt"));
 }

@@ -81,15 +81,15 @@ pub fn check(bytes: &[u8]) -> u16 {
 /// "Order for a file: 1 for its last five bytes, 2, 1 for the rest."
 pub fn open<'a>(bytes: &'a [u8], rows: &[Row], file: u8) -> Result<Fields<'a>, Refusal> {
     let refused = |number, place| Refusal { number, file, place };
-    let (body, tail) = bytes.split_last_chunk::<TAIL_SIZE>().ok_or(refused(refusal::WALK, 0))?;
+    let (body, tail) = bytes.split_last_chunk::<TAIL_SIZE>().ok_or(refused(refusal::FILE_DOES_NOT_WALK, 0))?;
     if !tail.starts_with(&CHECK_HEAD) {
-        return Err(refused(refusal::WALK, 0));
+        return Err(refused(refusal::FILE_DOES_NOT_WALK, 0));
     }
     let check_place = bytes.len() - 2;
     if check(&bytes[..check_place]) != u16::from_be_bytes([tail[3], tail[4]]) {
-        return Err(refused(refusal::CHECK, check_place));
+        return Err(refused(refusal::CHECK_DIFFERS, check_place));
     }
-    walk(body, rows).map_err(|place| refused(refusal::WALK, place))?;
+    walk(body, rows).map_err(|place| refused(refusal::FILE_DOES_NOT_WALK, place))?;
     Ok(Fields { file, place: 0, rest: body })
 }
 
@@ -174,7 +174,7 @@ pub struct Value<'a> {
 impl Value<'_> {
     /// Refusal 3 at the next byte.
     pub fn refused(&self) -> Refusal {
-        Refusal { number: refusal::VALUE, file: self.file, place: self.place }
+        Refusal { number: refusal::VALUE_NOT_LISTED, file: self.file, place: self.place }
     }
 
     /// The next `N` bytes.

@@ -142,7 +142,7 @@ impl Ledger {
         parties
             .get(..self.entries as usize)
             .and_then(|entries| self.sums(entries.iter().copied()))
-            .ok_or(Refusal::of_call(refusal::UNSOUND))
+            .ok_or(Refusal::of_call(refusal::LEDGER_UNSOUND))
     }
 
     /// The index of an entry, or 11.
@@ -150,7 +150,7 @@ impl Ledger {
         if (1..=self.entries).contains(&entry) {
             Ok(entry as usize - 1)
         } else {
-            Err(Refusal::of_call(refusal::NO_ENTRY))
+            Err(Refusal::of_call(refusal::NO_SUCH_ENTRY))
         }
     }
 }
@@ -237,25 +237,25 @@ fn answer(
     bill: &Bill,
 ) -> Result<Answer, Refusal> {
     if ledger.connections >= MOST_CONNECTIONS {
-        return Err(Refusal::of_call(refusal::CONNECTIONS));
+        return Err(Refusal::of_call(refusal::NO_CONNECTION_LEFT));
     }
     if bill.month < ledger.month {
-        return Err(Refusal::of_call(refusal::MONTH));
+        return Err(Refusal::of_call(refusal::MONTH_BEFORE_LAST));
     }
     if bill.scheme > ledger.opened {
-        return Err(Refusal::of_call(refusal::NEVER_OPENED));
+        return Err(Refusal::of_call(refusal::SCHEME_NEVER_OPENED));
     }
     let joining = usize::from(bill.scheme)
         .checked_sub(1)
         .map(|index| joining(ledger, &ledger.schemes[index], sums[index].capacity, bill));
     let opens = bill.mark == 0 && bill.x > bill.threshold;
     if opens && usize::from(ledger.opened) == MOST_SCHEMES {
-        return Err(Refusal::of_call(refusal::SCHEMES));
+        return Err(Refusal::of_call(refusal::NO_SCHEME_LEFT));
     }
     let joins = matches!(joining, Some(Joining::Joined { .. }));
     let entries_needed = usize::from(joins) + usize::from(opens);
     if ledger.entries as usize + entries_needed > table_length.min(MOST_ENTRIES) {
-        return Err(Refusal::of_call(refusal::TABLE));
+        return Err(Refusal::of_call(refusal::NO_ENTRY_LEFT));
     }
     Ok(Answer { joining, opened: opens.then_some(ledger.opened + 1) })
 }
@@ -316,7 +316,7 @@ pub fn pay_out(ledger: &Ledger, parties: &mut [Party], entry: u32, amount: u64) 
     ledger.sums_on(parties)?;
     let party = &mut parties[ledger.index_of(entry)?];
     if amount > party.credited - party.paid_out {
-        return Err(Refusal::of_call(refusal::STANDING_CREDIT));
+        return Err(Refusal::of_call(refusal::PAY_OUT_ABOVE_CREDIT));
     }
     party.paid_out += amount;
     Ok(())

@@ -19,7 +19,7 @@ pub const PAGE_SIZE: usize = LINES * LINE_SIZE;
 /// "An output under 768 bytes is 14, after 5".
 pub fn page(book: &[u8], request: &[u8], output: &mut [u8]) -> Result<(), Refusal> {
     let bill = price(book, request)?;
-    let place = output.get_mut(..PAGE_SIZE).ok_or(Refusal::of_call(refusal::OUTPUT))?;
+    let place = output.get_mut(..PAGE_SIZE).ok_or(Refusal::of_call(refusal::OUTPUT_TOO_SHORT))?;
     let text: String = lines(&bill.reconciliation).iter().map(|(label, cents)| line(label, *cents)).collect();
     place.copy_from_slice(text.as_bytes());
     Ok(())

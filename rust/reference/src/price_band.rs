@@ -28,7 +28,7 @@ pub fn price_band(
     let distribution = [revenue(low_distribution)?, revenue(high_distribution)?];
     let transmission = [revenue(low_transmission)?, revenue(high_transmission)?];
     if distribution[0] > distribution[1] || transmission[0] > transmission[1] {
-        return Err(Refusal::of_call(refusal::BAND));
+        return Err(Refusal::of_call(refusal::LOW_ABOVE_HIGH));
     }
     let ends = [(0, 0), (0, 1), (1, 0), (1, 1)].map(|(of_distribution, of_transmission)| {
         priceable.request.distribution_revenue = distribution[of_distribution];
@@ -44,7 +44,10 @@ pub fn price_band(
 
 /// A figure within field 08's limit, or 3.
 fn revenue(figure: u64) -> Result<u32, Refusal> {
-    u32::try_from(figure).ok().filter(|&revenue| revenue <= HIGHEST_AMOUNT).ok_or(Refusal::of_call(refusal::VALUE))
+    u32::try_from(figure)
+        .ok()
+        .filter(|&revenue| revenue <= HIGHEST_AMOUNT)
+        .ok_or(Refusal::of_call(refusal::VALUE_NOT_LISTED))
 }
 
 /// Every year's revenue rises or stays with the first year's, IR with it, and CC and NC move one way with IR; so the

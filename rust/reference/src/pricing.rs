@@ -90,7 +90,7 @@ impl Priceable {
     pub(crate) fn read(book: &[u8], request: &[u8]) -> Result<Priceable, Refusal> {
         let book = RateBook::read(book)?;
         let request = Request::read(request)?;
-        let zone_refused = Refusal { number: refusal::ZONE, file: refusal::REQUEST, place: 0 };
+        let zone_refused = Refusal { number: refusal::ZONE_NOT_IN_BOOK, file: refusal::REQUEST, place: 0 };
         let posted = book.zones.posted_rates(request.zone).ok_or(zone_refused)?;
         let rates = tier_rates(posted, &request.tiers)?;
         Ok(Priceable { book, request, rates })
@@ -115,7 +115,7 @@ fn tier_rates(posted: &[u32; TIERS], tiers: &[Tier; TIERS]) -> Result<[u32; TIER
             Mode::ExtensionLike => *rate = 0,
             Mode::Bespoke if bespoke_allowed(*rate, tier.bespoke_rate) => *rate = tier.bespoke_rate,
             Mode::Bespoke => {
-                return Err(Refusal { number: refusal::BESPOKE, file: refusal::REQUEST, place: index + 1 });
+                return Err(Refusal { number: refusal::BESPOKE_NOT_ALLOWED, file: refusal::REQUEST, place: index + 1 });
             }
         }
     }

@@ -8,54 +8,54 @@ pub const BOOK: u8 = 1;
 pub const REQUEST: u8 = 2;
 
 /// "file doesn't walk as above": as 'Tagged fields' has it
-pub const WALK: u8 = 1;
+pub const FILE_DOES_NOT_WALK: u8 = 1;
 /// "check differs"
-pub const CHECK: u8 = 2;
+pub const CHECK_DIFFERS: u8 = 2;
 /// "value or letters not as listed; in a stored ledger only the letters": listed under 'Rate book', 'Request' and
 /// 'Stored form'
-pub const VALUE: u8 = 3;
+pub const VALUE_NOT_LISTED: u8 = 3;
 /// "zone not in the book"
-pub const ZONE: u8 = 4;
+pub const ZONE_NOT_IN_BOOK: u8 = 4;
 /// "bespoke rate not allowed"
-pub const BESPOKE: u8 = 5;
+pub const BESPOKE_NOT_ALLOWED: u8 = 5;
 /// "scheme never opened"
-pub const NEVER_OPENED: u8 = 6;
+pub const SCHEME_NEVER_OPENED: u8 = 6;
 /// "month before the last accepted"
-pub const MONTH: u8 = 7;
+pub const MONTH_BEFORE_LAST: u8 = 7;
 /// "64 schemes, one must open"
-pub const SCHEMES: u8 = 8;
+pub const NO_SCHEME_LEFT: u8 = 8;
 /// "no table entry left, one is needed"
-pub const TABLE: u8 = 9;
+pub const NO_ENTRY_LEFT: u8 = 9;
 /// "1,000,000 connections taken"
-pub const CONNECTIONS: u8 = 10;
+pub const NO_CONNECTION_LEFT: u8 = 10;
 /// "no such entry"
-pub const NO_ENTRY: u8 = 11;
+pub const NO_SUCH_ENTRY: u8 = 11;
 /// "pay-out above standing credit"
-pub const STANDING_CREDIT: u8 = 12;
+pub const PAY_OUT_ABOVE_CREDIT: u8 = 12;
 /// "ledger unsound, or table shorter than its entries"
-pub const UNSOUND: u8 = 13;
+pub const LEDGER_UNSOUND: u8 = 13;
 /// "output shorter than the stored form"; of a page, "An output under 768 bytes"
-pub const OUTPUT: u8 = 14;
+pub const OUTPUT_TOO_SHORT: u8 = 14;
 /// Of a price band, "a low above its high"
-pub const BAND: u8 = 15;
+pub const LOW_ABOVE_HIGH: u8 = 15;
 
 /// The refusals in words that stand by themselves, from number 1 on.
 const WORDS: [&str; 15] = [
-    "file doesn't walk as tagged fields",
-    "check differs",
-    "value past its limits or letters that differ; in a stored ledger only the letters",
-    "zone not in the book",
-    "bespoke rate not allowed",
-    "scheme never opened",
-    "month before the last accepted",
-    "64 schemes, one must open",
-    "no table entry left, one is needed",
-    "1,000,000 connections taken",
-    "no such entry",
-    "pay-out above standing credit",
-    "ledger unsound, or table shorter than its entries",
-    "output shorter than the stored form or the page",
-    "low revenue above its high",
+    "a field can't stand at the place, or the file's last five bytes are wrong",
+    "the file's check differs",
+    "a value is past its limits, or the file's letters differ; in a stored ledger only the letters",
+    "the request's zone is not in the book",
+    "a bespoke rate is not allowed",
+    "the scheme that the request joins was never opened",
+    "the month is before the last accepted",
+    "there are 64 schemes, and one must open",
+    "the table has fewer records than the stored ledger has entries, or than it would have after accept",
+    "1,000,000 connections are taken",
+    "there is no such entry",
+    "the pay-out is above the standing credit",
+    "the stored ledger is unsound",
+    "the output, the answer or the figures are too short",
+    "a low revenue is above its high",
 ];
 
 /// A refusal: its number, 1 to 15, the file it is about and the place in it.

@@ -39,7 +39,7 @@ pub fn write_ledger(ledger: &Ledger, parties: &[Party], output: &mut [u8]) -> Re
     let schemes = &ledger.schemes[..usize::from(ledger.opened)];
     let entries = &parties[..ledger.entries as usize];
     let length = stored_length(schemes.len(), entries.len());
-    let form = output.get_mut(..length).ok_or(Refusal::of_call(refusal::OUTPUT))?;
+    let form = output.get_mut(..length).ok_or(Refusal::of_call(refusal::OUTPUT_TOO_SHORT))?;
     let mut writer = Writer { rest: form };
     writer.field(LETTERS_TAG, LETTERS_SIZE);
     writer.put(*LETTERS);
@@ -115,10 +115,10 @@ pub fn read_ledger(ledger: &mut Ledger, parties: &mut [Party], file: &[u8]) -> R
         stored.opened += 1;
     }
     let entries = of_tag(ENTRY_TAG).count();
-    let table = parties.get_mut(..entries).ok_or(Refusal::of_call(refusal::TABLE))?;
+    let table = parties.get_mut(..entries).ok_or(Refusal::of_call(refusal::NO_ENTRY_LEFT))?;
     stored.entries = entries as u32;
     if stored.sums(of_tag(ENTRY_TAG).map(entry)).is_none() {
-        return Err(Refusal::of_call(refusal::UNSOUND));
+        return Err(Refusal::of_call(refusal::LEDGER_UNSOUND));
     }
     for (place, value) in table.iter_mut().zip(of_tag(ENTRY_TAG)) {
         *place = entry(value);

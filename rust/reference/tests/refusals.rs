@@ -52,9 +52,9 @@ const PLAIN: Result<Answer, Refusal> = Ok(Answer { joining: None, opened: None }
 #[test]
 fn words_for_every_number() {
     let words: Vec<_> = (1..=15).map(|number| call(number).words()).collect();
-    assert_eq!(words[0], "file doesn't walk as tagged fields");
-    assert_eq!(words[13], "output shorter than the stored form or the page");
-    assert_eq!(words[14], "low revenue above its high");
+    assert_eq!(words[0], "a field can't stand at the place, or the file's last five bytes are wrong");
+    assert_eq!(words[13], "the output, the answer or the figures are too short");
+    assert_eq!(words[14], "a low revenue is above its high");
     assert!(words.iter().enumerate().all(|(index, word)| !words[..index].contains(word)));
     assert_eq!([0, 16, 255].map(|number| call(number).words()), ["no refusal"; 3]);
 }

@@ -5,25 +5,26 @@ use Rattle.reconciliation.specs.Figures.{figure_values}
 use Rattle.reconciliation.specs.SlipReconciliation.{slip_reconciliation}
 use Rattle.quoting_unit.specs.Interface.{result_of, number_in, file_in, of_ledger_in, place_in, is_done, is_refused, outcome_of, answer_after}
 
--- each number with its file and place: a tail that is bad, a check, a value of the request, a zone, a tier, the calls' own; then of the stored ledger
+-- number, file, place and whether of the stored ledger: numbers that a call can come to, and what else there is room for; places to 2^56 − 1 and the next
 pub results_told :
-    map (λ (t : ℕ × ℕ × ℕ). result_of (refusal t.0 t.1 t.2) 0)
-    ((1, 1, 0) ∷ (2, 1, 134) ∷ (3, 2, 45) ∷ (4, 2, 0) ∷ (5, 2, 3) ∷ (6, 0, 0) ∷ (7, 0, 0) ∷ (8, 0, 0) ∷ (9, 0, 0) ∷ (10, 0, 0) ∷ (11, 0, 0) ∷ (12, 0, 0) ∷
-    (13, 0, 0) ∷ (14, 0, 0) ∷ (1, 1, 72057594037927935) ∷ (1, 1, 72057594037927936) ∷ [])
-    ≡ 17 ∷ 34322 ∷ 11555 ∷ 36 ∷ 805 ∷ 6 ∷ 7 ∷ 8 ∷ 9 ∷ 10 ∷ 11 ∷ 12 ∷ 13 ∷ 14 ∷ 18446744073709551377 ∷ 18446744073709551377 ∷ []
+    map (λ (t : ℕ × ℕ × ℕ × ℕ). result_of (refusal t.0 t.1 t.2) t.3)
+    ((1, 1, 0, 0) ∷ (2, 1, 134, 0) ∷ (3, 2, 123, 0) ∷ (4, 2, 0, 0) ∷ (5, 2, 5, 0) ∷ (6, 0, 0, 0) ∷ (7, 0, 0, 0) ∷ (8, 0, 0, 0) ∷ (9, 0, 0, 0) ∷ (10, 0, 0, 0) ∷
+    (11, 0, 0, 0) ∷ (12, 0, 0, 0) ∷ (13, 0, 0, 0) ∷ (14, 0, 0, 0) ∷ (15, 0, 0, 0) ∷ (16, 0, 0, 0) ∷ (31, 3, 0, 1) ∷ [])
+    ≡ 33 ∷ 34338 ∷ 31555 ∷ 68 ∷ 1349 ∷ 6 ∷ 7 ∷ 8 ∷ 9 ∷ 10 ∷ 11 ∷ 12 ∷ 13 ∷ 14 ∷ 15 ∷ 16 ∷ 255 ∷ []
 results_told = refl
 
 pub ledger_results_told :
-    map (λ (t : ℕ × ℕ × ℕ). result_of (refusal t.0 t.1 t.2) 1) ((1, 1, 7) ∷ (2, 1, 128) ∷ (3, 1, 3) ∷ (9, 0, 0) ∷ (13, 0, 0) ∷ [])
-    ≡ 1873 ∷ 32850 ∷ 851 ∷ 73 ∷ 77 ∷ []
+    map (λ (t : ℕ × ℕ × ℕ). result_of (refusal t.0 t.1 t.2) 1)
+    ((1, 1, 7) ∷ (2, 1, 128) ∷ (3, 1, 3) ∷ (9, 0, 0) ∷ (13, 0, 0) ∷ (1, 1, 72057594037927935) ∷ (1, 1, 72057594037927936) ∷ [])
+    ≡ 1953 ∷ 32930 ∷ 931 ∷ 137 ∷ 141 ∷ 18446744073709551521 ∷ 18446744073709551521 ∷ []
 ledger_results_told = refl
 
--- a value of the request at 45, and of the stored ledger a check at 128, taken apart
+-- a value of the request at 123, of the stored ledger a check at 128, and the highest of each part, taken apart
 pub results_apart :
-    (map number_in (11555 ∷ 32850 ∷ []) ≡ 3 ∷ 2 ∷ [])
-    × (map file_in (11555 ∷ 32850 ∷ []) ≡ 2 ∷ 1 ∷ [])
-    × (map of_ledger_in (11555 ∷ 32850 ∷ []) ≡ 0 ∷ 1 ∷ [])
-    × (map place_in (11555 ∷ 32850 ∷ []) ≡ 45 ∷ 128 ∷ [])
+    (map number_in (31555 ∷ 32930 ∷ 255 ∷ []) ≡ 3 ∷ 2 ∷ 31 ∷ [])
+    × (map file_in (31555 ∷ 32930 ∷ 255 ∷ []) ≡ 2 ∷ 1 ∷ 3 ∷ [])
+    × (map of_ledger_in (31555 ∷ 32930 ∷ 255 ∷ []) ≡ 0 ∷ 1 ∷ 1 ∷ [])
+    × (map place_in (31555 ∷ 32930 ∷ 255 ∷ []) ≡ 123 ∷ 128 ∷ 0 ∷ [])
 results_apart = (refl, refl, refl, refl)
 
 -- ---- the figures

@@ -20,7 +20,7 @@ answers_placed = (refl, refl, refl, refl, refl, refl, refl, refl)
 
 -- no bytes as a stored ledger, and as a book
 pub ledger_told_apart :
-    ((outcome_of (unit_call_ending (not_read (refusal 1 1 0)))).result ≡ 81)
-    × ((outcome_of (unit_call_ending (not_made (refusal 1 1 0)))).result ≡ 17)
-    × ((outcome_of (check_ending (Err (refusal 1 1 0)))).result ≡ 81)
+    ((outcome_of (unit_call_ending (not_read (refusal 1 1 0)))).result ≡ 161)
+    × ((outcome_of (unit_call_ending (not_made (refusal 1 1 0)))).result ≡ 33)
+    × ((outcome_of (check_ending (Err (refusal 1 1 0)))).result ≡ 161)
 ledger_told_apart = (refl, refl, refl)

@@ -29,7 +29,7 @@ pub price_cases :
     (unit_call (price slip_book (scheme_request 1039630 24315 5000 1)) (lent_figures (replicate 28 (pos 7)))
     ≡ record { result = 0; lent = lent_figures (figure_values slip_reconciliation ++ (pos 7 ∷ [])) })
     × (unit_call (price slip_book (bespoke_request 12750 57001)) (lent_figures (replicate 27 (pos 7)))
-    ≡ record { result = 805; lent = lent_figures (replicate 27 (pos 7)) })
+    ≡ record { result = 837; lent = lent_figures (replicate 27 (pos 7)) })
     × (unit_call (price slip_book slip_request) (lent_figures (replicate 26 (pos 7))) ≡ record { result = 14; lent = lent_figures (replicate 26 (pos 7)) })
 price_cases = (rw scheme_bills.joining, rw pricing_refusals.1, refl)
 
@@ -45,13 +45,13 @@ new_ledger_cases =
       refl,
     )
 
--- a refusal of the stored ledger itself, 64 above a call's own; two entries and a table of one record, then of two
+-- a refusal of the stored ledger itself, 128 above a call's own; two entries and a table of one record, then of two
 pub stored_cases :
     (unit_call (on_ledger new_form 512 (hand_over 1 5)) (lent_output [] (replicate 5 9)) ≡ record { result = 11; lent = lent_output [] (replicate 5 9) })
-    × (unit_call (on_ledger [] 512 (hand_over 1 5)) (lent_output [] (replicate 5 9)) ≡ record { result = 81; lent = lent_output [] (replicate 5 9) })
+    × (unit_call (on_ledger [] 512 (hand_over 1 5)) (lent_output [] (replicate 5 9)) ≡ record { result = 161; lent = lent_output [] (replicate 5 9) })
     × (unit_call (check_ledger new_form 512) (lent_answer (replicate 5 9)) ≡ record { result = 0; lent = lent_answer (replicate 5 0) })
-    × (unit_call (check_ledger [] 512) (lent_answer (replicate 5 9)) ≡ record { result = 81; lent = lent_answer (replicate 5 9) })
-    × (unit_call (check_ledger joined_form 1) (lent_answer (replicate 5 9)) ≡ record { result = 73; lent = lent_answer (replicate 5 9) })
+    × (unit_call (check_ledger [] 512) (lent_answer (replicate 5 9)) ≡ record { result = 161; lent = lent_answer (replicate 5 9) })
+    × (unit_call (check_ledger joined_form 1) (lent_answer (replicate 5 9)) ≡ record { result = 137; lent = lent_answer (replicate 5 9) })
     × (unit_call (check_ledger joined_form 2) (lent_answer (replicate 6 9)) ≡ record { result = 0; lent = lent_answer (1 ∷ 2 ∷ 2 ∷ 12 ∷ 0 ∷ 9 ∷ []) })
 stored_cases = (
   rw hand_over_cases_hold.0,

@@ -28,6 +28,6 @@ pub fn every_byte(tally: &mut Tally) {
     let mut stored = vec![0; 1_000];
     let length = write_ledger(&ledger, &parties, &mut stored).expect("the ledger is sound");
     altered(&stored[..length], |stored| {
-        tally.compare(&LibraryCall::CheckLedger { stored, table_size: LONGEST_TABLE }).0
+        tally.compare(&LibraryCall::JudgeLedger { stored, table_size: LONGEST_TABLE }).0
     });
 }

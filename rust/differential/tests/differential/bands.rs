@@ -29,7 +29,7 @@ fn compare(tally: &mut Tally, book: &[u8], request: &[u8], revenues: Revenues) -
             let wrapped = reference::PriceBand { ir, cc, nc: [band.lowest_nc, band.highest_nc] };
             assert_eq!(figures_of_band(&wrapped)[..], seen.figures);
         }
-        Err(refusal) => assert_eq!(u64::from(refusal.number), raw::number(result)),
+        Err(refusal) => assert_eq!(u64::from(refusal.number()), raw::number(result)),
     }
     (raw::number(result), seen.figures)
 }

@@ -32,9 +32,9 @@ pub fn every_length(tally: &mut Tally) {
         (LibraryCall::PayOut { stored, table_size, entry: 0, amount: 1 }, stored.len()),
         (LibraryCall::HandOver { stored, table_size, entry: 9, person: 1 }, stored.len()),
         (LibraryCall::HandOver { stored, table_size: 8, entry: 9, person: 1 }, stored.len()),
-        (LibraryCall::CheckLedger { stored, table_size }, 0),
-        (LibraryCall::CheckLedger { stored, table_size: 8 }, 0),
-        (LibraryCall::CheckLedger { stored: &stored[1..], table_size }, 0),
+        (LibraryCall::JudgeLedger { stored, table_size }, 0),
+        (LibraryCall::JudgeLedger { stored, table_size: 8 }, 0),
+        (LibraryCall::JudgeLedger { stored: &stored[1..], table_size }, 0),
     ];
     for (call, length) in &calls {
         for out in lengths(*length.max(&2)) {

@@ -62,7 +62,7 @@ pub fn every_size(tally: &mut Tally) {
     let (ledger, parties) = after(&filling(&mut random, 3, 9), 9);
     let stored = stored_form(&ledger, &parties);
     sizes(&mut random, &stored, |stored| {
-        tally.compare(&LibraryCall::CheckLedger { stored, table_size: 9 });
+        tally.compare(&LibraryCall::JudgeLedger { stored, table_size: 9 });
     });
 }
 
@@ -80,7 +80,7 @@ pub fn stored_ledgers(tally: &mut Tally) {
                 stored = damaged(&mut random, &stored);
             }
             let table_size = table_size(&mut random, ledger.entries);
-            tally.compare(&LibraryCall::CheckLedger { stored: &stored, table_size });
+            tally.compare(&LibraryCall::JudgeLedger { stored: &stored, table_size });
             tally.compare(&LibraryCall::on(&stored, table_size, call));
         }
     }
@@ -90,7 +90,7 @@ pub fn stored_ledgers(tally: &mut Tally) {
     for _ in 0..cases(300) {
         let stored = damaged(&mut random, &whole);
         let table_size = table_size(&mut random, ledger.entries);
-        tally.compare(&LibraryCall::CheckLedger { stored: &stored, table_size });
+        tally.compare(&LibraryCall::JudgeLedger { stored: &stored, table_size });
         tally.compare(&LibraryCall::on(&stored, table_size, &Call::HandOver { entry: 512, person: 1 }));
     }
 }

@@ -21,7 +21,7 @@ fn accept_call(month: u16, scheme: u16) -> Call {
 
 /// By each call on a table of this length.
 fn by_each_call(tally: &mut Tally, random: &mut Random, stored: &[u8], table_size: usize, ledger: &Ledger) {
-    tally.compare(&LibraryCall::CheckLedger { stored, table_size });
+    tally.compare(&LibraryCall::JudgeLedger { stored, table_size });
     let accept = accept_call(ledger.month, random.edge_u16(0, ledger.opened.max(1)));
     tally.compare(&LibraryCall::on(stored, table_size, &accept));
     let entry = random.edge_u32(0, ledger.entries.max(1));

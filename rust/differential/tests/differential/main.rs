@@ -22,6 +22,7 @@ fn cases(count: u64) -> u64 {
 }
 
 fn main() {
+    assert_eq!(fikrem::linked(), Ok(()));
     let mut tally = Tally::default();
     tally.section("books and requests within their limits", pricing::random_pairs);
     tally.section("percentages of small amounts", pricing::small_percentages);

@@ -7,18 +7,18 @@ use generate::{Book, Random, Request};
 use reference::Ledger;
 
 /// What a refusal of the stored ledger itself adds to its number.
-const OF_LEDGER: u64 = 64;
+const OF_LEDGER: u64 = 128;
 
 /// By each call; whether each finds that the table is too short for the entries.
 fn too_short(tally: &mut Tally, stored: &[u8], table_size: usize, request: &[u8]) -> bool {
     let book = &Book::slip().encode()[..];
     let calls = [
-        LibraryCall::CheckLedger { stored, table_size },
+        LibraryCall::JudgeLedger { stored, table_size },
         LibraryCall::Accept { stored, table_size, book, request },
         LibraryCall::PayOut { stored, table_size, entry: 1, amount: 0 },
         LibraryCall::HandOver { stored, table_size, entry: 1, person: 7 },
     ];
-    let found = calls.map(|call| tally.compare(&call).0 == OF_LEDGER + raw::ENTRIES_FULL);
+    let found = calls.map(|call| tally.compare(&call).0 == OF_LEDGER + raw::NO_ENTRY_LEFT);
     assert_eq!(found, [found[0]; 4], "the calls differ on a table of {table_size}");
     found[0]
 }

@@ -8,12 +8,13 @@ use generate::calls::{calls, Call, Outcome};
 use generate::damage::damaged;
 use generate::ledgers::table_size;
 use generate::{Book, Random, Request};
+use reference::refusal::OUTPUT_TOO_SHORT;
 use reference::{Ledger, Refusal};
 
-const OUTPUT: Refusal = Refusal { number: 14, file: 0, place: 0 };
+const OUTPUT: Refusal = Refusal::of_call(OUTPUT_TOO_SHORT);
 
 fn same_refusal(refused: fikrem::Refusal, wanted: Refusal) {
-    assert_eq!((refused.number, refused.file, refused.place), (wanted.number, wanted.file, wanted.place));
+    assert_eq!((refused.number(), refused.file, refused.place), (wanted.number, wanted.file, wanted.place));
 }
 
 /// The bill's fields in the order of the figures.
@@ -103,7 +104,7 @@ fn stored_call_into(stored: &[u8], table_size: usize, call: &Call, out: &mut [u8
 /// The stored ledger, or any bytes in its place: what it holds, or that it is refused as such.
 fn stored_ledger(stored: &[u8], table_size: usize) {
     let (mut ledger, mut parties) = (Ledger::new(), table(table_size));
-    let seen = fikrem::check_ledger(stored, table_size);
+    let seen = fikrem::judge_ledger(stored, table_size);
     let Err(wanted) = reference::read_ledger(&mut ledger, &mut parties, stored) else {
         let Ledger { opened, entries, connections, month, .. } = ledger;
         assert_eq!(seen, Ok(Holdings { schemes: opened, entries, connections, month }));

@@ -1,0 +1,2 @@
+pub mod BandResults
+pub mod FileResult

@@ -1,0 +1,3 @@
+pub mod BandResult
+pub mod FileResult
+pub mod PageResult

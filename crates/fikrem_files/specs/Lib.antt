@@ -1,3 +1,0 @@
-pub mod FileResult
-pub mod Cases
-pub mod Theorems

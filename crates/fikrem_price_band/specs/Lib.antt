@@ -1,4 +1,0 @@
-pub mod BandResult
-pub mod BandResults
-pub mod Cases
-pub mod Theorems
