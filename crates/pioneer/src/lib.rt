@@ -17,7 +17,8 @@ pub fn read(ledger: &mut Ledger, table: &mut [Party], file: &[u8]) -> FileAnswer
         × (ledger.new ≡ (read_of ledger.old table.old file.now).ledger)
         × (table.new ≡ (read_of ledger.old table.old file.now).table) }
 {
-    let parties = stored_reading::read(ledger, table.len(), file)?;
+    let mut parties = ledger::records::no_parties();
+    stored_reading::read(ledger, &mut parties, table.len(), file)?;
     party_table::store_each(table, &parties[..ledger.entries as usize]);
     Ok(())
 }

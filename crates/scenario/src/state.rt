@@ -3,17 +3,20 @@ use calls::answers::{AcceptAnswer, Answer};
 use ledger::limits::{MOST_ENTRIES, Parties};
 use ledger::records::{Ledger, Party};
 use ledger_text::records::{LedgerLines, Numbered};
-use lent_table::{AcceptedTable, ChangedTable, ReadTable};
 use stored::writing::Written;
 use tagged::file::FileAnswer;
 
-// The table is the first `room` records of the parties, as `lent_table` takes them: it may grow and
-// shrink between calls, and the records past it stay.
 #[derive(Clone, Copy)]
 pub struct State {
     pub ledger: Ledger,
     parties: Parties,
+    // The table's length: it may grow and shrink between calls, and the records past it stay.
     pub room: usize,
+}
+
+// What a call is lent: the first `room` records, or all of them.
+fn table(parties: &mut Parties, room: usize) -> &mut [Party] {
+    &mut parties[..room.min(MOST_ENTRIES)]
 }
 
 impl State {
@@ -26,56 +29,29 @@ impl State {
     }
 
     pub fn accept(&mut self, book: &[u8], request: &[u8]) -> AcceptAnswer {
-        let AcceptedTable {
-            answer,
-            ledger,
-            parties,
-        } = lent_table::accept(self.ledger, self.parties, self.room, book, request);
-        self.ledger = ledger;
-        self.parties = parties;
-        answer
+        let table = table(&mut self.parties, self.room);
+        pioneer::accept(&mut self.ledger, table, book, request)
     }
 
-    // One call each, its array put back: a closure for the call would be no shorter.
     pub fn pay_out(&mut self, entry: u32, amount: u64) -> Answer {
-        let ChangedTable { answer, parties } = lent_table::pay_out(
-            self.ledger,
-            self.parties,
-            self.room,
-            entry,
-            amount,
-        );
-        self.parties = parties;
-        answer
+        let table = table(&mut self.parties, self.room);
+        pioneer::pay_out(&self.ledger, table, entry, amount)
     }
 
     pub fn hand_over(&mut self, entry: u32, person: u32) -> Answer {
-        let ChangedTable { answer, parties } = lent_table::hand_over(
-            self.ledger,
-            self.parties,
-            self.room,
-            entry,
-            person,
-        );
-        self.parties = parties;
-        answer
+        let table = table(&mut self.parties, self.room);
+        pioneer::hand_over(&self.ledger, table, entry, person)
     }
 
     // What is read; a new ledger with no entries where the reading is refused.
     pub fn read(&mut self, file: &[u8]) -> FileAnswer {
         *self = State::new();
-        let ReadTable {
-            answer,
-            ledger,
-            parties,
-        } = lent_table::read(self.ledger, self.parties, self.room, file);
-        self.ledger = ledger;
-        self.parties = parties;
-        answer
+        pioneer::read(&mut self.ledger, table(&mut self.parties, self.room), file)
     }
 
     pub fn write(&self, out: &mut [u8]) -> Written {
-        lent_table::write(self.ledger, self.parties, self.room, out)
+        let records = self.room.min(MOST_ENTRIES);
+        pioneer::write(&self.ledger, &self.parties[..records], out)
     }
 
     // None where no record has this number.

@@ -1,5 +1,5 @@
 -- Document 01, 'How calls end': "Reading: file order, 9 where the table is too short, 13." In a stored ledger 3 is for "only the letters".
-use Rattle.std.specs.Prelude.{ℕ, List, [], ◌∷◌, cond, true, ◌≡◌, length, leb, Err, Ok, Result}
+use Rattle.std.specs.Prelude.{ℕ, List, [], ◌∷◌, cond, true, ◌≡◌, length, leb, Err, Ok}
 use Rattle.tagged.specs.File.{file_answer, fields_part, refusal, FileAnswer}
 use Rattle.tagged.specs.Refusals.{value_not_listed, no_entry_left, ledger_unsound, file_does_not_walk, check_differs}
 use Rattle.tagged.specs.declared.file.Refusal.{Refusal}
@@ -56,10 +56,10 @@ read_by (Err r) ledger s = refused_read r ledger
 abbrev pub read_back : Ledger → ℕ → List ℕ → ReadBack
 read_back ledger room file = read_by (read_answer room file) ledger (fields_part file)
 
--- of the entries or the refusal, and the ledger after them
-abbrev pub of_reading : Result (List Party) Refusal → Ledger → ReadBack
-of_reading (Ok parties) ledger = record { answer = Ok tt; ledger = ledger; parties = parties }
-of_reading (Err r) ledger = refused_read r ledger
+-- of the answer, and the ledger and the entries after it
+abbrev pub of_reading : FileAnswer → Ledger → List Party → ReadBack
+of_reading (Ok _) ledger parties = record { answer = Ok tt; ledger = ledger; parties = parties }
+of_reading (Err r) ledger parties = refused_read r ledger
 
 -- The call with a table of any length: the entries go to its first places, and the records past them are left alone.
 pub record ReadEnd : Type 0 where

@@ -1,9 +1,9 @@
 -- Reading, the call and writing by value end as the call on stored bytes does: what was read is sound, and the call leaves it so, so that nothing is
 -- tested again.
-use Rattle.std.specs.Prelude.{Err, Ok, ◌-◌}
+use Rattle.std.specs.Prelude.{Err, Ok, ◌-◌, MatchResult}
 use Prim.Native.Nat.{ℕ, ◌+◌, ◌≤◌, min}
 use mathlib.Core.Path.{◌≡◌, refl, sym, ap, ap₂, subst, ◌∙◌}
-use mathlib.Core.List.{List, ◌++◌}
+use mathlib.Core.List.{List, [], ◌++◌}
 use mathlib.Core.Bool.{true}
 use native.Mathlib.Omega.{arith}
 use lib.ListN.{length, take, drop, length-take}
@@ -15,17 +15,17 @@ use Rattle.ledger.specs.Limits.{most_schemes, most_entries}
 use Rattle.ledger.specs.Lists.{at_start}
 use Rattle.ledger.specs.Records.{no_parties, new_ledger}
 use Rattle.ledger.specs.Sound.{sound}
-use Rattle.ledger.proofs.Theorems.Sound.{sound_means}
+use Rattle.ledger.proofs.Theorems.Sound.{sound_means, new_ledger_sound}
 use Rattle.ledger.specs.declared.records.Party.{Party}
 use Rattle.ledger.specs.declared.records.Ledger.{Ledger}
 use Rattle.calls.specs.Decision.{Call, CallAnswer}
 use Rattle.calls.specs.Carried.{State}
 use Rattle.calls.specs.Calls.{state_of, leaves, Fits}
 use Rattle.kept_sound.proofs.Theorems.KeptSound.{call_keeps_sound, leaves_length}
-use Rattle.calls_by_value.specs.ByValue.{SoundOnRecords, PromisedOnRecords}
+use Rattle.calls_on_records.specs.OnRecords.{SoundOnRecords, PromisedOnRecords}
 use Rattle.stored.specs.Form.{stored_form, stored_entries, stored_ledger}
 use Rattle.stored.proofs.Theorems.StoredAccepted.{accepted_means}
-use Rattle.stored.specs.Reading.{ReadBack, ReadEnd, read_answer, read_by, read_back, of_reading, table_by}
+use Rattle.stored.specs.Reading.{ReadBack, ReadEnd, read_answer, read_by, read_back, refused_read, of_reading, table_by}
 use Rattle.stored.specs.Writing.{output_by, form_end, write_of}
 use Rattle.stored.proofs.Theorems.Writing.{write_sound}
 use Rattle.stored.proofs.Theorems.SameForm.{same_form}
@@ -43,41 +43,38 @@ at_start_within elements others room fits =
     let whole : length elements + past ≡ room = omega arith in
     rw whole at (take-append-add elements (drop (length elements) others) past ∙ ap (λ l. elements ++ l) (sym (drop-take (length elements) past others)))
 
--- what is read by value, into a new ledger and its records
+-- what is read into a new ledger and its records, by the answer
 pub reads : (file : List ℕ) (room : ℕ) {fresh : Ledger} {records : ℕ} → fresh ≡ new_ledger → records ≡ min room most_entries →
-    {parties : List Party} {ledger : Ledger} → of_reading (Ok parties) ledger ≡ read_back fresh records file →
-    stored_read file room ≡ record { answer = Ok tt; ledger = ledger; table = take room parties }
+    (answer : FileAnswer) (parties : List Party) (ledger : Ledger) → of_reading answer ledger parties ≡ read_back fresh records file →
+    MatchResult answer (λ _. stored_read file room ≡ record { answer = Ok tt; ledger = ledger; table = take room parties })
+    (λ refusal. (stored_read file room).answer ≡ Err refusal)
 unfolding stored_read
-reads file room new few {parties} {ledger} e =
-    ap (λ records. table_by (read_answer records file) new_ledger (take room no_parties) (fields_part file)) (length_room room)
-    ∙ by_answer (read_answer (min room most_entries) file) refl (e ∙ ap₂ (λ ledger records. read_back ledger records file) new few)
+reads file room new few answer parties ledger e =
+    by_answer answer (read_answer (min room most_entries) file) refl (e ∙ ap₂ (λ ledger records. read_back ledger records file) new few)
   where
     s : List ℕ
     s = fields_part file
 
-    by_answer : (answer : FileAnswer) → read_answer (min room most_entries) file ≡ answer → of_reading (Ok parties) ledger ≡ read_by answer new_ledger s →
-        table_by answer new_ledger (take room no_parties) s ≡ record { answer = Ok tt; ledger = ledger; table = take room parties }
-    by_answer (Ok _) stands e =
+    by_room : stored_read file room ≡ table_by (read_answer (min room most_entries) file) new_ledger (take room no_parties) s
+    by_room = ap (λ records. table_by (read_answer records file) new_ledger (take room no_parties) s) (length_room room)
+
+    by_answer : (answer comes : FileAnswer) → read_answer (min room most_entries) file ≡ comes → of_reading answer ledger parties ≡ read_by comes new_ledger s →
+        MatchResult answer (λ _. stored_read file room ≡ record { answer = Ok tt; ledger = ledger; table = take room parties })
+        (λ refusal. (stored_read file room).answer ≡ Err refusal)
+    by_answer (Ok _) (Ok _) stands e =
         let fits = (accepted_means (min room most_entries) file stands).fits in
-        ap (λ table. record { answer = Ok tt; ledger = stored_ledger s; table = table })
+        by_room ∙ ap (λ answer. table_by answer new_ledger (take room no_parties) s) stands
+        ∙ ap (λ table. record { answer = Ok tt; ledger = stored_ledger s; table = table })
         (sym (at_start_within (stored_entries s) no_parties room (omega (arith, fits))))
         ∙ (λ i. record { answer = Ok tt; ledger = (sym e i).ledger; table = take room (sym e i).parties })
-    by_answer (Err r) refused e = let apart = ap (λ (read : ReadBack). read.answer) e in cc
-
-pub reads_not : (file : List ℕ) (room : ℕ) {fresh : Ledger} {records : ℕ} → fresh ≡ new_ledger → records ≡ min room most_entries →
-    {r : Refusal} {ledger : Ledger} → of_reading (Err r) ledger ≡ read_back fresh records file → (stored_read file room).answer ≡ Err r
-unfolding stored_read
-reads_not file room new few {r} {ledger} e =
-    ap (λ records. (table_by (read_answer records file) new_ledger (take room no_parties) (fields_part file)).answer) (length_room room)
-    ∙ by_answer (read_answer (min room most_entries) file)
-    (ap (λ (read : ReadBack). read.answer) (e ∙ ap₂ (λ ledger records. read_back ledger records file) new few))
-  where
-    s : List ℕ
-    s = fields_part file
-
-    by_answer : (answer : FileAnswer) → Err r ≡ (read_by answer new_ledger s).answer → (table_by answer new_ledger (take room no_parties) s).answer ≡ Err r
-    by_answer (Ok _) e = sym e
-    by_answer (Err other) e = sym e
+    by_answer (Ok _) (Err r) refused e = let apart = ap (λ (read : ReadBack). read.answer) e in cc
+    by_answer (Err r) comes is e =
+        ap (λ (end : ReadEnd). end.answer) (by_room ∙ ap (λ answer. table_by answer new_ledger (take room no_parties) s) is)
+        ∙ told comes e
+      where
+        told : (comes : FileAnswer) → refused_read r ledger ≡ read_by comes new_ledger s → (table_by comes new_ledger (take room no_parties) s).answer ≡ Err r
+        told (Ok _) e = sym (ap (λ (read : ReadBack). read.answer) e)
+        told (Err other) e = sym (ap (λ (read : ReadBack). read.answer) e)
 
 -- ---- writing
 
@@ -88,6 +85,10 @@ form_of_sound ledger parties table out entries holds =
     let form : stored_form ledger parties ≡ stored_form ledger table = same_form parties table refl entries in
     ap₂ (λ form answer. record { answer = answer; output = output_by answer form out }) form (rw form (sym (write_sound ledger table (length table) out holds)))
 
+-- a new ledger has no entries, so it is written from no records as from empty ones
+pub new_form : (out : List ℕ) → form_end new_ledger [] out ≡ write_of new_ledger no_parties out
+new_form out = form_of_sound new_ledger [] no_parties out refl (new_ledger_sound no_parties (length no_parties))
+
 -- ---- a call once the ledger is read
 
 abbrev Reads : List ℕ → ℕ → Ledger → List Party → Type 0
@@ -97,13 +98,16 @@ pub sound_here : (file : List ℕ) (room : ℕ) (ledger : Ledger) (parties : Lis
 sound_here file room ledger parties same =
     subst (λ (end : ReadEnd). sound end.ledger end.table (length end.table) ≡ true) same (sound_read file room (ap (λ (end : ReadEnd). end.answer) same))
 
+pub places_here : (file : List ℕ) (room : ℕ) (ledger : Ledger) (parties : List Party) → Reads file room ledger parties → length ledger.schemes ≡ most_schemes
+places_here file room ledger parties same = subst (λ (end : ReadEnd). length end.ledger.schemes ≡ most_schemes) same (places_read file room)
+
 module _ (file : List ℕ) {room : ℕ} {ledger : Ledger} {parties : List Party} {call : Call} {answer : CallAnswer} {after : Ledger} {left : List Party}
     (promise : PromisedOnRecords room ledger parties call answer after left) (same : Reads file room ledger parties) (fits : Fits call) where
   abbrev before : State
   before = state_of ledger (take room parties)
 
   places : length ledger.schemes ≡ most_schemes
-  places = subst (λ (end : ReadEnd). length end.ledger.schemes ≡ most_schemes) same (places_read file room)
+  places = places_here file room ledger parties same
 
   kept : sound after (take room left) (length (take room left)) ≡ true
   kept =

@@ -6,15 +6,15 @@
 
 ghost use Rattle.std.specs.Prelude.{◌≡◌, ◌≤◌, take, MatchResult, Ok, Err};
 ghost use Rattle.ledger.specs.Limits.{most_schemes, most_entries};
+ghost use Rattle.ledger.specs.Records.{no_parties, new_ledger};
 ghost use Rattle.calls.specs.Decision.{accept, pay_out, hand_over, of_accept, of_entry_call};
 ghost use Rattle.stored.specs.Writing.{form_end};
 ghost use Rattle.stored_calls.specs.StoredCalls.{of_stored_accept, of_stored_answer, stored_read, end_by, stored_call_of, new_stored_of, counts_of, check_stored_of};
 
-use calls::answers::Acceptance;
-use calls_by_value::{AcceptedTable, ChangedTable};
+use calls::answers::{AcceptAnswer, Acceptance, Answer};
 use ledger::limits::Parties;
 use ledger::records::Ledger;
-use tagged::file::Refusal;
+use tagged::file::{FileAnswer, Refusal};
 
 // The new form's length with the acceptance.
 #[derive(Clone, Copy)]
@@ -41,57 +41,51 @@ pub struct StoredCounts {
     pub entries: u32,
 }
 
-// A ledger that was read, and its entries.
-#[derive(Clone, Copy)]
-struct Stored {
-    ledger: Ledger,
-    parties: Parties,
-}
-
-fn read_stored(file: &[u8], room: usize) -> Result<Stored, Refusal>
+// A stored ledger, read into a new ledger and empty records. Both are made by the call and lent on: by value each step would copy them.
+fn read_stored(ledger: &mut Ledger, parties: &mut Parties, room: usize, file: &[u8]) -> FileAnswer
+    requires { (ledger.old ≡ new_ledger) × (parties.old ≡ no_parties) }
     ensures { MatchResult result
-        (λ read. stored_read file.now room ≡ record { answer = Ok tt; ledger = read.ledger; table = take room read.parties })
+        (λ _. stored_read file.now room ≡ record { answer = Ok tt; ledger = ledger.new; table = take room parties.new })
         (λ refusal. (stored_read file.now room).answer ≡ Err refusal) }
 {
-    let mut ledger = ledger::records::new_ledger();
-    let parties = stored_reading::read(&mut ledger, calls_by_value::records_of(room), file)?;
-    Ok(Stored { ledger, parties })
+    stored_reading::read(ledger, parties, calls_on_records::records_of(room), file)
 }
 
 // The ledger and the table after an accept, which alone has an acceptance to hand back beside the length: one function for this and
 // the next would tell apart in its promise what each answers.
 fn write_accepted(
-    accepted: AcceptedTable,
+    answer: AcceptAnswer,
+    ledger: &Ledger,
+    parties: &Parties,
     out: &mut [u8],
 ) -> Result<StoredAcceptance, StoredRefusal>
-    requires { (accepted.ledger.count ≤ most_schemes) × (accepted.ledger.entries ≤ most_entries) }
-    ensures result_value { of_stored_accept result ≡ (end_by (of_accept accepted.answer) (form_end accepted.ledger accepted.parties out.old) out.old).answer }
-    ensures out_after { out.new ≡ (end_by (of_accept accepted.answer) (form_end accepted.ledger accepted.parties out.old) out.old).output }
+    requires { (ledger.now.count ≤ most_schemes) × (ledger.now.entries ≤ most_entries) }
+    ensures result_value { of_stored_accept result ≡ (end_by (of_accept answer) (form_end ledger.now parties.now out.old) out.old).answer }
+    ensures out_after { out.new ≡ (end_by (of_accept answer) (form_end ledger.now parties.now out.old) out.old).output }
 {
-    let acceptance = accepted.answer.map_err(StoredRefusal::NotMade)?;
-    let length = stored_writing::write_form(&accepted.ledger, &accepted.parties, out).map_err(
-        StoredRefusal::NotMade,
-    )?;
+    let acceptance = answer.map_err(StoredRefusal::NotMade)?;
+    let length = stored_writing::write_form(ledger, parties, out).map_err(StoredRefusal::NotMade)?;
     Ok(StoredAcceptance { acceptance, length })
 }
 
 // The ledger, which the other calls leave as it is, with the table after a call.
 fn write_changed(
-    ledger: Ledger,
-    changed: ChangedTable,
+    answer: Answer,
+    ledger: &Ledger,
+    parties: &Parties,
     out: &mut [u8],
 ) -> Result<usize, StoredRefusal>
-    requires { (ledger.count ≤ most_schemes) × (ledger.entries ≤ most_entries) }
-    ensures result_value { of_stored_answer result ≡ (end_by (of_entry_call changed.answer) (form_end ledger changed.parties out.old) out.old).answer }
-    ensures out_after { out.new ≡ (end_by (of_entry_call changed.answer) (form_end ledger changed.parties out.old) out.old).output }
+    requires { (ledger.now.count ≤ most_schemes) × (ledger.now.entries ≤ most_entries) }
+    ensures result_value { of_stored_answer result ≡ (end_by (of_entry_call answer) (form_end ledger.now parties.now out.old) out.old).answer }
+    ensures out_after { out.new ≡ (end_by (of_entry_call answer) (form_end ledger.now parties.now out.old) out.old).output }
 {
-    changed.answer.map_err(StoredRefusal::NotMade)?;
-    stored_writing::write_form(&ledger, &changed.parties, out).map_err(StoredRefusal::NotMade)
+    answer.map_err(StoredRefusal::NotMade)?;
+    stored_writing::write_form(ledger, parties, out).map_err(StoredRefusal::NotMade)
 }
 
 // Each of the three calls reads, decides and writes, a line for each: one function over a closure for the decision would be no shorter.
 // File and room go side by side, as C hands them over: a pair would be made for one call and taken apart in `read_stored`.
-#[tactic(auto, using(crate::proofs::Ends::sound_here))]
+#[tactic(auto, using(crate::proofs::Ends::sound_here, crate::proofs::Ends::places_here, crate::proofs::Ends::counts_kept, crate::proofs::Ends::call_ends))]
 pub fn accept_stored(
     file: &[u8],
     room: usize,
@@ -102,9 +96,11 @@ pub fn accept_stored(
     ensures result_value { of_stored_accept result ≡ (stored_call_of file.now room (accept book.now request.now) out.old).answer }
     ensures out_after { out.new ≡ (stored_call_of file.now room (accept book.now request.now) out.old).output }
 {
-    let Stored { ledger, parties } = read_stored(file, room).map_err(StoredRefusal::NotRead)?;
-    let accepted = calls_by_value::accept_sound(ledger, parties, room, book, request);
-    write_accepted(accepted, out)
+    let mut ledger = ledger::records::new_ledger();
+    let mut parties = ledger::records::no_parties();
+    read_stored(&mut ledger, &mut parties, room, file).map_err(StoredRefusal::NotRead)?;
+    let answer = calls_on_records::accept_sound(&mut ledger, &mut parties, room, book, request);
+    write_accepted(answer, &ledger, &parties, out)
 }
 
 #[tactic(auto, using(crate::proofs::Ends::sound_here, crate::proofs::Ends::counts_kept, crate::proofs::Ends::call_ends))]
@@ -118,9 +114,11 @@ pub fn pay_out_stored(
     ensures result_value { of_stored_answer result ≡ (stored_call_of file.now room (pay_out entry amount) out.old).answer }
     ensures out_after { out.new ≡ (stored_call_of file.now room (pay_out entry amount) out.old).output }
 {
-    let read = read_stored(file, room).map_err(StoredRefusal::NotRead)?;
-    let changed = calls_by_value::pay_out_sound(read.ledger, read.parties, room, entry, amount);
-    write_changed(read.ledger, changed, out)
+    let mut ledger = ledger::records::new_ledger();
+    let mut parties = ledger::records::no_parties();
+    read_stored(&mut ledger, &mut parties, room, file).map_err(StoredRefusal::NotRead)?;
+    let answer = calls_on_records::pay_out_sound(&ledger, &mut parties, room, entry, amount);
+    write_changed(answer, &ledger, &parties, out)
 }
 
 #[tactic(auto, using(crate::proofs::Ends::sound_here, crate::proofs::Ends::counts_kept, crate::proofs::Ends::call_ends))]
@@ -134,20 +132,21 @@ pub fn hand_over_stored(
     ensures result_value { of_stored_answer result ≡ (stored_call_of file.now room (hand_over entry person) out.old).answer }
     ensures out_after { out.new ≡ (stored_call_of file.now room (hand_over entry person) out.old).output }
 {
-    let read = read_stored(file, room).map_err(StoredRefusal::NotRead)?;
-    let changed = calls_by_value::hand_over_sound(read.ledger, read.parties, room, entry, person);
-    write_changed(read.ledger, changed, out)
+    let mut ledger = ledger::records::new_ledger();
+    let mut parties = ledger::records::no_parties();
+    read_stored(&mut ledger, &mut parties, room, file).map_err(StoredRefusal::NotRead)?;
+    let answer = calls_on_records::hand_over_sound(&ledger, &mut parties, room, entry, person);
+    write_changed(answer, &ledger, &parties, out)
 }
 
 // The stored form of a new ledger, which every list of calls starts from.
-#[tactic(auto, using(stored::proofs::Theorems::Writing::write_sound, ledger::proofs::Theorems::Sound::new_ledger_sound))]
+#[tactic(auto, using(crate::proofs::Ends::new_form))]
 pub fn new_stored(out: &mut [u8]) -> Result<usize, StoredRefusal>
     ensures result_value { of_stored_answer result ≡ (new_stored_of out.old).answer }
     ensures out_after { out.new ≡ (new_stored_of out.old).output }
 {
     let ledger = ledger::records::new_ledger();
-    let parties = ledger::records::no_parties();
-    stored_writing::write_form(&ledger, &parties, out).map_err(StoredRefusal::NotMade)
+    stored_writing::write_form(&ledger, &[], out).map_err(StoredRefusal::NotMade)
 }
 
 impl From<&Ledger> for StoredCounts {
@@ -168,6 +167,8 @@ impl From<&Ledger> for StoredCounts {
 pub fn check_stored(file: &[u8], room: usize) -> Result<StoredCounts, Refusal>
     ensures { result ≡ check_stored_of file.now room }
 {
-    let read = read_stored(file, room)?;
-    Ok(StoredCounts::from(&read.ledger))
+    let mut ledger = ledger::records::new_ledger();
+    let mut parties = ledger::records::no_parties();
+    read_stored(&mut ledger, &mut parties, room, file)?;
+    Ok(StoredCounts::from(&ledger))
 }

@@ -38,8 +38,6 @@ const FILES: [(&str, usize, usize); 14] = [
 ];
 
 // A ledger and its table, the first `room` of the records.
-// Of its own beside stored_calls' type, which is made for one call and leaves the room to its caller: the program
-// reads and writes alone, and takes none of the calls.
 #[derive(Drop)]
 struct Stored {
     ledger: Ledger,
@@ -50,7 +48,8 @@ struct Stored {
 impl Stored {
     fn read(room: usize, file: &[u8]) -> Result<Stored, Refusal> {
         let mut ledger = ledger::records::new_ledger();
-        let parties = stored_reading::read(&mut ledger, room, file)?;
+        let mut parties = ledger::records::no_parties();
+        stored_reading::read(&mut ledger, &mut parties, room, file)?;
         Ok(Stored {
             ledger,
             parties,

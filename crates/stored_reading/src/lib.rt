@@ -1,4 +1,4 @@
-// Reading a stored ledger: the ledger and its entries, or the refusal.
+// Reading a stored ledger into a lent ledger and array of records, or its refusal.
 #![tactic(auto)]
 
 ghost use Rattle.std.specs.Prelude.{◌≡◌, ◌≤◌, ℕ, List, length, Ok};
@@ -7,6 +7,7 @@ ghost use Rattle.field_walk.specs.Walk.{FieldAt, FieldsWalk, walk, walked};
 ghost use Rattle.tagged.specs.Find.{fields_of};
 ghost use Rattle.ledger.specs.Lists.{at_start};
 ghost use Rattle.ledger.specs.Limits.{most_schemes, most_entries};
+ghost use Rattle.ledger.specs.Records.{no_parties};
 ghost use Rattle.ledger.specs.Sound.{sound};
 ghost use Rattle.stored.specs.StoredRows.{stored_rows};
 ghost use Rattle.stored.specs.Form.{scheme_of_bytes, party_of_bytes, each_with, stored_entries, no_schemes, stored_ledger};
@@ -17,7 +18,7 @@ ghost use Rattle.stored.proofs.Theorems.StoredFields.{scheme_sized, party_sized,
 use ledger::limits::{MOST_SCHEMES, Parties, Schemes};
 use ledger::records::{Ledger, Party, Scheme};
 use numbers::big_endian::BigEndian;
-use tagged::file::Refusal;
+use tagged::file::{FileAnswer, Refusal};
 use tagged::find::next_field;
 use tagged::refusals::{LEDGER_UNSOUND, NO_ENTRY_LEFT, VALUE_NOT_LISTED};
 
@@ -165,31 +166,38 @@ impl<'a> StoredFields<'a> {
 
 // The ledger and the entries of a file's fields, where they are sound in a table of `room` records.
 #[tactic(auto, using(crate::proofs::Walking::few_entries_walked, stored::proofs::Theorems::StoredFields::entries_collected, stored::proofs::Theorems::Reading::sound_placed), unfolding(stored::specs::Reading::table_answer))]
-fn read_values(ledger: &mut Ledger, room: usize, stored: StoredFields) -> Result<Parties, Refusal>
-    ensures { of_reading result ledger.new ≡ read_by (table_answer room stored.entry.fields.now) ledger.old stored.entry.fields.now }
+fn read_values(
+    ledger: &mut Ledger,
+    parties: &mut Parties,
+    room: usize,
+    stored: StoredFields,
+) -> FileAnswer
+    requires { parties.old ≡ no_parties }
+    ensures { of_reading result ledger.new parties.new ≡ read_by (table_answer room stored.entry.fields.now) ledger.old stored.entry.fields.now }
 {
-    let mut parties = ledger::records::no_parties();
-    let entries = stored.read_records(&mut parties);
+    let entries = stored.read_records(parties);
     if room < entries {
         return Err(Refusal::of_call(NO_ENTRY_LEFT));
     }
     let read = stored.read_ledger(entries);
-    if !ledger::sound::sound(&read, &parties, room) {
+    if !ledger::sound::sound(&read, parties, room) {
         return Err(Refusal::of_call(LEDGER_UNSOUND));
     }
     *ledger = read;
-    Ok(parties)
+    Ok(())
 }
 
-// The stored ledger and its entries, or the refusal, which leaves the present ledger; `room` is the table's length.
+// The stored ledger, and its entries in the first places of an array of empty records; `room` is the table's length. A refusal leaves the
+// present ledger, and the array with what was read.
 // By a function of its own beside a book's and a request's: its values are judged against the table too.
 #[tactic(auto, unfolding(stored::specs::Reading::read_answer))]
-pub fn read(ledger: &mut Ledger, room: usize, file: &[u8]) -> Result<Parties, Refusal>
-    ensures { of_reading result ledger.new ≡ read_back ledger.old room file.now }
+pub fn read(ledger: &mut Ledger, parties: &mut Parties, room: usize, file: &[u8]) -> FileAnswer
+    requires { parties.old ≡ no_parties }
+    ensures { of_reading result ledger.new parties.new ≡ read_back ledger.old room file.now }
 {
     stored::rows::stored_stands(1, file)?;
     let fields = tagged::file::fields_part(file);
     let judged = field_values::judged::judge_letters(fields, b"PION");
     judged.map_err(|place| Refusal::of_file(VALUE_NOT_LISTED, 1, place))?;
-    read_values(ledger, room, StoredFields { fields })
+    read_values(ledger, parties, room, StoredFields { fields })
 }

@@ -14,7 +14,7 @@ use Rattle.calls.specs.Carried.{State}
 use Rattle.calls.specs.Calls.{state_of, answered, leaves}
 use Rattle.calls.specs.CallRefusals.{call_numbers, Refuses}
 use Rattle.calls.proofs.Theorems.Calls.{refusal_numbers}
-use Rattle.calls_by_value.proofs.Theorems.ByValue.{records_length}
+use Rattle.calls_on_records.proofs.Theorems.OnRecords.{records_length}
 use Rattle.stored.specs.Form.{stored_form}
 use Rattle.stored.proofs.Theorems.ReadLedger.{read_answer_lem, read_length}
 use Rattle.stored.specs.Reading.{reading_numbers, ReadRefuses, read_answer}

@@ -10,7 +10,7 @@ use Rattle.ledger.specs.declared.records.Party.{Party}
 use Rattle.ledger.specs.declared.records.Ledger.{Ledger}
 use Rattle.calls.specs.Decision.{Call, CallAnswer}
 use Rattle.calls.specs.Calls.{state_of, Promised}
-use Rattle.calls_by_value.specs.ByValue.{SoundOnRecords, PromisedOnRecords}
+use Rattle.calls_on_records.specs.OnRecords.{SoundOnRecords, PromisedOnRecords}
 
 module _ (room records : ℕ) (parties : List Party) (all : length parties ≡ most_entries) (is : records ≡ min room most_entries) where
   same_table : take records parties ≡ take room parties

@@ -1,7 +1,7 @@
 -- A decision on the first records of an array is the call's on the table of them: where that is sound it has the same entries, and otherwise both answer 13.
 -- So what carries it out keeps the call's promise.
 use Rattle.std.specs.Prelude.{ℕ, ◌<◌, ◌≤◌, min, ◌≡◌, refl, List, true, cond, take, drop, ltb}
-use Rattle.std.proofs.Common.{sym, ap, ◌∙◌, arith, ltb-false}
+use Rattle.std.proofs.Common.{sym, ap, ap₂, ◌∙◌, arith, ltb-false}
 use Rattle.std.proofs.Math.Path.{subst}
 use Rattle.std.proofs.Math.ListN.{length, length-take}
 use Rattle.tagged.proofs.Theorems.Impossible.{impossible}
@@ -16,7 +16,7 @@ use Rattle.ledger.proofs.Theorems.SameEntries.{same_sound}
 use Rattle.ledger.specs.declared.records.Party.{Party}
 use Rattle.ledger.specs.declared.records.Ledger.{Ledger}
 use Rattle.calls.proofs.Theorems.Lists.{by_cond}
-use Rattle.calls.specs.Decision.{Call, accept, Decision, accepted, paid_out, handed_over, refused, decided, of_accept, of_entry_call}
+use Rattle.calls.specs.Decision.{Call, accept, AcceptAnswer, Answer, Decision, accepted, paid_out, handed_over, refused, decided, of_accept, of_entry_call}
 use Rattle.calls.specs.Carried.{State}
 use Rattle.calls.specs.Calls.{state_of, Promised}
 use Rattle.calls.proofs.Theorems.Calls.{promise_from}
@@ -27,10 +27,8 @@ use Rattle.acceptance.proofs.Theorems.PlanPromised.{plan_promised}
 use Rattle.acceptance.specs.PlanCarried.{Plan}
 use Rattle.entry_calls.specs.EntryCalls.{paid_more, handed_to, refused_change, changed_at, change_of, entry_change, changed_table, EntryChange}
 use Rattle.entry_calls.proofs.Theorems.ChangePromised.{IsCall, change_promised as change_kept}
-use Rattle.calls_by_value.specs.ByValue.{SoundOnRecords, PromisedOnRecords, PlaceIfDone, accepted_table, changed_parties}
-use Rattle.calls_by_value.proofs.Theorems.ByValue.{plan_take, plan_drop, change_take, change_drop, same_entries, records_length}
-use Rattle.calls_by_value.specs.declared.AcceptedTable.{AcceptedTable}
-use Rattle.calls_by_value.specs.declared.ChangedTable.{ChangedTable}
+use Rattle.calls_on_records.specs.OnRecords.{SoundOnRecords, PromisedOnRecords, PlaceIfDone}
+use Rattle.calls_on_records.proofs.Theorems.OnRecords.{plan_take, plan_drop, change_take, change_drop, same_entries, records_length}
 
 -- ---- the place of an entry that is changed
 none_done : {n : ℕ} {change : EntryChange} {number : ℕ} → change ≡ refused_change number → PlaceIfDone n change
@@ -80,20 +78,20 @@ module _ (ledger : Ledger) (parties : List Party) (room : ℕ) where
     pub fits_array : FitsIfAccepted ledger.entries most_entries parties plan
     fits_array = fits_room most_entries (omega arith)
 
-    pub accept_promised : {result : AcceptedTable} → result ≡ accepted_table ledger parties plan →
-        PromisedOnRecords room ledger parties (accept book request) (of_accept result.answer) result.ledger result.parties
-    accept_promised made =
+    pub accept_promised : {answer : AcceptAnswer} {after : Ledger} {left : List Party} → answer ≡ plan.answer → after ≡ plan.ledger →
+        left ≡ plan_table ledger parties plan → PromisedOnRecords room ledger parties (accept book request) (of_accept answer) after left
+    accept_promised answers ledgers leaves =
         let same = planned ∙ ap (λ n. plan_of ledger parties n (price_of book request)) (sym (records_length parties room records)) in
         let told =
         subst (λ p. Promised before (accept book request) (of_accept p.answer) (state_of p.ledger (plan_table ledger table p))) (sym same)
         (plan_promised (same_entries ledger parties room) places book request) in
         record {
           promised =
-              promise_from (ap (λ (r : AcceptedTable). of_accept r.answer) made ∙ told.answers)
-              (ap (λ (r : AcceptedTable). state_of r.ledger (take room r.parties)) made
+              promise_from (ap of_accept answers ∙ told.answers)
+              (ap₂ (λ l t. state_of l (take room t)) ledgers leaves
               ∙ ap (state_of plan.ledger) (plan_take room ledger parties plan)
               ∙ told.leaving);
-          past = ap (λ (r : AcceptedTable). drop room r.parties) made ∙ plan_drop room ledger parties plan (fits_room room (omega arith));
+          past = ap (drop room) leaves ∙ plan_drop room ledger parties plan (fits_room room (omega arith));
         }
 
   -- ---- pay-out and hand-over
@@ -120,21 +118,19 @@ module _ (ledger : Ledger) (parties : List Party) (room : ℕ) where
       pub place_in_array : PlaceIfDone most_entries change
       place_in_array done = omega (arith, place_within done)
 
-      pub change_promised : {result : ChangedTable} → length parties ≡ most_entries →
+      pub change_promised : {answer : Answer} {left : List Party} → length parties ≡ most_entries →
           IsCall ledger parties table call (decide (length table)) →
-          result ≡ changed_parties parties change → PromisedOnRecords room ledger parties call (of_entry_call result.answer) ledger result.parties
-      change_promised records is_call made =
+          answer ≡ change.answer → left ≡ changed_table parties change → PromisedOnRecords room ledger parties call (of_entry_call answer) ledger left
+      change_promised records is_call answers leaves =
           let same : change ≡ decide (length table) = decides ∙ ap decide (sym (records_length parties room records)) in
           let told : Promised before call (of_entry_call change.answer) (state_of ledger (changed_table table change)) =
           subst (λ c. Promised before call (of_entry_call c.answer) (state_of ledger (changed_table table c))) (sym same)
           (change_kept (same_entries ledger parties room) call (decide (length table)) (λ unsound. is (length table) ∙ rw unsound) is_call) in
           record {
             promised =
-                promise_from (ap (λ (r : ChangedTable). of_entry_call r.answer) made ∙ told.answers)
-                (ap (λ (r : ChangedTable). state_of ledger (take room r.parties)) made
+                promise_from (ap of_entry_call answers ∙ told.answers)
+                (ap (λ t. state_of ledger (take room t)) leaves
                 ∙ ap (state_of ledger) (change_take room parties change)
                 ∙ told.leaving);
-            past =
-                ap (λ (r : ChangedTable). drop room r.parties) made
-                ∙ change_drop room parties change (λ done. omega (arith, place_within done));
+            past = ap (drop room) leaves ∙ change_drop room parties change (λ done. omega (arith, place_within done));
           }

@@ -1,2 +1,0 @@
-pub mod ByValue
-pub mod ByValuePromises

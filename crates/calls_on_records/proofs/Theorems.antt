@@ -1,0 +1,2 @@
+pub mod OnRecords
+pub mod OnRecordsPromises
