@@ -10,7 +10,8 @@ use Rattle.std.proofs.lemmas.List.{drop_more, at_drop_all}
 use lib.Dec.{leb}
 use Rattle.field_values.specs.Limits.{tier_count, highest_rate}
 use Rattle.field_values.specs.Judged.{judge, in_order, first_failure, Judged}
-use Rattle.book_zones.specs.Zones.{row_judgements, judge_row, judge_rows, judge_rise}
+use Rattle.book_zones.specs.Zones.{row_judgements, judge_row}
+use Rattle.book_zones.specs.ZoneScans.{judge_rows, judge_rise}
 
 module _ (apart first i : ℕ) where
   next : first + apart * i + apart ≡ first + apart * (i + 1)

@@ -1,2 +1,3 @@
 pub mod BookRows
 pub mod Zones
+pub mod EightZones

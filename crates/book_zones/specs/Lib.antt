@@ -1,4 +1,5 @@
 pub mod BookRows
 pub mod Zones
+pub mod ZoneScans
 pub mod ZoneLimits
 pub mod Cases

@@ -1,12 +1,12 @@
 -- Document 01, 'Rate book', 08: "zone number (1), each above the last; five 4-byte rates, cents per kVA, at most 10,000,000".
 -- "The rates are held as a row of five tiers for each zone. The first zone, and in it the first tier, over the limit gives the place."
 -- Document 02, E6: "A book may carry field 09 (22 bytes, two-byte zone number, else as 08) in place of every 08."
-use Rattle.std.specs.Prelude.{ℕ, ◌+◌, ◌-◌, List, [], ◌∷◌, ◌++◌, map, cond, get_or, take, replicate, ltb, leb, Err, Ok, None, Some, Option}
-use Rattle.numbers.specs.BigEndian.{number, number_at}
+use Rattle.std.specs.Prelude.{ℕ, ◌+◌, ◌-◌, List, [], ◌∷◌, ◌++◌, map, get_or, take, replicate, leb, Ok, None, Some, Option}
+use Rattle.numbers.specs.BigEndian.{number_at}
 use Rattle.tagged.specs.Find.{fields_of, fields_with, first_place, field_start}
 use Rattle.tagged.specs.declared.find.Place.{Place}
 use Rattle.field_values.specs.Limits.{most_zones, tier_count, highest_rate}
-use Rattle.field_values.specs.Judged.{judge, in_order, first_failure, Judged}
+use Rattle.field_values.specs.Judged.{judge, first_failure, Judged}
 
 -- the tag of the zones' fields: 09 where there is one, otherwise 08
 abbrev pub tag_by : Option Place → ℕ
@@ -76,17 +76,3 @@ judge_zones_from least s (at ∷ starts) =
 
 abbrev pub judge_zones : List ℕ → Judged
 judge_zones s = judge_zones_from 0 s (zone_starts s)
-
--- The same by two scans, of the numbers and of the rates, of zones that stand so far apart; the lower place is the answer.
-unfoldable pub judge_rise : ℕ → ℕ → ℕ → List ℕ → Judged
-judge_rise apart least at [] = Ok tt
-judge_rise apart least at (number ∷ numbers) = in_order (judge (leb least number) at) (judge_rise apart (number + 1) (at + apart) numbers)
-
-unfoldable pub judge_rows : ℕ → ℕ → List (List ℕ) → Judged
-judge_rows apart rates [] = Ok tt
-judge_rows apart rates (row ∷ rows) = in_order (judge_row rates row) (judge_rows apart (rates + apart) rows)
-
-abbrev pub lower : Judged → Judged → Judged
-lower (Ok _) other = other
-lower (Err at) (Ok _) = Err at
-lower (Err at) (Err at') = cond (ltb at' at) (Err at') (Err at)

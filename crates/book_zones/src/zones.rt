@@ -5,31 +5,46 @@ ghost use Rattle.std.specs.Prelude.{Ok, ◌≡◌, ◌+◌, ◌*◌, ◌<◌, �
 ghost use Rattle.numbers.specs.BigEndian.{number_at};
 ghost use Rattle.field_values.specs.Limits.{most_zones};
 ghost use Rattle.book_zones.specs.BookRows.{book_rows};
-ghost use Rattle.book_zones.specs.Zones.{zone_tag, number_width, first_zone, zone_starts, zones_apart, zone_numbers, zone_rates, rates_from, judge_row, judge_rows, judge_rise, judge_zones, lower};
+ghost use Rattle.book_zones.specs.Zones.{zone_numbers, zone_rates, rates_from, judge_zones};
+ghost use Rattle.book_zones.specs.ZoneScans.{zone_layout, judge_rows, judge_rise, lower};
 ghost use Rattle.field_walk.specs.Walk.{FieldsWalk, walk, walked};
 
-use field_values::judged::{Judged, judge};
+use field_values::judged::Judged;
 use field_values::limits::{HIGHEST_RATE, MOST_ZONES, Rates, TIERS};
 use field_values::tiers::by_tier;
 use numbers::big_endian::BigEndian;
 use std::cmp::min;
 
-// The tag of the zones' fields: 09 where there is one, otherwise 08.
-// The tag and no kind of form: the zones' fields are found by it, and their numbers' width follows from it.
-fn zone_tag(fields: &[u8]) -> u8
-    ensures { (result ≡ zone_tag fields.now) × (8 ≤ result) × (result ≤ 9) }
-{
-    match tagged::find::place_of(fields, 9) {
-        Some(_) => 9,
-        None => 8,
-    }
+// Where the zones' values stand.
+#[derive(Clone, Copy)]
+pub struct ZoneLayout {
+    // the offset of the first
+    pub first: usize,
+    pub count: usize,
+    // the bytes of a zone's number: 1 in a field 08, 2 in a field 09
+    pub width: usize,
+    // how far each stands from the next: tag and length, the number, five rates
+    pub apart: usize,
 }
 
-// The bytes of a zone's number: 1 in a field 08, 2 in a field 09.
-fn number_width(fields: &[u8]) -> usize
-    ensures { (result ≡ number_width fields.now) × (1 ≤ result) × (result ≤ 2) }
+// Of fields that walk: 09 where there is one, otherwise 08.
+#[tactic(auto, using(crate::proofs::Standing::zones_counted))]
+fn zone_layout(fields: &[u8]) -> ZoneLayout
+    requires { FieldsWalk book_rows fields.now }
+    ensures { result ≡ zone_layout fields.now }
 {
-    usize::from(zone_tag(fields)) - 7
+    let (first, width) = match tagged::find::place_of(fields, 9) {
+        Some(place) => (place.start, 2),
+        None => (tagged::find::start_of(tagged::find::place_of(fields, 8)), 1),
+    };
+    let apart = width + 23;
+    let count = (fields.len() + 3 - first) / apart;
+    ZoneLayout {
+        first,
+        count,
+        width,
+        apart,
+    }
 }
 
 // The number of the zone whose value starts there. By its width and no type for it, since the file says which it is; and beside
@@ -51,29 +66,23 @@ fn rate_row(fields: &[u8], rates: usize) -> [u32; TIERS]
     by_tier(fields, rates, 4)
 }
 
-// The first tier over the limit gives the place; the zone's rates start at `rates`.
-#[tactic(auto, using(crate::proofs::Scanning::tier_on, std::proofs::lemmas::Bool::Decides::nat_tests))]
-fn judge_row(row: [u32; TIERS], rates: usize) -> Judged
-    requires { rates + 20 < 2 ^ 64 }
-    ensures { result ≡ judge_row rates row }
-{
-    for (tier, rate) in row.iter().enumerate() {
-        judge(*rate <= HIGHEST_RATE, rates + 4 * tier)?;
-    }
-    Ok(())
-}
-
 // The first zone, and in it the first tier, over the limit gives the place; the first zone's rates
 // start at `first`.
-#[tactic(auto, using(crate::proofs::Scanning::rows_on, crate::proofs::Scanning::rows_end))]
+#[tactic(auto, using(crate::proofs::Scanning::rows_on, crate::proofs::Scanning::rows_end, crate::proofs::Scanning::tier_on, std::proofs::lemmas::Bool::Decides::nat_tests))]
 fn first_rate_over(rates: &[[u32; TIERS]], first: usize, apart: usize) -> Judged
     requires { (20 ≤ apart) × (apart ≤ 25) × (first + apart * length rates.now < 2 ^ 64) }
     ensures { result ≡ judge_rows apart first rates.now }
 {
-    for (zone, row) in rates.iter().enumerate() {
-        judge_row(*row, first + apart * zone)?;
+    let mut judged = Ok(());
+    'zones: for (zone, row) in rates.iter().enumerate() {
+        for (tier, rate) in row.iter().enumerate() {
+            if HIGHEST_RATE < *rate {
+                judged = Err(first + apart * zone + 4 * tier);
+                break 'zones;
+            }
+        }
     }
-    Ok(())
+    judged
 }
 
 // The first zone whose number isn't above the last one's.
@@ -109,37 +118,37 @@ fn lower(one: Judged, other: Judged) -> Judged
 #[derive(Clone, Copy)]
 pub struct BookFields<'a> {
     pub fields: &'a [u8],
+    // Looked for once, and handed on to each that reads the zones.
+    pub zones: ZoneLayout,
     ghost walks: { walked (walk book_rows fields.now) ≡ Ok tt },
+    ghost zones_stand: { zones ≡ zone_layout fields.now },
+    ghost few: { zones.count ≤ most_zones },
+    ghost ends: { zones.first + zones.apart * zones.count ≡ length fields.now + 3 },
+    ghost narrow: { (1 ≤ zones.width) × (zones.width ≤ 2) × (zones.apart ≡ zones.width + 23) },
 }
 
 impl<'a> BookFields<'a> {
-    // The offset of the first zone's value.
-    #[tactic(auto, using(crate::proofs::Standing::zones_end))]
-    fn first_zone(self) -> usize
-        ensures { (result ≡ first_zone self.entry.fields.now) × (result + zones_apart self.entry.fields.now * length (zone_starts self.entry.fields.now) ≡ length self.entry.fields.now + 3) }
+    #[tactic(auto, using(crate::proofs::Theorems::ZoneFields::walked_when, crate::proofs::Standing::zones_end, crate::proofs::Standing::zones_most))]
+    pub fn new(fields: &'a [u8]) -> BookFields<'a>
+        requires { FieldsWalk book_rows fields.now }
+        ensures { result.fields.now ≡ fields.now }
     {
-        tagged::find::start_of(tagged::find::place_of(self.fields, zone_tag(self.fields)))
-    }
-
-    #[tactic(auto, using(crate::proofs::Standing::zones_counted, crate::proofs::Standing::zones_most))]
-    pub fn zone_count(self) -> usize
-        ensures { (result ≡ length (zone_starts self.entry.fields.now)) × (result ≤ most_zones) }
-    {
-        let apart = number_width(self.fields) + 23;
-        (self.fields.len() + 3 - self.first_zone()) / apart
+        let zones = zone_layout(fields);
+        BookFields { fields, zones }
     }
 
     // The rates, a row of five tiers for each zone; rows past the last zone hold 0.
-    // First, count and width come by a function each, here and below: a type of the three would repeat what these promise.
     // A loop each, here and below: over a closure one filler would say in a clause what the closure reads, and be longer than both.
     #[tactic(auto, using(crate::proofs::Filling::rates_more))]
     pub fn zone_rates(self) -> Rates
         ensures { result ≡ zone_rates self.entry.fields.now }
     {
-        let first = self.first_zone();
-        let count = self.zone_count();
-        let width = number_width(self.fields);
-        let apart = width + 23;
+        let ZoneLayout {
+            first,
+            count,
+            width,
+            apart,
+        } = self.zones;
         let mut rates = [[0u32; TIERS]; MOST_ZONES];
         for zone in 0..count {
             rates[zone] = rate_row(self.fields, first + apart * zone + width);
@@ -152,10 +161,12 @@ impl<'a> BookFields<'a> {
     pub fn zone_numbers(self) -> [u16; MOST_ZONES]
         ensures { result ≡ zone_numbers self.entry.fields.now }
     {
-        let first = self.first_zone();
-        let count = self.zone_count();
-        let width = number_width(self.fields);
-        let apart = width + 23;
+        let ZoneLayout {
+            first,
+            count,
+            width,
+            apart,
+        } = self.zones;
         let mut numbers = [0u16; MOST_ZONES];
         for zone in 0..count {
             numbers[zone] = zone_number(self.fields, first + apart * zone, width);
@@ -170,24 +181,17 @@ impl<'a> BookFields<'a> {
         requires { rates ≡ zone_rates self.fields.now }
         ensures { result ≡ judge_zones self.entry.fields.now }
     {
-        let first = self.first_zone();
-        let zones = self.zone_count();
-        let width = number_width(self.fields);
-        let apart = width + 23;
+        let ZoneLayout {
+            first,
+            count,
+            width,
+            apart,
+        } = self.zones;
         let numbers = self.zone_numbers();
-        let number = first_number_not_above(&numbers[..zones], first, apart);
+        let number = first_number_not_above(&numbers[..count], first, apart);
         lower(
             number,
-            first_rate_over(&rates[..zones], first + width, apart),
+            first_rate_over(&rates[..count], first + width, apart),
         )
     }
-}
-
-// The zone rates of a book's fields.
-#[tactic(auto, using(crate::proofs::Theorems::ZoneFields::walked_when))]
-pub fn zone_rates(fields: &[u8]) -> Rates
-    requires { FieldsWalk book_rows fields.now }
-    ensures { result ≡ zone_rates fields.now }
-{
-    BookFields { fields }.zone_rates()
 }

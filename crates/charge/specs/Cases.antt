@@ -3,3 +3,4 @@ pub mod Classes
 pub mod PriceEnding
 pub mod Price
 pub mod ZoneForms
+pub mod FullBook

@@ -11,6 +11,7 @@ ghost use Rattle.revenue.specs.RevenueLimits.{highest_incremental_revenue};
 ghost use Rattle.revenue.specs.Revenue.{StreamWithin};
 ghost use Rattle.charge.specs.Price.{zone_found, distribution_of, transmission_of, incremental_revenue_of, bill_of, values_priced, request_priced, price_of, ZoneBelow};
 
+use book_zones::zones::BookFields;
 use capacity::Tiers;
 use field_values::limits::Rates;
 use rate_book::book::Book;
@@ -198,7 +199,8 @@ pub fn price(book: &[u8], request: &[u8]) -> Pricing
     ensures { result ≡ price_of book.now request.now }
 {
     book_zones::rows::book_stands(1, book)?;
-    let rates = book_zones::zones::zone_rates(tagged::file::fields_part(book));
+    let book = BookFields::new(tagged::file::fields_part(book));
+    let rates = book.zone_rates();
     let values = rate_book::book::read_walked_book(1, book, rates)?;
     price_request(values, rates, request)
 }

@@ -11,6 +11,7 @@ ghost use Rattle.charge.specs.Price.{price_of};
 ghost use Rattle.price_band.specs.PriceBand.{within_limits, low_to_high, band_between, band_at_ends, band_of};
 ghost use Rattle.price_band.specs.EndCosts.{end_costs, end_reconciliation};
 
+use book_zones::zones::BookFields;
 use charge::Bill;
 use field_values::limits::HIGHEST_REVENUE;
 use rate_book::book::Book;
@@ -120,7 +121,7 @@ fn band_of_bill(book: &[u8], request: &[u8], bill: Bill, bands: Bands) -> Band
     requires { (price_of book.now request.now ≡ Ok bill) × (within_limits bands ≡ true) }
     ensures { Ok result ≡ band_at_ends book.now request.now bands }
 {
-    let values = rate_book::book::book_values(fields_part(book));
+    let values = rate_book::book::book_values(BookFields::new(fields_part(book)));
     let asked = request::values::request_values(fields_part(request));
     let costs = end_costs(bill.reconciliation);
     let low = at_end(

@@ -1,8 +1,6 @@
 // The values of a rate book, or its refusal.
-ghost use Rattle.std.specs.Prelude.{◌≡◌};
-ghost use Rattle.tagged.specs.File.{file_answer, fields_part};
-ghost use Rattle.book_zones.specs.BookRows.{book_rows};
-ghost use Rattle.field_walk.specs.Walk.{FieldsWalk};
+ghost use Rattle.std.specs.Prelude.{Ok, ◌≡◌};
+ghost use Rattle.field_values.specs.Reading.{reading_of};
 ghost use Rattle.book_zones.specs.Zones.{zone_rates};
 ghost use Rattle.rate_book.specs.Book.{judge_book, book_values, book_of};
 
@@ -11,7 +9,7 @@ use crate::fields::{
     read_sums, read_terms,
 };
 use book_zones::rows::book_stands;
-use book_zones::zones::{BookFields, zone_rates};
+use book_zones::zones::BookFields;
 use field_values::factors::{Factors, judge_factors, read_factors};
 use field_values::judged::{Judged, judge_field, judge_letters};
 use field_values::limits::{MOST_ZONES, Rates};
@@ -64,12 +62,10 @@ fn judge_book(book: BookFields, rates: Rates) -> Judged
 
 // Figure by figure: a book is flat, so that who prices by it needs none of the file's fields. The terms stay by name: a
 // pattern would list the four once more, over six lines.
-#[tactic(auto, using(book_zones::proofs::Theorems::ZoneFields::walked_when))]
-pub fn book_values(fields: &[u8]) -> Book
-    requires { FieldsWalk book_rows fields.now }
-    ensures { result ≡ book_values fields.now }
+pub fn book_values(book: BookFields) -> Book
+    ensures { result ≡ book_values book.entry.fields.now }
 {
-    let book = BookFields { fields };
+    let fields = book.fields;
     let Sums { opex, revenue } = read_sums(book);
     let terms = read_terms(book);
     let Charging { charged, share } = read_charging(book);
@@ -85,22 +81,20 @@ pub fn book_values(fields: &[u8]) -> Book
         term: terms.term,
         charged,
         share,
-        zones: book.zone_count(),
+        zones: book.zones.count,
         zone_numbers: book.zone_numbers(),
     }
 }
 
 // The values of a book whose fields walk, or the refusal of its first value past its limits.
 // By a function of its own beside a request's: the zone rates are read before and stand beside the book.
-#[tactic(auto, using(crate::proofs::Theorems::Book::book_walks, book_zones::proofs::Theorems::ZoneFields::walked_when), unfolding(crate::specs::Book::book_of))]
-pub fn read_walked_book(number: u8, file: &[u8], rates: Rates) -> Result<Book, Refusal>
-    requires { (file_answer book_rows number file.now ≡ Ok tt) × (rates ≡ zone_rates (fields_part file.now)) }
-    ensures { result ≡ book_of number file.now }
+pub fn read_walked_book(number: u8, book: BookFields, rates: Rates) -> Result<Book, Refusal>
+    requires { rates ≡ zone_rates book.fields.now }
+    ensures { result ≡ reading_of number (Ok tt) (judge_book book.entry.fields.now) (book_values book.entry.fields.now) }
 {
-    let fields = fields_part(file);
-    let judged = judge_book(BookFields { fields }, rates);
+    let judged = judge_book(book, rates);
     judged.map_err(|at| Refusal::of_file(VALUE_NOT_LISTED, number, at))?;
-    Ok(book_values(fields))
+    Ok(book_values(book))
 }
 
 // The values of a rate book, or its refusal; `number` is the file's in a refusal. The zone rates stand
@@ -110,5 +104,6 @@ pub fn read_book(number: u8, file: &[u8]) -> Result<Book, Refusal>
     ensures { result ≡ book_of number file.now }
 {
     book_stands(number, file)?;
-    read_walked_book(number, file, zone_rates(fields_part(file)))
+    let book = BookFields::new(fields_part(file));
+    read_walked_book(number, book, book.zone_rates())
 }

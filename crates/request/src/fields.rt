@@ -12,7 +12,7 @@ use field_values::limits::{
 };
 use field_values::tiers::by_tier;
 use numbers::big_endian::BigEndian;
-use tagged::find::{find, place_of};
+use tagged::find::{find, part, place_of};
 
 // Field 05: minimum scheme extension, customer enhancement extension, distributor enhancement,
 // transmission works, historical cost recovery, operating loading.
@@ -119,8 +119,9 @@ impl<'a> RequestFields<'a> {
     pub fn zone(self) -> u16
         ensures { result ≡ zone_in self.entry.fields.now }
     {
-        match place_of(self.fields, 13) {
-            Some(_) => u16::read(find(self.fields, 13), 0),
+        let wide = place_of(self.fields, 13);
+        match wide {
+            Some(_) => u16::read(part(self.fields, wide), 0),
             None => u16::from(u8::read(find(self.fields, 4), 0)),
         }
     }

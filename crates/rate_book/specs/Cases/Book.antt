@@ -12,7 +12,9 @@ use Rattle.tagged.specs.Encoded.{closed}
 use Rattle.field_values.specs.Judged.{judge_numbers, same_bytes}
 use Rattle.book_zones.specs.Zones.{zone_rates, judge_zones_from}
 use Rattle.book_zones.specs.Cases.Zones.{zone, wide_zone, over}
+use Rattle.book_zones.specs.Cases.EightZones.{eight_narrow, eight_wide, narrow_fields, wide_fields}
 use Rattle.rate_book.specs.Book.{book_of}
+use Rattle.rate_book.specs.declared.book.Book.{Book}
 
 abbrev pairs : List (ℕ × ℕ) → List ℕ
 pairs figures = flat_map (λ pair. bytes_of 4 pair.0 ++ bytes_of 4 pair.1) figures
@@ -161,3 +163,45 @@ pub sample_rates :
     replicate 5 (replicate 5 0)
 unfolding flat_map number bytes_of check_from fields_from fields_with first_with
 sample_rates = refl
+
+-- each list full: eight factors in both, and eight zones, in both forms
+abbrev full_lists : List (ℕ × List ℕ)
+full_lists =
+    take 7
+    (put 3 (factors (11001 ∷ 11002 ∷ 11003 ∷ 11004 ∷ 11005 ∷ 11006 ∷ 11007 ∷ 11008 ∷ []))
+    (put 4 (factors (12001 ∷ 12002 ∷ 12003 ∷ 12004 ∷ 12005 ∷ 12006 ∷ 12007 ∷ 12008 ∷ [])) sample))
+
+abbrev full_narrow : List ℕ
+full_narrow = closed (full_lists ++ narrow_fields eight_narrow)
+
+abbrev full_wide : List ℕ
+full_wide = closed (full_lists ++ wide_fields eight_wide)
+
+-- with these zone numbers
+abbrev full_book : List ℕ → Book
+full_book numbers =
+    record {
+      rate = 463;
+      opex = 543210;
+      revenue = 654320;
+      distribution = record { count = 8; values = 11001 ∷ 11002 ∷ 11003 ∷ 11004 ∷ 11005 ∷ 11006 ∷ 11007 ∷ 11008 ∷ [] };
+      transmission = record { count = 8; values = 12001 ∷ 12002 ∷ 12003 ∷ 12004 ∷ 12005 ∷ 12006 ∷ 12007 ∷ 12008 ∷ [] };
+      threshold = 3000001;
+      fee = 20001;
+      minimum = 20002;
+      term = 121;
+      charged = 1;
+      share = 6501;
+      zones = 8;
+      zone_numbers = numbers;
+    }
+
+pub record FullBooks : Type 0 where
+  pub narrow_read : book_of 1 full_narrow ≡ Ok (full_book (3 ∷ 5 ∷ 9 ∷ 17 ∷ 33 ∷ 65 ∷ 129 ∷ 255 ∷ []))
+  pub wide_read : book_of 1 full_wide ≡ Ok (full_book (4 ∷ 255 ∷ 256 ∷ 260 ∷ 1400 ∷ 9999 ∷ 40000 ∷ 65535 ∷ []))
+  pub narrow_rates : zone_rates (fields_part full_narrow) ≡ map (λ z. z.1) eight_narrow
+  pub wide_rates : zone_rates (fields_part full_wide) ≡ map (λ z. z.1) eight_wide
+
+pub full_books : FullBooks
+unfolding flat_map number bytes_of check_from due_from all_had front_of walk_from fields_from first_with fields_with judge_numbers same_bytes judge_zones_from book_of
+full_books = record { narrow_read = refl; wide_read = refl; narrow_rates = refl; wide_rates = refl }

@@ -10,6 +10,7 @@ use Rattle.tagged.specs.File.{refusal, answer_of, FileAnswer}
 use Rattle.tagged.specs.Cases.AlteredFields.{without}
 use Rattle.tagged.specs.Encoded.{closed}
 use Rattle.field_values.specs.Judged.{judge_numbers, same_bytes}
+use Rattle.field_values.specs.declared.factors.Factors.{Factors}
 use Rattle.request.specs.Request.{request_of}
 use Rattle.request.specs.declared.values.Request.{Request}
 
@@ -233,3 +234,25 @@ cases_of request = request.class ∷ request.mark ∷ request.modes
 pub other_cases_read : option_map cases_of (result_ok (request_of 2 (request_file other_cases))) ≡ Some (2 ∷ 1 ∷ 2 ∷ 2 ∷ 1 ∷ 0 ∷ 0 ∷ [])
 unfolding number bytes_of flat_map check_from due_from all_had front_of walk_from fields_from first_with judge_numbers same_bytes request_of
 other_cases_read = refl
+
+-- each list full: no two factors are the same
+abbrev full : List (List ℕ)
+full =
+    set
+    (set
+    (set sample 8 (6001 ∷ 6002 ∷ 6003 ∷ 6004 ∷ 6005 ∷ 6006 ∷ 6007 ∷ 6008 ∷ []))
+    9 (7001 ∷ 7002 ∷ 7003 ∷ 7004 ∷ 7005 ∷ 7006 ∷ 7007 ∷ 7008 ∷ []))
+    10 (8001 ∷ 8002 ∷ 8003 ∷ 8004 ∷ 8005 ∷ 8006 ∷ 8007 ∷ 8008 ∷ [])
+
+abbrev lists_of : Request → List Factors
+lists_of request = request.part_year ∷ request.distribution_tariff ∷ request.transmission_tariff ∷ []
+
+pub full_read :
+    option_map lists_of (result_ok (request_of 2 (request_file full)))
+    ≡ Some
+    (record { count = 8; values = 6001 ∷ 6002 ∷ 6003 ∷ 6004 ∷ 6005 ∷ 6006 ∷ 6007 ∷ 6008 ∷ [] } ∷
+    record { count = 8; values = 7001 ∷ 7002 ∷ 7003 ∷ 7004 ∷ 7005 ∷ 7006 ∷ 7007 ∷ 7008 ∷ [] } ∷
+    record { count = 8; values = 8001 ∷ 8002 ∷ 8003 ∷ 8004 ∷ 8005 ∷ 8006 ∷ 8007 ∷ 8008 ∷ [] } ∷
+    [])
+unfolding number bytes_of flat_map check_from due_from all_had front_of walk_from fields_from first_with judge_numbers same_bytes request_of
+full_read = refl

@@ -1,6 +1,6 @@
 -- The loop keeps that the zones from its own on decide, with one above the last number as the least; a turn is rise_on.
 use Rattle.std.proofs.Common.{drop, ◌*◌, ◌+◌, ◌≡◌, ◌≤◌}
-use Rattle.book_zones.specs.Zones.{judge_rise}
+use Rattle.book_zones.specs.ZoneScans.{judge_rise}
 use Rattle.book_zones.proofs.zones.first_number_not_above.Given as goal
 
 abbrev pub invariant-loop-zone : goal.invariant-loop-zone
