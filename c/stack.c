@@ -163,7 +163,7 @@ int main(int count, char **names)
     tell("slip text", slip_text, 6);
     tell("slip text of a refusal", slip_text_of_a_refusal, 6);
     tell("page", page, 4);
-    tell("new ledger", new_ledger, 20);
+    tell("new ledger", new_ledger, 2);
     fill(511);
     tell("accept", accept, 28);
     keep();

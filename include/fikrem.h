@@ -11,7 +11,7 @@
  * Money is in whole cents, capacity in hundredths of a kVA; a month is year * 12 + (month - 1), so that April 2026 is 24315.
  *
  * A call takes at most this much stack, in KiB, as c/stack.c measures it on a painted stack with the longest ledger: price 4, price
- * band 4, page 4, slip text 6, new ledger 20, accept 28, pay-out 28, hand-over 28, judging a ledger 28, a book 2, a request 1, check of
+ * band 4, page 4, slip text 6, new ledger 2, accept 28, pay-out 28, hand-over 28, judging a ledger 28, a book 2, a request 1, check of
  * bytes 1, version 1.
  */
 #ifndef FIKREM_H

@@ -28,7 +28,7 @@ use charge::Bill;
 use ledger::lookup::scheme_at;
 use ledger::records::{Ledger, Party, Scheme};
 use ledger::sound::is_sound;
-use party_table::{credit_one, put_one};
+use party_table::{append_one, credit_one};
 use tagged::file::Refusal;
 use tagged::refusals::LEDGER_UNSOUND;
 
@@ -107,7 +107,7 @@ fn join(ledger: &mut Ledger, table: &mut [Party], bill: &Bill, joining: Joining)
         let entries = ledger.entries as usize;
         let amount = u64::from(paid.collected - paid.fee);
         credit_scheme(&mut table[..entries], number, amount, paid.capacity);
-        put_one(table, entries, new_party(number, bill, paid.collected));
+        append_one(table, entries, new_party(number, bill, paid.collected));
         if let Some(at) = scheme_at(ledger.count, number) {
             take_fee(ledger, at, paid.fee);
         }
@@ -129,7 +129,7 @@ fn open(ledger: &mut Ledger, table: &mut [Party], bill: &Bill, opens: bool)
     }
     let cost = bill.reconciliation.x as u32;
     let at = ledger.count as usize;
-    put_one(
+    append_one(
         table,
         ledger.entries as usize,
         new_party((ledger.count + 1) as u16, bill, cost),

@@ -1,4 +1,3 @@
-pub mod Places
 pub mod Rest
 pub mod Tallying
 pub mod Theorems

@@ -10,7 +10,7 @@ use ledger::records::Party;
 
 // Document 01 names the form: a thin function each to append an entry, to credit one and to pay one. Table and place go side by side: a
 // place doesn't know the table that it was found in.
-pub fn put_one(table: &mut [Party], at: usize, party: Party)
+pub fn append_one(table: &mut [Party], at: usize, party: Party)
     requires { at < length table.old }
     ensures { table.new ≡ set table.old at party }
 {

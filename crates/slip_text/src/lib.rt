@@ -14,7 +14,7 @@ use tagged::refusals::OUTPUT_TOO_SHORT;
 // How many bytes a text has room for: eleven lines of any figures of 64 bits. A slip of two files is at most 236 bytes long.
 pub const ROOM: usize = 384;
 
-// What is written so far: the first `len` bytes of a fixed buffer. By the library's ArrayString, which was tried, the static libraries
+// What is written so far: the first `len` bytes of a fixed buffer. By the library's ArrayString, which was tried, the static library
 // would take the contracts of one more crate of the kit as they stand: what they rest on doesn't grow.
 #[derive(Drop)]
 struct Text {

@@ -1,5 +1,5 @@
--- Reading, the call and writing by value end as the call on stored bytes does: what was read is sound, and the call leaves it so, so that nothing is
--- tested again.
+-- Reading, the call and writing, each over the lent ledger and records, end as the call on stored bytes does: what was read is sound, and the call leaves
+-- it so, so that nothing is tested again.
 use Rattle.std.specs.Prelude.{Err, Ok, ◌-◌, MatchResult}
 use Prim.Native.Nat.{ℕ, ◌+◌, ◌≤◌, min}
 use mathlib.Core.Path.{◌≡◌, refl, sym, ap, ap₂, subst, ◌∙◌}
@@ -10,7 +10,6 @@ use lib.ListN.{length, take, drop, length-take}
 use lib.Seq.{take-take, take-append-add}
 use Rattle.std.proofs.lemmas.List.{drop-take}
 use Rattle.tagged.specs.File.{fields_part, FileAnswer}
-use Rattle.tagged.specs.declared.file.Refusal.{Refusal}
 use Rattle.ledger.specs.Limits.{most_schemes, most_entries}
 use Rattle.ledger.specs.Lists.{at_start}
 use Rattle.ledger.specs.Records.{no_parties, new_ledger}
