@@ -64,6 +64,34 @@ pub entry_call_cases_hold :
     ≡ map (λ row. (row.1, row.2)) decision_cases
 entry_call_cases_hold = refl
 
+-- standing credits above 16 and 32 bits, and the highest there is: all of it, and a cent more
+abbrev high_books : Books
+high_books =
+    record {
+      connections = 3;
+      month = 24316;
+      next_scheme = 2;
+      next_entry = 4;
+      room = 3;
+      schemes = scheme_with 1 3000 ∷ [];
+      entries =
+          entry_with 1 1 20 66000 60000 ∷ entry_with 2 1 30 4294967300 4294967000 ∷ entry_with 3 1 10 2000000000000 1 ∷ [];
+    }
+
+abbrev high_decision_cases : List (Call × Decision)
+high_decision_cases =
+    (pay_out 1 6000, paid_out 1 1 6000) ∷
+    (pay_out 1 6001, refused (refusal 12 0 0)) ∷
+    (pay_out 2 300, paid_out 1 2 300) ∷
+    (pay_out 2 301, refused (refusal 12 0 0)) ∷
+    (pay_out 3 1999999999999, paid_out 1 3 1999999999999) ∷
+    (pay_out 3 2000000000000, refused (refusal 12 0 0)) ∷
+    (pay_out 3 18446744073709551615, refused (refusal 12 0 0)) ∷
+    []
+
+pub high_decision_cases_hold : map (λ row. decided high_books row.0) high_decision_cases ≡ map (λ row. row.1) high_decision_cases
+high_decision_cases_hold = refl
+
 -- ---- what it makes of the ledger and its table
 abbrev table_of : List Party → State
 table_of entries = record { ledger = three; table = entries ++ (past ∷ past ∷ []) }
@@ -110,9 +138,13 @@ pub both_carried_out : carried_out state both ≡
     }
 both_carried_out = refl
 
--- ---- 13 before everything else: a table shorter than its entries
+-- ---- 13 before everything else: a table shorter than its entries, and an account that doesn't balance on a table long enough
 abbrev short : State
 short = record { ledger = three; table = party 1 7 20 3000 900 300 ∷ party 2 8 30 1800 0 0 ∷ [] }
+
+-- a cent more put in by the last entry, so that the account alone is unsound
+abbrev unbalanced : State
+unbalanced = table_of (party 1 7 20 3000 900 300 ∷ party 2 8 30 1800 0 0 ∷ party 1 9 10 1001 0 0 ∷ [])
 
 abbrev call_cases : List ((State × Call) × CallAnswer × State)
 call_cases =
@@ -121,6 +153,8 @@ call_cases =
     ((short, pay_out 1 600), is_refused (refusal 13 0 0), short) ∷
     ((short, pay_out 0 0), is_refused (refusal 13 0 0), short) ∷
     ((short, hand_over 1 5), is_refused (refusal 13 0 0), short) ∷
+    ((unbalanced, pay_out 1 600), is_refused (refusal 13 0 0), unbalanced) ∷
+    ((unbalanced, hand_over 1 5), is_refused (refusal 13 0 0), unbalanced) ∷
     []
 
 pub call_cases_hold :

@@ -1,6 +1,6 @@
 -- Accept's rules at their boundaries, over literal books: the verdict on a bill, each condition at its limit and one past it; what is credited, answered and
 -- carried out of it. Every expected side is a literal.
-use Rattle.std.specs.Prelude.{ℕ, ◌+◌, ◌≡◌, refl, List, [], ◌∷◌, ◌++◌, map, true, false, take, replicate, Err, None, Ok, Some}
+use Rattle.std.specs.Prelude.{ℕ, ◌+◌, ◌≡◌, refl, List, [], ◌∷◌, ◌++◌, map, true, false, take, length, replicate, Err, None, Ok, Some}
 use Rattle.tagged.specs.File.{refusal}
 use Rattle.reconciliation.specs.Reconciliation.{reconciliation_of}
 use Rattle.reconciliation.specs.declared.Reconciliation.{Reconciliation}
@@ -15,7 +15,7 @@ use Rattle.ledger.specs.declared.records.Party.{Party}
 use Rattle.ledger.specs.declared.records.Ledger.{Ledger}
 use Rattle.calls.specs.Rules.{Credit}
 use Rattle.calls.specs.Verdict.{verdict, Verdict}
-use Rattle.calls.specs.Decision.{Decision, accepted, refused, decided_by, CallAnswer, is_refused, answer_to}
+use Rattle.calls.specs.Decision.{Decision, accepted, paid_out, handed_over, refused, decided_by, CallAnswer, is_refused, answer_to}
 use Rattle.calls.specs.Carried.{State, carried_out}
 use Rattle.calls.specs.Answers.{accepted_as, joined_as}
 use Rattle.calls.specs.declared.courses.Joining.{Joining}
@@ -126,6 +126,24 @@ slip_books cost capacities next_entry =
       schemes = scheme_by slip_book 1 cost ∷ [];
       entries = numbered_from 1 (λ number capacity. entry_by number (1, capacity)) capacities;
     }
+
+-- scheme 1 alone, of this cost, opened in this month by a book's terms, with entries of these capacities and room for one more
+abbrev one_scheme_books : Terms → ℕ → ℕ → List ℕ → Books
+one_scheme_books terms cost opening capacities =
+    record {
+      connections = 2;
+      month = 24315;
+      next_scheme = 2;
+      next_entry = length capacities + 1;
+      room = length capacities + 1;
+      schemes =
+          record { number = 1; cost = cost; fee = terms.fee; minimum = terms.minimum; opening = opening; term = terms.term } ∷ [];
+      entries = numbered_from 1 (λ number capacity. entry_by number (1, capacity)) capacities;
+    }
+
+-- no fee and no minimum
+abbrev free_book : Terms
+free_book = record { threshold = 1000; fee = 0; minimum = 0; term = 84 }
 
 -- ---- the verdict
 abbrev pub plain : Course
@@ -272,6 +290,21 @@ building_on_cases =
     ((books 3000 2 64 512 512, in_scheme 65 building_on), Err (refusal 6 0 0)) ∷
     []
 
+-- terms at the ends of their widths
+abbrev end_cases : List ((Books × Bill) × Verdict)
+end_cases =
+    let last_month = with_month 65535 joining in
+    -- opening + term is 65,535, the last month there is, and one past it
+    ((one_scheme_books book 3000 65451 (20 ∷ 10 ∷ []), last_month), Ok ended) ∷
+    ((one_scheme_books book 3000 65452 (20 ∷ 10 ∷ []), last_month), Ok (joins 500 100 30)) ∷
+    -- G 0 is the minimum, and is collected
+    ((one_scheme_books free_book 3 24315 (3 ∷ []), with_capacity 1 joining), Ok (joins 0 0 3)) ∷
+    []
+
+pub end_cases_hold : map (λ row. verdict row.0.0 row.0.1) end_cases ≡ map (λ row. row.1) end_cases
+unfolding verdict
+end_cases_hold = refl
+
 pub verdict_cases_hold : map (λ row. verdict row.0.0 row.0.1) verdict_cases ≡ map (λ row. row.1) verdict_cases
 unfolding verdict
 verdict_cases_hold = refl
@@ -321,6 +354,24 @@ decision_cases =
     )) ∷
     (let bill = with_month 24399 wide in
     ((slip_books 6000000 (299000 ∷ []) 2, bill), accepted bill ended [], accepted_as bill JoiningAnswer.Ended None)) ∷
+    -- G 0 is credited as 0
+    (let bill = with_capacity 1 joining in (
+      (one_scheme_books free_book 3 24315 (3 ∷ []), bill),
+      accepted bill (joins 0 0 3) (credit 1 0 ∷ []),
+      accepted_as bill (joined_as 2 0) None,
+    )) ∷
+    -- G 11 over four of capacity 1: each running share is rounded, not each by itself
+    (let bill = with_capacity 1 joining in (
+      (one_scheme_books free_book 55 24315 (1 ∷ 1 ∷ 1 ∷ 1 ∷ []), bill),
+      accepted bill (joins 11 0 4) (credit 1 2 ∷ credit 2 3 ∷ credit 3 3 ∷ credit 4 3 ∷ []),
+      accepted_as bill (joined_as 5 11) None,
+    )) ∷
+    -- capacities whose sum is above 65,535
+    (let bill = with_capacity 70001 joining in (
+      (one_scheme_books free_book 2000 24315 (40000 ∷ 30000 ∷ 1 ∷ []), bill),
+      accepted bill (joins 1000 0 70001) (credit 1 571 ∷ credit 2 428 ∷ credit 3 1 ∷ []),
+      accepted_as bill (joined_as 4 1000) None,
+    )) ∷
     -- a refusal's file and place are 0
     ((books 3000 2 1 2 2, joining), refused (refusal 9 0 0), is_refused (refusal 9 0 0)) ∷
     -- a joiner that builds on: G and the credits by the scheme's cost, fee and parties, the next entry and the next scheme; 9 where one entry is left
@@ -433,3 +484,74 @@ pub carried_cases_hold :
     map (λ row. carried_out (record { ledger = three; table = first_three ++ (past ∷ past ∷ []) }) row.0) carried_cases
     ≡ map (λ row. row.1) carried_cases
 carried_cases_hold = refl
+
+-- ---- the same on other ledgers
+
+-- 64 schemes, each with the cost of its number and its first entry
+abbrev full_schemes : List Scheme
+full_schemes = numbered_from 1 (λ number none. scheme number 0) (replicate 64 no_scheme)
+
+abbrev full_entries : List Party
+full_entries = numbered_from 1 (λ number none. party number 7 20 number 0 0) (replicate 64 no_scheme)
+
+-- figures past 32 bits
+abbrev high_scheme : ℕ → Scheme
+high_scheme fees = scheme_of 2000000000 1000000000 1000000000 24315 84 fees
+
+abbrev high : State
+high =
+    record {
+      ledger = ledger 24316 999999 1099998900000000000 1099998800000000000 2 1 (high_scheme 500000000000 ∷ places 63);
+      table = party 1 7 1000000 2000000000 1000000000000 999999999998 ∷ party 1 8 999999 1999999999 4294967295 4294967295 ∷ past ∷ [];
+    }
+
+-- entries up to the table's last record
+abbrev no_room : State
+no_room = record { ledger = three; table = first_three }
+
+abbrev other_carried_cases : List ((State × Decision) × State)
+other_carried_cases =
+    -- joined to the last of 64 schemes
+    (
+      (
+        record { ledger = ledger 24316 64 9000 400 64 64 full_schemes; table = full_entries ++ (past ∷ []) },
+        accepted (with_month 24317 (in_scheme 64 (bill_of book 0))) (joins 10 4 20) (credit 64 6 ∷ []),
+      ),
+      record {
+        ledger = ledger 24317 65 9005 470 65 64 (take 63 full_schemes ++ (scheme 64 4 ∷ []));
+        table = take 63 full_entries ++ (party 64 7 20 64 6 0 ∷ party 64 9 6 10 0 0 ∷ []);
+      },
+    ) ∷
+    -- joined to the second of two: the first scheme and its entries stay as they are
+    (
+      (
+        record { ledger = three; table = first_three ++ (past ∷ past ∷ []) },
+        accepted (with_month 24317 (in_scheme 2 (bill_of book 0))) (joins 450 100 30) (credit 2 350 ∷ []),
+      ),
+      record {
+        ledger = ledger 24317 4 9005 470 4 2 (scheme 3000 100 ∷ scheme 1800 100 ∷ places 62);
+        table = party 1 7 20 3000 900 300 ∷ party 2 8 30 1800 350 0 ∷ party 1 9 10 1000 0 0 ∷ party 2 9 6 450 0 0 ∷ past ∷ [];
+      },
+    ) ∷
+    -- the millionth connection; each sum goes on above 32 bits
+    (
+      (high, accepted (with_month 24317 (in_scheme 1 (bill_of book 0))) (joins 2000000000 1000000000 1999999) (credit 1 500000250 ∷ credit 2 499999750 ∷ [])),
+      record {
+        ledger = ledger 24317 1000000 1099998900000000005 1099998800000000070 3 1 (high_scheme 501000000000 ∷ places 63);
+        table =
+            party 1 7 1000000 2000000000 1000500000250 999999999998 ∷
+            party 1 8 999999 1999999999 4794967045 4294967295 ∷
+            party 1 9 6 2000000000 0 0 ∷
+            [];
+      },
+    ) ∷
+    -- paid out of the second entry and of the first
+    ((high, paid_out 1 2 5), record { ledger = high.ledger; table = party 1 7 1000000 2000000000 1000000000000 999999999998 ∷ party 1 8 999999 1999999999 4294967295 4294967300 ∷ past ∷ [] }) ∷
+    ((high, paid_out 1 1 2), record { ledger = high.ledger; table = party 1 7 1000000 2000000000 1000000000000 1000000000000 ∷ party 1 8 999999 1999999999 4294967295 4294967295 ∷ past ∷ [] }) ∷
+    -- the table's last record is an entry: paid out and handed over
+    ((no_room, paid_out 1 3 50), record { ledger = three; table = party 1 7 20 3000 900 300 ∷ party 2 8 30 1800 0 0 ∷ party 1 9 10 1000 0 50 ∷ [] }) ∷
+    ((no_room, handed_over 3 5), record { ledger = three; table = party 1 7 20 3000 900 300 ∷ party 2 8 30 1800 0 0 ∷ party 1 5 10 1000 0 0 ∷ [] }) ∷
+    []
+
+pub other_carried_cases_hold : map (λ row. carried_out row.0.0 row.0.1) other_carried_cases ≡ map (λ row. row.1) other_carried_cases
+other_carried_cases_hold = refl

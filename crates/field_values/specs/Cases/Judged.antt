@@ -1,8 +1,8 @@
 -- Small values at their limits and one past them, and letters, with the place of the first that fails.
-use Rattle.std.specs.Prelude.{ℕ, ◌≡◌, refl, List, [], ◌∷◌, map, length, Err, Ok}
+use Rattle.std.specs.Prelude.{ℕ, ◌≡◌, refl, List, [], ◌∷◌, map, true, false, length, Err, Ok}
 use Rattle.numbers.specs.BigEndian.{number}
 use Rattle.tagged.specs.Find.{fields_from, first_with}
-use Rattle.field_values.specs.Judged.{judge_numbers, judge_field, same_bytes, judge_letters, Judged}
+use Rattle.field_values.specs.Judged.{judge, first_failure, judge_numbers, judge_field, same_bytes, judge_letters, Judged}
 
 -- For a table of small values: 0 to 300 in 2 bytes, 1 to 3 in one, 0 to 65,536 in 4.
 abbrev small_limits : List (List ℕ)
@@ -40,6 +40,15 @@ small_letters =
     (82 ∷ 65 ∷ 84 ∷ [], Err 3) ∷
     (82 ∷ 65 ∷ 84 ∷ 69 ∷ 0 ∷ [], Err 3) ∷
     []
+
+-- of judgements at 3, 5 and 8 the first that fails
+pub first_failures :
+    (first_failure [] ≡ Ok tt)
+    × (first_failure (judge true 3 ∷ judge true 5 ∷ judge true 8 ∷ []) ≡ Ok tt)
+    × (first_failure (judge false 3 ∷ judge false 5 ∷ judge true 8 ∷ []) ≡ Err 3)
+    × (first_failure (judge true 3 ∷ judge false 5 ∷ judge false 8 ∷ []) ≡ Err 5)
+    × (first_failure (judge true 3 ∷ judge true 5 ∷ judge false 8 ∷ []) ≡ Err 8)
+first_failures = (refl, refl, refl, refl, refl)
 
 pub record SmallValuesHold : Type 0 where
   pub values : map (λ t. judge_field small_limits 2 (fields_of_value t.0)) small_values ≡ map (λ t. t.1) small_values

@@ -5,7 +5,7 @@ use Rattle.ledger.specs.Lists.{numbered_from}
 use Rattle.ledger.specs.Records.{scheme_of, party_of, ledger_of, no_scheme, new_ledger}
 use Rattle.ledger.specs.Columns.{sum_over, first_put_in}
 use Rattle.ledger.specs.Lookup.{scheme_place}
-use Rattle.ledger.specs.Sound.{parties_sound, schemes_sound, all_zero, sound}
+use Rattle.ledger.specs.Sound.{party_sound, parties_sound, schemes_sound, all_zero, sound}
 use Rattle.ledger.specs.declared.records.Scheme.{Scheme}
 use Rattle.ledger.specs.declared.records.Party.{Party}
 use Rattle.ledger.specs.declared.records.Ledger.{Ledger}
@@ -36,6 +36,27 @@ with_two only parties = (ledger 2 0 0 2 1 (only ∷ []), parties, 2)
 abbrev with_rest : Scheme → Ledger × List Party × ℕ
 with_rest past = (ledger 1 0 0 1 1 (scheme_of 5 0 0 0 84 0 ∷ past ∷ []), party 1 1 5 0 0 ∷ [], 1)
 
+-- three schemes whose entries stand between one another's: the first was joined once, the second twice, the third never
+abbrev three_schemes : Scheme → Scheme → List Party → Ledger × List Party × ℕ
+three_schemes second third parties = (ledger 6 0 0 6 3 (joined ∷ second ∷ third ∷ []), parties, 6)
+
+abbrev second_joined : Scheme
+second_joined = scheme_of 5000 7 8 12 65535 14
+
+abbrev third_alone : Scheme
+third_alone = scheme_of 70 0 1000000000 0 84 0
+
+-- what the second scheme's first party put in and was credited, and what the third scheme's entry put in and was credited
+abbrev six : ℕ → ℕ → ℕ → ℕ → List Party
+six second_put second_credit third_put third_credit =
+    party 1 20 3000 900 300 ∷
+    party 2 5 second_put second_credit 0 ∷
+    party 1 10 1000 0 0 ∷
+    party 2 6 2500 393 393 ∷
+    party 3 1 third_put third_credit 0 ∷
+    party 2 1 1000 0 0 ∷
+    []
+
 abbrev pub sound_cases : List ((Ledger × List Party × ℕ) × Bool)
 sound_cases =
     ((new_ledger, [], 0), true) ∷
@@ -48,12 +69,21 @@ sound_cases =
     ((ledger 2 2200000000000 2200000000000 2 1 (joined ∷ []), two, 2), true) ∷
     ((ledger 2 2200000000001 0 2 1 (joined ∷ []), two, 2), false) ∷
     ((ledger 2 0 2200000000001 2 1 (joined ∷ []), two, 2), false) ∷
+    -- a scheme of cost 0
+    (alone (scheme_of 0 0 0 0 84 0) (party 1 1 0 0 0), true) ∷
     -- put in, which is the cost; capacity
     (alone (scheme_of 2000000000 0 0 0 84 0) (party 1 1 2000000000 0 0), true) ∷
     (alone (scheme_of 2000000001 0 0 0 84 0) (party 1 1 2000000001 0 0), false) ∷
     (alone (scheme_of 5 0 0 0 84 0) (party 1 0 5 0 0), false) ∷
     (alone (scheme_of 5 0 0 0 84 0) (party 1 1000000 5 0 0), true) ∷
     (alone (scheme_of 5 0 0 0 84 0) (party 1 1000001 5 0 0), false) ∷
+    -- the same of the scheme's second entry, a joiner that paid no fee: the first is credited what it put in
+    (with_two (scheme_of 5 0 0 0 84 0) (party 1 1 5 2000000000 0 ∷ party 1 1 2000000000 0 0 ∷ []), true) ∷
+    (with_two (scheme_of 5 0 0 0 84 0) (party 1 1 5 2000000001 0 ∷ party 1 1 2000000001 0 0 ∷ []), false) ∷
+    (with_two (scheme_of 5 0 0 0 84 0) (party 1 1 5 0 0 ∷ party 1 0 0 0 0 ∷ []), false) ∷
+    (with_two (scheme_of 5 0 0 0 84 0) (party 1 1 5 0 0 ∷ party 1 1 0 0 0 ∷ []), true) ∷
+    (with_two (scheme_of 5 0 0 0 84 0) (party 1 1 5 0 0 ∷ party 1 1000000 0 0 0 ∷ []), true) ∷
+    (with_two (scheme_of 5 0 0 0 84 0) (party 1 1 5 0 0 ∷ party 1 1000001 0 0 0 ∷ []), false) ∷
     -- fee, minimum, term and opening
     (alone (scheme_of 5 500 500 0 84 0) (party 1 1 5 0 0), true) ∷
     (alone (scheme_of 5 501 500 0 84 0) (party 1 1 5 0 0), false) ∷
@@ -77,6 +107,8 @@ sound_cases =
     -- paid out at most credited
     (with_two joined (party 1 20 3000 900 900 ∷ party 1 10 1000 0 0 ∷ []), true) ∷
     (with_two joined (party 1 20 3000 900 901 ∷ party 1 10 1000 0 0 ∷ []), false) ∷
+    (with_two joined (party 1 20 3000 600 300 ∷ party 1 10 1000 300 300 ∷ []), true) ∷
+    (with_two joined (party 1 20 3000 600 300 ∷ party 1 10 1000 300 301 ∷ []), false) ∷
     -- the first put in a cent more or less than the cost, while the account balances: 3,000 + 100 + 901 = 3,001 + 1,000, 3,000 + 100 + 899 = 2,999 + 1,000
     (with_two joined (party 1 20 3001 901 300 ∷ party 1 10 1000 0 0 ∷ []), false) ∷
     (with_two joined (party 1 20 2999 899 300 ∷ party 1 10 1000 0 0 ∷ []), false) ∷
@@ -86,6 +118,46 @@ sound_cases =
     -- the account
     (with_two joined (party 1 20 3000 899 300 ∷ party 1 10 1000 0 0 ∷ []), false) ∷
     (with_two joined (party 1 20 3000 900 300 ∷ party 1 10 1001 0 0 ∷ []), false) ∷
+    -- each condition of the second and of the last scheme
+    (three_schemes second_joined third_alone (six 5000 3093 70 0), true) ∷
+    (three_schemes (scheme_of 5000 7 6 12 65535 14) third_alone (six 5000 3093 70 0), false) ∷
+    (three_schemes (scheme_of 5000 7 1000000001 12 65535 14) third_alone (six 5000 3093 70 0), false) ∷
+    (three_schemes (scheme_of 5000 7 8 13 65535 14) third_alone (six 5000 3093 70 0), false) ∷
+    (three_schemes (scheme_of 5000 7 8 12 83 14) third_alone (six 5000 3093 70 0), false) ∷
+    (three_schemes (scheme_of 5000 7 8 12 65535 13) third_alone (six 5000 3094 70 0), false) ∷
+    (three_schemes (scheme_of 5000 7 8 12 65535 15) third_alone (six 5000 3092 70 0), false) ∷
+    (three_schemes second_joined third_alone (six 5001 3094 70 0), false) ∷
+    (three_schemes second_joined third_alone (six 5000 3094 70 0), false) ∷
+    (three_schemes second_joined third_alone (six 5000 3092 70 0), false) ∷
+    (three_schemes second_joined (scheme_of 70 1000000000 1000000000 12 84 0) (six 5000 3093 70 0), true) ∷
+    (three_schemes second_joined (scheme_of 70 5 4 0 84 0) (six 5000 3093 70 0), false) ∷
+    (three_schemes second_joined (scheme_of 70 0 1000000001 0 84 0) (six 5000 3093 70 0), false) ∷
+    (three_schemes second_joined (scheme_of 70 0 1000000000 13 84 0) (six 5000 3093 70 0), false) ∷
+    (three_schemes second_joined (scheme_of 70 0 1000000000 0 83 0) (six 5000 3093 70 0), false) ∷
+    (three_schemes second_joined third_alone (six 5000 3093 71 1), false) ∷
+    (three_schemes second_joined third_alone (six 5000 3093 70 1), false) ∷
+    -- a scheme whose first entry stands before that of the scheme before it
+    ((ledger 2 0 0 2 2 (scheme_of 5 0 0 0 84 0 ∷ scheme_of 6 0 0 0 84 0 ∷ []), party 2 1 6 0 0 ∷ party 1 1 5 0 0 ∷ [], 2), true) ∷
+    -- the places past the last scheme, where there are more entries than schemes; the last of the 64 places
+    ((ledger 2 0 0 2 1 (joined ∷ scheme_of 1 0 0 0 0 0 ∷ []), two, 2), false) ∷
+    ((ledger 2 0 0 2 1 (joined ∷ (replicate 62 no_scheme ++ (scheme_of 0 0 0 0 0 1 ∷ []))), two, 2), false) ∷
+    ((ledger 2 0 0 2 1 (joined ∷ no_scheme ∷ scheme_of 0 0 0 0 0 1 ∷ []), two, 2), false) ∷
+    -- the sum borne is limited by the connections, whatever was charged
+    ((ledger 2 2200000000000 2200000000001 2 1 (joined ∷ []), two, 2), false) ∷
+    ((ledger 2 2200000000001 2200000000000 2 1 (joined ∷ []), two, 2), false) ∷
+    -- charged and borne at a million connections, and a scheme's fees past 32 bits
+    ((ledger 1000000 1100000000000000000 1100000000000000000 2 1 (joined ∷ []), two, 2), true) ∷
+    ((ledger 1000000 1100000000000000001 0 2 1 (joined ∷ []), two, 2), false) ∷
+    ((ledger 1000000 0 1100000000000000001 2 1 (joined ∷ []), two, 2), false) ∷
+    ((ledger 0 1 0 0 0 [], [], 0), false) ∷
+    ((ledger 0 0 1 0 0 [], [], 0), false) ∷ (
+      (
+        ledger 6 0 0 6 1 (scheme_of 2000000000 1000000000 1000000000 6 84 5000000000 ∷ []),
+        party 1 1 2000000000 5000000000 5000000000 ∷ replicate 5 (party 1 1 2000000000 0 0),
+        6,
+      ),
+      true,
+    ) ∷
     -- credited may exceed put in by cents: cost 5, capacities 7, 3, 1,000,000
     ((ledger 3 0 0 3 1 (scheme_of 5 0 0 0 84 0 ∷ []), party 1 7 5 3 0 ∷ party 1 3 1 2 0 ∷ party 1 1000000 4 0 0 ∷ [], 3), true) ∷
     []
@@ -105,7 +177,49 @@ full count joiners = (
   64 + joiners,
 )
 
+-- 64 schemes with an entry each, the last of this term
+abbrev last_term : ℕ → Ledger × List Party × ℕ
+last_term term = (
+  ledger 1 0 0 64 64 (numbered_from 1 (λ number none. scheme_of number 0 0 0 84 0) (replicate 63 no_scheme) ++ (scheme_of 64 0 0 0 term 0 ∷ [])),
+  numbered_from 1 (λ number none. party number 1 number 0 0) (replicate 64 no_scheme),
+  64,
+)
+
+pub last_term_cases_hold : (sound_at (last_term 84) ≡ true) × (sound_at (last_term 83) ≡ false)
+unfolding sound parties_sound schemes_sound all_zero sum_over first_put_in scheme_place
+last_term_cases_hold = (refl, refl)
+
+-- what an entry is credited, at its limit and one past it: no ledger breaks this condition alone
+pub credited_cases_hold :
+    (party_sound 1 (party 1 1 5 2000000000000 2000000000000) ≡ true)
+    × (party_sound 1 (party 1 1 5 2000000000001 0) ≡ false)
+unfolding scheme_place
+credited_cases_hold = (refl, refl)
+
 -- 64 schemes with 512 entries; a count of 65; 513 entries
 pub full_cases_hold : (sound_at (full 64 448) ≡ true) × (sound_at (full 65 0) ≡ false) × (sound_at (full 64 449) ≡ false)
 unfolding sound parties_sound schemes_sound all_zero sum_over first_put_in scheme_place
 full_cases_hold = (refl, refl, refl)
+
+-- one scheme with 512 entries, of which this one is the last
+abbrev with_last : Party → Ledger × List Party × ℕ
+with_last last = (ledger 1 0 0 512 1 (scheme_of 5 0 0 0 84 0 ∷ []), party 1 1 5 0 0 ∷ (replicate 510 (party 1 1 0 0 0) ++ (last ∷ [])), 512)
+
+-- the limits of an entry at the 512th, with its credit as high as what it put in, so that the account balances
+abbrev last_entry_cases : List (Party × Bool)
+last_entry_cases =
+    (party 1 1 5 5 5, true) ∷
+    (party 1 1 5 5 6, false) ∷
+    (party 1 0 0 0 0, false) ∷
+    (party 1 1000000 0 0 0, true) ∷
+    (party 1 1000001 0 0 0, false) ∷
+    (party 1 1 2000000000 2000000000 0, true) ∷
+    (party 1 1 2000000001 2000000001 0, false) ∷
+    (party 1 1 1 0 0, false) ∷
+    (party 2 1 0 0 0, false) ∷
+    (party 0 1 0 0 0, false) ∷
+    []
+
+pub last_entry_cases_hold : map (λ row. sound_at (with_last row.0)) last_entry_cases ≡ map (λ row. row.1) last_entry_cases
+unfolding sound parties_sound schemes_sound all_zero sum_over first_put_in scheme_place
+last_entry_cases_hold = refl

@@ -66,6 +66,11 @@ abbrev distinct_request : List ℕ
 distinct_request =
     request_with 1 1 (1598500 ∷ 100000 ∷ 7 ∷ 99999 ∷ 100000001 ∷ 0 ∷ []) slip_tiers (1 ∷ 20 ∷ 300 ∷ 0 ∷ 50 ∷ []) (50000 ∷ 4321 ∷ []) (0 ∷ 10000 ∷ []) 10000
 
+-- the same in class 2, with an OL
+abbrev special_request : List ℕ
+special_request =
+    request_with 2 1 (1598500 ∷ 100000 ∷ 7 ∷ 99999 ∷ 100000001 ∷ 4567 ∷ []) slip_tiers (1 ∷ 20 ∷ 300 ∷ 0 ∷ 50 ∷ []) (50000 ∷ 4321 ∷ []) (0 ∷ 10000 ∷ []) 10000
+
 -- the highest revenues and factors, no costs
 abbrev highest_book : List ℕ
 highest_book = book_with 40000 1 6500 (0 ∷ 0 ∷ 8500 ∷ 38000 ∷ 10000 ∷ [])
@@ -105,6 +110,27 @@ pub whole_page :
     [])
 unfolding check_from number bytes_of due_from all_had front_of walk_from fields_from first_with fields_with judge_numbers same_bytes judge_zones_from book_of request_of discount incremental_revenue zone_found values_priced request_priced price_of flat_map flatten dollars_text page_of page_written page_output
 whole_page = refl
+
+-- twelve amounts, all different
+pub special_page :
+    page_for distinct_book special_request ≡
+    flatten
+    (
+    ascii "ME                                                    15,985.00\n" ∷
+    ascii "MC                                                     1,164.00\n" ∷
+    ascii "CE                                                     1,000.00\n" ∷
+    ascii "CC2                                                      309.01\n" ∷
+    ascii "TW                                                       999.99\n" ∷
+    ascii "HR                                                 1,000,000.01\n" ∷
+    ascii "OL                                                        45.67\n" ∷
+    ascii "IC                                                 1,019,503.68\n" ∷
+    ascii "IR                                                     8,148.15\n" ∷
+    ascii "CC                                                 1,016,808.45\n" ∷
+    ascii "NIC                                                1,011,355.53\n" ∷
+    ascii "NC                                                     5,452.92\n" ∷
+    [])
+unfolding check_from number bytes_of due_from all_had front_of walk_from fields_from first_with fields_with judge_numbers same_bytes judge_zones_from book_of request_of discount incremental_revenue zone_found values_priced request_priced price_of flat_map flatten dollars_text page_of page_written page_output
+special_page = refl
 
 pub record Pages : Type 0 where
   -- bytes 448 to 511 and 640 to 703, from the page's own

@@ -101,6 +101,17 @@ boundary_cases =
     at_most sample 5 3 1000000000 37 ++
     at_most sample 5 4 1000000000 41 ++
     at_most sample 5 5 1000000000 45 ++
+    -- the first five in the other classes
+    at_most (put 3 0 0 (put 5 5 0 sample)) 5 0 1000000000 25 ++
+    at_most (put 3 0 0 (put 5 5 0 sample)) 5 1 1000000000 29 ++
+    at_most (put 3 0 0 (put 5 5 0 sample)) 5 2 1000000000 33 ++
+    at_most (put 3 0 0 (put 5 5 0 sample)) 5 3 1000000000 37 ++
+    at_most (put 3 0 0 (put 5 5 0 sample)) 5 4 1000000000 41 ++
+    at_most (put 3 0 1 (put 5 5 0 sample)) 5 0 1000000000 25 ++
+    at_most (put 3 0 1 (put 5 5 0 sample)) 5 1 1000000000 29 ++
+    at_most (put 3 0 1 (put 5 5 0 sample)) 5 2 1000000000 33 ++
+    at_most (put 3 0 1 (put 5 5 0 sample)) 5 3 1000000000 37 ++
+    at_most (put 3 0 1 (put 5 5 0 sample)) 5 4 1000000000 41 ++
     -- OL in the classes without it, also past its limit, and in the class with it
     at_most (put 3 0 0 sample) 5 5 0 45 ++
     at_most (put 3 0 1 sample) 5 5 0 45 ++
@@ -194,6 +205,53 @@ pub sample_read :
     })
 unfolding number bytes_of flat_map check_from due_from all_had front_of walk_from fields_from first_with judge_numbers same_bytes request_of
 sample_read = refl
+
+-- every number at the highest of its limits or of its width
+abbrev highest : List (List ℕ)
+highest =
+    (67 ∷ 79 ∷ 78 ∷ 78 ∷ []) ∷
+    (4294967295 ∷ []) ∷
+    (2 ∷ []) ∷
+    (255 ∷ []) ∷
+    replicate 6 1000000000 ∷
+    (2 ∷ 1000000 ∷ 10000000 ∷ 2 ∷ 1000000 ∷ 10000000 ∷ 2 ∷ 1000000 ∷ 10000000 ∷ 2 ∷ 1000000 ∷ 10000000 ∷ 2 ∷ 1000000 ∷ 10000000 ∷ []) ∷
+    replicate 5 1000000 ∷
+    replicate 2 1000000000 ∷
+    replicate 8 40000 ∷
+    replicate 8 40000 ∷
+    replicate 8 40000 ∷
+    (65535 ∷ 1000000 ∷ 65535 ∷ 2 ∷ []) ∷
+    []
+
+pub highest_read :
+    request_of 2 (request_file highest)
+    ≡ Ok
+    (record {
+      person = 4294967295;
+      class = 2;
+      zone = 255;
+      me = 1000000000;
+      ce = 1000000000;
+      de = 1000000000;
+      tw = 1000000000;
+      hr = 1000000000;
+      ol = 1000000000;
+      modes = replicate 5 2;
+      demands = replicate 5 1000000;
+      bespoke_rates = replicate 5 10000000;
+      added_demands = replicate 5 1000000;
+      distribution_revenue = 1000000000;
+      transmission_revenue = 1000000000;
+      part_year = record { count = 8; values = replicate 8 40000 };
+      distribution_tariff = record { count = 8; values = replicate 8 40000 };
+      transmission_tariff = record { count = 8; values = replicate 8 40000 };
+      month = 65535;
+      capacity = 1000000;
+      scheme = 65535;
+      mark = 2;
+    })
+unfolding number bytes_of flat_map check_from due_from all_had front_of walk_from fields_from first_with judge_numbers same_bytes request_of
+highest_read = refl
 
 -- Document 02, E6: the sample's request with 0D in place of 04. Its values after 03 stand 4 bytes lower, and the zone number is one of 16 bits.
 abbrev wide_file : ℕ → List (List ℕ) → List ℕ

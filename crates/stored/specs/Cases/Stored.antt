@@ -8,7 +8,7 @@ use Rattle.tagged.specs.Find.{fields_from, first_with, fields_with}
 use Rattle.tagged.specs.File.{refusal, FileAnswer}
 use Rattle.field_values.specs.Judged.{same_bytes}
 use Rattle.ledger.specs.Lists.{at_start}
-use Rattle.ledger.specs.Records.{no_scheme, no_party, new_ledger}
+use Rattle.ledger.specs.Records.{no_scheme, no_party, no_parties, new_ledger}
 use Rattle.ledger.specs.Columns.{sum_over, first_put_in}
 use Rattle.ledger.specs.Sound.{parties_sound, schemes_sound, all_zero, sound}
 use Rattle.ledger.specs.Lookup.{scheme_place}
@@ -16,8 +16,8 @@ use Rattle.ledger.specs.declared.records.Party.{Party}
 use Rattle.ledger.specs.declared.records.Ledger.{Ledger}
 use Rattle.stored.specs.Layout.{record_bytes, values_at}
 use Rattle.stored.specs.Form.{scheme_parts, party_parts, stored_form, stored_schemes, stored_entries, no_schemes, stored_ledger}
-use Rattle.stored.specs.Writing.{written_answer, write_of}
-use Rattle.stored.specs.Reading.{table_answer, read_answer, read_of}
+use Rattle.stored.specs.Writing.{written_answer, form_end, write_of}
+use Rattle.stored.specs.Reading.{table_answer, read_answer, read_back, read_of}
 
 -- a ledger of one scheme and its first entry
 abbrev pub one_scheme : Ledger
@@ -78,6 +78,45 @@ pub forms :
 unfolding stored_form scheme_parts party_parts record_bytes bytes_of check_from flat_map
 forms = (refl, refl, refl)
 
+-- a ledger of two schemes and three entries, sound or not, whose values have the bytes 1 to 160 in the form's order
+abbrev every_byte : Ledger
+every_byte =
+    record {
+      month = 258;
+      connections = 50595078;
+      charged = 506664896818842894;
+      borne = 1085386279523456278;
+      entries = 3;
+      count = 2;
+      schemes =
+          record { cost = 387455258; fee = 454827294; minimum = 522199330; opening = 8996; term = 9510; fees = 2821550427637296430 } ∷
+          record { cost = 791687474; fee = 859059510; minimum = 926431546; opening = 15164; term = 15678; fees = 4557714575751136582 } ∷
+          replicate 62 no_scheme;
+    }
+
+abbrev every_byte_parties : List Party
+every_byte_parties =
+    record { scheme = 18248; person = 1229605708; capacity = 1296977744; put_in = 1364349780; credited = 6149198378188823388; paid_out = 6727919760893436772 } ∷
+    record { scheme = 25958; person = 1734895978; capacity = 1802268014; put_in = 1869640050; credited = 8319403563331123578; paid_out = 8898124946035736962 } ∷
+    record { scheme = 33668; person = 2240186248; capacity = 2307558284; put_in = 2374930320; credited = 10489608748473423768; paid_out = 11068330131178037152 } ∷
+    []
+
+abbrev every_byte_fields : List ℕ
+every_byte_fields =
+    1 ∷ 0 ∷ 4 ∷ 80 ∷ 73 ∷ 79 ∷ 78 ∷ 2 ∷ 0 ∷ 22 ∷ 1 ∷ 2 ∷ 3 ∷ 4 ∷ 5 ∷ 6 ∷ 7 ∷ 8 ∷ 9 ∷ 10 ∷ 11 ∷ 12 ∷ 13 ∷ 14 ∷ 15 ∷ 16 ∷ 17 ∷ 18 ∷ 19 ∷ 20 ∷ 21 ∷ 22 ∷ 3 ∷ 0 ∷ 24 ∷ 23 ∷ 24 ∷ 25 ∷ 26 ∷ 27 ∷ 28 ∷ 29 ∷ 30 ∷ 31 ∷ 32 ∷ 33 ∷ 34 ∷ 35 ∷ 36 ∷ 37 ∷ 38 ∷ 39 ∷ 40 ∷ 41 ∷ 42 ∷ 43 ∷ 44 ∷ 45 ∷ 46 ∷ 3 ∷ 0 ∷ 24 ∷ 47 ∷ 48 ∷ 49 ∷ 50 ∷ 51 ∷ 52 ∷ 53 ∷ 54 ∷ 55 ∷ 56 ∷ 57 ∷ 58 ∷ 59 ∷ 60 ∷ 61 ∷ 62 ∷ 63 ∷ 64 ∷ 65 ∷ 66 ∷ 67 ∷ 68 ∷ 69 ∷ 70 ∷ 4 ∷ 0 ∷ 30 ∷ 71 ∷ 72 ∷ 73 ∷ 74 ∷ 75 ∷ 76 ∷ 77 ∷ 78 ∷ 79 ∷ 80 ∷ 81 ∷ 82 ∷ 83 ∷ 84 ∷ 85 ∷ 86 ∷ 87 ∷ 88 ∷ 89 ∷ 90 ∷ 91 ∷ 92 ∷ 93 ∷ 94 ∷ 95 ∷ 96 ∷ 97 ∷ 98 ∷ 99 ∷ 100 ∷ 4 ∷ 0 ∷ 30 ∷ 101 ∷ 102 ∷ 103 ∷ 104 ∷ 105 ∷ 106 ∷ 107 ∷ 108 ∷ 109 ∷ 110 ∷ 111 ∷ 112 ∷ 113 ∷ 114 ∷ 115 ∷ 116 ∷ 117 ∷ 118 ∷ 119 ∷ 120 ∷ 121 ∷ 122 ∷ 123 ∷ 124 ∷ 125 ∷ 126 ∷ 127 ∷ 128 ∷ 129 ∷ 130 ∷ 4 ∷ 0 ∷ 30 ∷ 131 ∷ 132 ∷ 133 ∷ 134 ∷ 135 ∷ 136 ∷ 137 ∷ 138 ∷ 139 ∷ 140 ∷ 141 ∷ 142 ∷ 143 ∷ 144 ∷ 145 ∷ 146 ∷ 147 ∷ 148 ∷ 149 ∷ 150 ∷ 151 ∷ 152 ∷ 153 ∷ 154 ∷ 155 ∷ 156 ∷ 157 ∷ 158 ∷ 159 ∷ 160 ∷ []
+
+pub every_byte_written : stored_form every_byte (every_byte_parties ++ (no_party ∷ [])) ≡ every_byte_fields ++ (255 ∷ 0 ∷ 2 ∷ 11 ∷ 2 ∷ [])
+unfolding stored_form scheme_parts party_parts record_bytes bytes_of check_from flat_map
+every_byte_written = refl
+
+pub every_byte_read : (stored_ledger every_byte_fields ≡ every_byte) × (stored_entries every_byte_fields ≡ every_byte_parties)
+unfolding stored_entries stored_schemes stored_ledger no_schemes values_at number fields_from first_with fields_with
+every_byte_read = (refl, refl)
+
+-- wrong letters, and a field 02 of one byte less
+abbrev pub two_faults_form : List ℕ
+two_faults_form = 1 ∷ 0 ∷ 4 ∷ 80 ∷ 73 ∷ 79 ∷ 77 ∷ 2 ∷ 0 ∷ 21 ∷ replicate 21 0 ++ (255 ∷ 0 ∷ 2 ∷ 239 ∷ 206 ∷ [])
+
 abbrev refused : ℕ → ℕ → ℕ → FileAnswer
 refused n file place = Err (refusal n file place)
 
@@ -93,7 +132,8 @@ read_cases =
     ((2, joined_form), Ok tt) ∷
     ((1, joined_form), refused 9 0 0) ∷
     ((1, unsound_form), refused 13 0 0) ∷
-    -- 3 before 9, and 9 before 13
+    -- 1 for the rest before 3, 3 before 9, and 9 before 13
+    ((0, two_faults_form), refused 1 1 7) ∷
     ((0, form_with one_form 6 (77 ∷ []) (32 ∷ 21 ∷ [])), refused 3 1 3) ∷
     ((0, unsound_form), refused 9 0 0) ∷
     []
@@ -107,11 +147,41 @@ pub read_case_holds : read_of new_ledger (no_party ∷ one_party ∷ []) one_for
 unfolding read_answer table_answer stored_entries stored_schemes stored_ledger no_schemes values_at number check_from due_from all_had front_of walk_from fields_from first_with fields_with same_bytes sound parties_sound scheme_place schemes_sound all_zero sum_over first_put_in
 read_case_holds = refl
 
+-- a refused reading leaves ledger and table as they are
+pub refused_case_holds :
+    read_of one_scheme (one_party ∷ no_party ∷ []) unsound_form
+    ≡ record { answer = refused 13 0 0; ledger = one_scheme; table = one_party ∷ no_party ∷ [] }
+unfolding read_answer table_answer stored_entries stored_schemes stored_ledger no_schemes values_at number check_from due_from all_had front_of walk_from fields_from first_with fields_with same_bytes sound parties_sound scheme_place schemes_sound all_zero sum_over first_put_in
+refused_case_holds = refl
+
+-- the same with the entries by value: 512 of them, of which those past the last hold zeros
+pub read_back_cases_hold :
+    (read_back new_ledger 1 one_form ≡ record { answer = Ok tt; ledger = one_scheme; parties = one_party ∷ replicate 511 no_party }) ×
+    (read_back one_scheme 0 one_form ≡ record { answer = refused 9 0 0; ledger = one_scheme; parties = replicate 512 no_party })
+unfolding read_answer table_answer stored_entries stored_schemes stored_ledger no_schemes values_at number check_from due_from all_had front_of walk_from fields_from first_with fields_with same_bytes sound parties_sound scheme_place schemes_sound all_zero sum_over first_put_in no_parties
+read_back_cases_hold = (refl, refl)
+
+-- schemes alone, without an entry after them
+pub schemes_read : (stored_schemes (take 86 every_byte_fields) ≡ take 2 every_byte.schemes) × (stored_entries (take 86 every_byte_fields) ≡ [])
+unfolding stored_schemes stored_entries values_at number fields_from fields_with
+schemes_read = (refl, refl)
+
+-- written without the soundness test
+pub form_cases_hold :
+    (form_end one_scheme (one_party ∷ []) (replicate 98 7) ≡ record { answer = Ok 97; output = one_form ++ (7 ∷ []) }) ×
+    (form_end one_scheme (one_party ∷ no_party ∷ []) (replicate 96 7) ≡ record { answer = Err (refusal 14 0 0); output = replicate 96 7 }) ×
+    (form_end joined_scheme joined_parties (replicate 130 7) ≡ record { answer = Ok 130; output = joined_form })
+unfolding stored_form scheme_parts party_parts record_bytes bytes_of check_from flat_map
+form_cases_hold = (refl, refl, refl)
+
 -- an output as long as the form, one byte longer and one byte shorter; a table shorter than the entries
 pub write_cases_hold :
     (write_of one_scheme (one_party ∷ []) (replicate 97 7) ≡ record { answer = Ok 97; output = one_form }) ×
     (write_of one_scheme (one_party ∷ []) (replicate 98 7) ≡ record { answer = Ok 97; output = one_form ++ (7 ∷ []) }) ×
     (write_of one_scheme (one_party ∷ []) (replicate 96 7) ≡ record { answer = Err (refusal 14 0 0); output = replicate 96 7 }) ×
-    (write_of one_scheme [] (replicate 97 7) ≡ record { answer = Err (refusal 13 0 0); output = replicate 97 7 })
+    (write_of one_scheme [] (replicate 97 7) ≡ record { answer = Err (refusal 13 0 0); output = replicate 97 7 }) ×
+    -- 13 before 14
+    (write_of one_scheme [] [] ≡ record { answer = Err (refusal 13 0 0); output = [] }) ×
+    (write_of one_scheme (no_party ∷ []) (replicate 96 7) ≡ record { answer = Err (refusal 13 0 0); output = replicate 96 7 })
 unfolding written_answer stored_form scheme_parts party_parts record_bytes bytes_of check_from flat_map sound parties_sound scheme_place schemes_sound all_zero sum_over first_put_in
-write_cases_hold = (refl, refl, refl, refl)
+write_cases_hold = (refl, refl, refl, refl, refl, refl)
