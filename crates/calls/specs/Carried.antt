@@ -29,7 +29,7 @@ entries_on state = take state.ledger.entries state.table
 
 -- ---- changes of the entries, and of the schemes
 abbrev pub with_table : List Party → State → State
-with_table entries state = record { ledger = state.ledger; table = at_start entries state.table }
+with_table entries state = record state { table = at_start entries state.table }
 
 -- one entry more, after these
 abbrev pub entered : List Party → Party → State → State
@@ -37,7 +37,7 @@ entered entries party state =
     record { ledger = with_entries (state.ledger.entries + 1) state.ledger; table = at_start (entries ++ (party ∷ [])) state.table }
 
 abbrev pub with_ledger : Ledger → State → State
-with_ledger ledger state = record { ledger = ledger; table = state.table }
+with_ledger ledger state = record state { ledger = ledger }
 
 -- "an entry": scheme, person and capacity, with this put in; nothing is credited or paid out yet
 abbrev pub new_party : ℕ → Bill → ℕ → Party

@@ -212,28 +212,10 @@ parties_in history = map (party_in history) (oldest_first history.entered)
 
 -- ---- one more call: an accept is billed, then joined, then opened; "a call that these refuse adds nothing"
 abbrev pub billed_in : Bill → History → History
-billed_in bill history =
-    record {
-      bills = bill ∷ history.bills;
-      entered = history.entered;
-      paid = history.paid;
-      handed = history.handed;
-      month = bill.applicant.month;
-      next_scheme = history.next_scheme;
-      next_entry = history.next_entry;
-    }
+billed_in bill history = record history { bills = bill ∷ history.bills; month = bill.applicant.month }
 
 abbrev pub enters_in : ℕ → Entering → History → History
-enters_in next_scheme e history =
-    record {
-      bills = history.bills;
-      entered = e ∷ history.entered;
-      paid = history.paid;
-      handed = history.handed;
-      month = history.month;
-      next_scheme = next_scheme;
-      next_entry = history.next_entry + 1;
-    }
+enters_in next_scheme e history = record history { entered = e ∷ history.entered; next_scheme = next_scheme; next_entry = history.next_entry + 1 }
 
 abbrev pub joiner : Bill → ℕ → ℕ → List Credit → Entering
 joiner bill entry G credits =
@@ -254,28 +236,10 @@ opened_in false bill history = history
 opened_in true bill history = enters_in (history.next_scheme + 1) (opener bill history.next_scheme history.next_entry) history
 
 abbrev pub paid_in : Payment → History → History
-paid_in payment history =
-    record {
-      bills = history.bills;
-      entered = history.entered;
-      paid = payment ∷ history.paid;
-      handed = history.handed;
-      month = history.month;
-      next_scheme = history.next_scheme;
-      next_entry = history.next_entry;
-    }
+paid_in payment history = record history { paid = payment ∷ history.paid }
 
 abbrev pub handed_in : HandOver → History → History
-handed_in hand_over history =
-    record {
-      bills = history.bills;
-      entered = history.entered;
-      paid = history.paid;
-      handed = hand_over ∷ history.handed;
-      month = history.month;
-      next_scheme = history.next_scheme;
-      next_entry = history.next_entry;
-    }
+handed_in hand_over history = record history { handed = hand_over ∷ history.handed }
 
 abbrev pub recorded : History → Decision → History
 recorded history (accepted bill course credits) = opened_in course.opens bill (joined_in course.joining credits bill (billed_in bill history))

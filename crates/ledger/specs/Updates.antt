@@ -5,84 +5,26 @@ use Rattle.ledger.specs.declared.records.Party.{Party}
 use Rattle.ledger.specs.declared.records.Ledger.{Ledger}
 
 abbrev pub with_person : ℕ → Party → Party
-with_person person party =
-    record {
-      scheme = party.scheme;
-      person = person;
-      capacity = party.capacity;
-      put_in = party.put_in;
-      credited = party.credited;
-      paid_out = party.paid_out;
-    }
+with_person person party = record party { person = person }
 
 abbrev pub with_credited : ℕ → Party → Party
-with_credited credited party =
-    record {
-      scheme = party.scheme;
-      person = party.person;
-      capacity = party.capacity;
-      put_in = party.put_in;
-      credited = credited;
-      paid_out = party.paid_out;
-    }
+with_credited credited party = record party { credited = credited }
 
 abbrev pub with_paid_out : ℕ → Party → Party
-with_paid_out paid_out party =
-    record {
-      scheme = party.scheme;
-      person = party.person;
-      capacity = party.capacity;
-      put_in = party.put_in;
-      credited = party.credited;
-      paid_out = paid_out;
-    }
+with_paid_out paid_out party = record party { paid_out = paid_out }
 
 abbrev pub with_fees : ℕ → Scheme → Scheme
-with_fees fees scheme =
-    record {
-      cost = scheme.cost;
-      fee = scheme.fee;
-      minimum = scheme.minimum;
-      opening = scheme.opening;
-      term = scheme.term;
-      fees = fees;
-    }
+with_fees fees scheme = record scheme { fees = fees }
 
 -- a connection more in this month, with what it charges and what the company bears
 abbrev pub with_connection : ℕ → ℕ → ℕ → Ledger → Ledger
 with_connection month charged borne ledger =
-    record {
-      month = month;
-      connections = ledger.connections + 1;
-      charged = ledger.charged + charged;
-      borne = ledger.borne + borne;
-      entries = ledger.entries;
-      count = ledger.count;
-      schemes = ledger.schemes;
-    }
+    record ledger { month = month; connections = ledger.connections + 1; charged = ledger.charged + charged; borne = ledger.borne + borne }
 
 -- so many entries
 abbrev pub with_entries : ℕ → Ledger → Ledger
-with_entries entries ledger =
-    record {
-      month = ledger.month;
-      connections = ledger.connections;
-      charged = ledger.charged;
-      borne = ledger.borne;
-      entries = entries;
-      count = ledger.count;
-      schemes = ledger.schemes;
-    }
+with_entries entries ledger = record ledger { entries = entries }
 
 -- so many schemes, in these places
 abbrev pub with_schemes : ℕ → List Scheme → Ledger → Ledger
-with_schemes count schemes ledger =
-    record {
-      month = ledger.month;
-      connections = ledger.connections;
-      charged = ledger.charged;
-      borne = ledger.borne;
-      entries = ledger.entries;
-      count = count;
-      schemes = schemes;
-    }
+with_schemes count schemes ledger = record ledger { count = count; schemes = schemes }
