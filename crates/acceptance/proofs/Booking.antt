@@ -13,7 +13,8 @@ use lib.Seq.{take-suc, take-length, length-take-le}
 use Rattle.std.proofs.lemmas.List.{take_all}
 use Rattle.field_values.specs.Limits.{highest_capacity}
 use Rattle.ledger.specs.Limits.{most_entries, highest_credited}
-use Rattle.ledger.specs.Columns.{scheme_column, capacity_column, sum_over, sum_of}
+use Rattle.ledger.specs.Columns.{scheme_column, sum_over}
+use Rattle.ledger.specs.CapacityColumns.{capacity_column, sum_of}
 use Rattle.ledger.proofs.Theorems.Columns.{of_own, of_other}
 use Rattle.ledger.specs.declared.records.Party.{Party}
 use Rattle.calls.specs.CreditColumns.{weights, shares}

@@ -6,7 +6,8 @@ use Rattle.charge.specs.declared.Bill.{Bill}
 use Rattle.ledger.specs.Limits.{most_schemes, most_entries, most_connections, highest_sum}
 use Rattle.ledger.specs.Records.{no_scheme}
 use Rattle.ledger.specs.Lookup.{scheme_place}
-use Rattle.ledger.specs.Columns.{scheme_column, capacity_column, sum_over}
+use Rattle.ledger.specs.Columns.{scheme_column, sum_over}
+use Rattle.ledger.specs.CapacityColumns.{capacity_column}
 use Rattle.ledger.specs.declared.records.Scheme.{Scheme}
 use Rattle.ledger.specs.declared.records.Party.{Party}
 use Rattle.ledger.specs.declared.records.Ledger.{Ledger}

@@ -8,9 +8,11 @@ use lib.ListN.{length, get_or, set, take, replicate, length-append, length-repli
 use lib.Seq.{set_at, append_snoc, take-set-lt, take-append-le, length-take-le}
 use Rattle.std.proofs.lemmas.List.{take_more}
 use Rattle.field_values.specs.Limits.{most_zones, tier_count}
-use Rattle.field_walk.specs.Walk.{walk, walked}
+use Rattle.field_walk.specs.Walk.{walk}
+use Rattle.field_walk.specs.Walked.{walked}
 use Rattle.book_zones.specs.BookRows.{book_rows}
-use Rattle.book_zones.specs.Zones.{number_width, zone_starts, first_zone, zones_apart, zone_array, zone_number, rates_from, rate_row}
+use Rattle.book_zones.specs.Zones.{number_width, zone_starts, zone_array, zone_number, rates_from, rate_row}
+use Rattle.book_zones.specs.ZoneScans.{first_zone, zones_apart}
 use Rattle.book_zones.proofs.Theorems.ZoneFields.{ZonesStand, every_get_or}
 use Rattle.book_zones.proofs.Standing.{stand}
 

@@ -3,10 +3,11 @@ use Prim.Native.Nat.{ℕ, ◌+◌, ◌*◌, ◌-◌, ◌/◌, ◌≤◌}
 use Rattle.std.specs.Prelude.{◌≡◌, List, length, take, Ok}
 use Rattle.std.proofs.Common.{sym, ap, ◌∙◌, arith, mul-div_cancel}
 use Rattle.field_values.specs.Limits.{most_zones}
-use Rattle.field_walk.specs.Walk.{walk, walked}
+use Rattle.field_walk.specs.Walk.{walk}
+use Rattle.field_walk.specs.Walked.{walked}
 use Rattle.book_zones.specs.BookRows.{book_rows}
-use Rattle.book_zones.specs.Zones.{number_width, zone_starts, first_zone, zones_apart, zone_numbers, zone_rates, judge_zones}
-use Rattle.book_zones.specs.ZoneScans.{judge_rise, judge_rows, lower}
+use Rattle.book_zones.specs.Zones.{number_width, zone_starts, zone_numbers, zone_rates, judge_zones}
+use Rattle.book_zones.specs.ZoneScans.{first_zone, zones_apart, judge_rise, judge_rows, lower}
 use Rattle.book_zones.proofs.Theorems.ZoneFields.{ZonesStand, fields_walk, zones_stand}
 use Rattle.book_zones.proofs.Theorems.Zones.{judge_zones_by_scans}
 

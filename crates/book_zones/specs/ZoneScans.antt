@@ -1,8 +1,16 @@
 -- Where the zones' values stand, and how two scans judge them: what the functions between a book's bytes and its values say of one another.
 use Rattle.std.specs.Prelude.{ℕ, ◌+◌, List, [], ◌∷◌, length, cond, ltb, leb, Err, Ok}
 use Rattle.field_values.specs.Judged.{judge, in_order, Judged}
-use Rattle.book_zones.specs.Zones.{number_width, zone_starts, first_zone, zones_apart, judge_row}
+use Rattle.book_zones.specs.Zones.{number_width, zone_starts, judge_row, zone_tag}
 use Rattle.book_zones.specs.declared.zones.ZoneLayout.{ZoneLayout}
+use Rattle.tagged.specs.Find.{field_start}
+
+-- the first zone's offset, and how far each zone stands from the next: tag and length, the number, five rates
+abbrev pub first_zone : List ℕ → ℕ
+first_zone s = field_start (zone_tag s) s
+
+abbrev pub zones_apart : List ℕ → ℕ
+zones_apart s = number_width s + 23
 
 -- as one search finds it, for every reader of zones
 abbrev pub zone_layout : List ℕ → ZoneLayout

@@ -3,7 +3,7 @@
 -- Document 02, E6: "A book may carry field 09 (22 bytes, two-byte zone number, else as 08) in place of every 08."
 use Rattle.std.specs.Prelude.{ℕ, ◌+◌, ◌-◌, List, [], ◌∷◌, ◌++◌, map, get_or, take, replicate, leb, Ok, None, Some, Option}
 use Rattle.numbers.specs.BigEndian.{number_at}
-use Rattle.tagged.specs.Find.{fields_of, fields_with, first_place, field_start}
+use Rattle.tagged.specs.Find.{fields_of, fields_with, first_place}
 use Rattle.tagged.specs.declared.find.Place.{Place}
 use Rattle.field_values.specs.Limits.{most_zones, tier_count, highest_rate}
 use Rattle.field_values.specs.Judged.{judge, first_failure, Judged}
@@ -20,15 +20,9 @@ zone_tag s = tag_by (first_place 9 s)
 abbrev pub number_width : List ℕ → ℕ
 number_width s = zone_tag s - 7
 
--- the offsets of the zones' values, and how far each stands from the next: tag and length, the number, five rates
+-- the offsets of the zones' values
 abbrev pub zone_starts : List ℕ → List ℕ
 zone_starts s = map (λ f. f.start) (fields_with (zone_tag s) (fields_of s))
-
-abbrev pub first_zone : List ℕ → ℕ
-first_zone s = field_start (zone_tag s) s
-
-abbrev pub zones_apart : List ℕ → ℕ
-zones_apart s = number_width s + 23
 
 -- an array with a place for each zone that a book may have: the elements there are, then the one that stands for none
 abbrev pub zone_array : {A : Type 0} → A → List A → List A

@@ -1,6 +1,7 @@
 -- The credits by place: 0 for an entry of another scheme.
 use Rattle.std.specs.Prelude.{ℕ, List}
-use Rattle.ledger.specs.Columns.{scheme_column, capacity_column}
+use Rattle.ledger.specs.Columns.{scheme_column}
+use Rattle.ledger.specs.CapacityColumns.{capacity_column}
 use Rattle.ledger.specs.declared.records.Party.{Party}
 use Rattle.calls.specs.CreditColumns.{credits}
 

@@ -1,8 +1,8 @@
 -- How each call ends, by document 01's number and values. Done, plain, opened, joined, small and ended all have number 0; the values tell them apart.
-use Rattle.std.specs.Prelude.{ℕ, ◌≤◌, List, [], ◌∷◌, ◌++◌, Bool, true, false, ℤ, pos, None, Option, Some}
+use Rattle.std.specs.Prelude.{ℕ, List, [], ◌∷◌, ◌++◌, ℤ, pos, None, Option, Some}
 use Rattle.tagged.specs.Ending.{Ending, ends_refused, ends_done}
 use Rattle.reconciliation.specs.Figures.{figure_values}
-use Rattle.calls.specs.Decision.{CallAnswer, is_accepted, is_done, is_refused, of_accept, of_entry_call, AcceptAnswer, Answer}
+use Rattle.calls.specs.Decision.{CallAnswer, is_accepted, is_done, is_refused}
 use Rattle.calls.specs.declared.answers.Acceptance.{Acceptance}
 use Rattle.calls.specs.declared.answers.JoiningAnswer.{JoiningAnswer}
 use Rattle.calls.specs.declared.answers.JoiningAnswer.TheVariants.{NotAsked, Ended, Small, Joined}
@@ -28,26 +28,3 @@ abbrev pub call_ending : CallAnswer → Ending
 call_ending (is_accepted acceptance) = ends_done (acceptance_values acceptance)
 call_ending is_done = ends_done []
 call_ending (is_refused r) = ends_refused r
-
-abbrev pub accept_ending : AcceptAnswer → Ending
-accept_ending answer = call_ending (of_accept answer)
-
--- pay-out's and hand-over's
-abbrev pub entry_call_ending : Answer → Ending
-entry_call_ending answer = call_ending (of_entry_call answer)
-
--- ---- refusals and schemes are numbered from 1, so that 0 is neither
-abbrev pub SchemeNumbered : Option ℕ → Type 0
-SchemeNumbered None = Unit {0}
-SchemeNumbered (Some scheme) = 1 ≤ scheme
-
-abbrev pub Numbered : CallAnswer → Type 0
-Numbered (is_accepted acceptance) = SchemeNumbered acceptance.opening
-Numbered is_done = Unit {0}
-Numbered (is_refused r) = 1 ≤ r.number
-
--- ---- number 0 exactly where the call is done
-abbrev pub not_refused : CallAnswer → Bool
-not_refused (is_accepted acceptance) = true
-not_refused is_done = true
-not_refused (is_refused r) = false

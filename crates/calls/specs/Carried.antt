@@ -4,7 +4,6 @@ use Rattle.std.specs.Prelude.{ℕ, ◌+◌, List, [], ◌∷◌, ◌++◌, Bool,
 use Rattle.charge.specs.declared.Bill.{Bill}
 use Rattle.ledger.specs.Lists.{numbered_from, at_start}
 use Rattle.ledger.specs.Books.{Books, books_of}
-use Rattle.ledger.specs.Updates.{with_person, with_credited, with_paid_out, with_fees, with_connection, with_entries, with_schemes}
 use Rattle.ledger.specs.declared.records.Scheme.{Scheme}
 use Rattle.ledger.specs.declared.records.Party.{Party}
 use Rattle.ledger.specs.declared.records.Ledger.{Ledger}
@@ -27,17 +26,10 @@ schemes_on state = take state.ledger.count state.ledger.schemes
 abbrev pub entries_on : State → List Party
 entries_on state = take state.ledger.entries state.table
 
--- ---- changes of the entries, and of the schemes
-abbrev pub with_table : List Party → State → State
-with_table entries state = record state { table = at_start entries state.table }
-
 -- one entry more, after these
 abbrev pub entered : List Party → Party → State → State
 entered entries party state =
-    record { ledger = with_entries (state.ledger.entries + 1) state.ledger; table = at_start (entries ++ (party ∷ [])) state.table }
-
-abbrev pub with_ledger : Ledger → State → State
-with_ledger ledger state = record state { ledger = ledger }
+    record { ledger = record state.ledger { entries = state.ledger.entries + 1 }; table = at_start (entries ++ (party ∷ [])) state.table }
 
 -- "an entry": scheme, person and capacity, with this put in; nothing is credited or paid out yet
 abbrev pub new_party : ℕ → Bill → ℕ → Party
@@ -56,20 +48,26 @@ new_party scheme bill put_in =
 -- a contribution is no part of CC
 abbrev pub booked : Bill → State → State
 booked bill state =
-    with_ledger (with_connection bill.applicant.month bill.reconciliation.cc bill.reconciliation.borne state.ledger) state
+    record state {
+      ledger =
+          record state.ledger {
+            month = bill.applicant.month;
+            connections = state.ledger.connections + 1;
+            charged = state.ledger.charged + bill.reconciliation.cc;
+            borne = state.ledger.borne + bill.reconciliation.borne;
+          };
+    }
 
 -- "the fee taken"
 abbrev pub takes_fee : ℕ → ℕ → ℕ → Scheme → Scheme
-takes_fee s fee number scheme = cond (eqb s number) (with_fees (scheme.fees + fee) scheme) scheme
+takes_fee s fee number scheme = cond (eqb s number) (record scheme { fees = scheme.fees + fee }) scheme
 
 abbrev pub is_credited : ℕ → List Credit → ℕ → Party → Party
-is_credited s credits number party = cond (eqb s party.scheme) (with_credited (party.credited + credit_to number credits) party) party
+is_credited s credits number party = cond (eqb s party.scheme) (record party { credited = party.credited + credit_to number credits }) party
 
 abbrev pub fee_taken : ℕ → ℕ → State → State
 fee_taken s fee state =
-    with_ledger
-    (with_schemes state.ledger.count (at_start (numbered_from 1 (takes_fee s fee) (schemes_on state)) state.ledger.schemes) state.ledger)
-    state
+    record state { ledger = record state.ledger { schemes = at_start (numbered_from 1 (takes_fee s fee) (schemes_on state)) state.ledger.schemes } }
 
 -- "The joiner becomes an entry with G put in."
 abbrev pub joined : Joining → List Credit → Bill → State → State
@@ -94,7 +92,9 @@ new_scheme bill =
 
 abbrev pub scheme_opened : Bill → State → State
 scheme_opened bill state =
-    with_ledger (with_schemes (state.ledger.count + 1) (at_start (schemes_on state ++ (new_scheme bill ∷ [])) state.ledger.schemes) state.ledger) state
+    record state {
+      ledger = record state.ledger { count = state.ledger.count + 1; schemes = at_start (schemes_on state ++ (new_scheme bill ∷ [])) state.ledger.schemes };
+    }
 
 abbrev pub opened : Bool → Bill → State → State
 opened false bill state = state
@@ -103,13 +103,13 @@ opened true bill state =
 
 -- ---- pay-out and hand-over leave the ledger as it is
 abbrev pub is_paid : ℕ → ℕ → ℕ → Party → Party
-is_paid e amount number party = cond (eqb e number) (with_paid_out (party.paid_out + amount) party) party
+is_paid e amount number party = cond (eqb e number) (record party { paid_out = party.paid_out + amount }) party
 
 abbrev pub is_handed : ℕ → ℕ → ℕ → Party → Party
-is_handed e person number party = cond (eqb e number) (with_person person party) party
+is_handed e person number party = cond (eqb e number) (record party { person = person }) party
 
 abbrev pub carried_out : State → Decision → State
 carried_out state (accepted bill course credits) = opened course.opens bill (joined course.joining credits bill (booked bill state))
-carried_out state (paid_out s e amount) = with_table (numbered_from 1 (is_paid e amount) (entries_on state)) state
-carried_out state (handed_over e person) = with_table (numbered_from 1 (is_handed e person) (entries_on state)) state
+carried_out state (paid_out s e amount) = record state { table = at_start (numbered_from 1 (is_paid e amount) (entries_on state)) state.table }
+carried_out state (handed_over e person) = record state { table = at_start (numbered_from 1 (is_handed e person) (entries_on state)) state.table }
 carried_out state (refused r) = state

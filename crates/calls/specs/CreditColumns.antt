@@ -1,6 +1,6 @@
 -- Document 01, 'Accept', over columns of all entries, as the code goes over them: what each earlier entry is credited of what a joiner pays.
 use Rattle.std.specs.Prelude.{ℕ, ◌+◌, List, [], ◌∷◌, cond, eqb}
-use Rattle.ledger.specs.Columns.{capacity_of}
+use Rattle.ledger.specs.CapacityColumns.{capacity_of}
 use Rattle.calls.specs.Rules.{share}
 
 -- the capacity of an entry of scheme s; an entry of another scheme weighs nothing

@@ -5,7 +5,6 @@ use Rattle.tagged.specs.Refusals.{no_such_entry, pay_out_above_credit}
 use Rattle.tagged.specs.declared.file.Refusal.{Refusal}
 use Rattle.charge.specs.Price.{price_of, Pricing}
 use Rattle.charge.specs.declared.Bill.{Bill}
-use Rattle.ledger.specs.Lists.{Found, none, found}
 use Rattle.ledger.specs.Books.{EntryParticulars, Books, entry_at}
 use Rattle.calls.specs.Rules.{Credit, parties_of, shared}
 use Rattle.calls.specs.Verdict.{verdict, Verdict}
@@ -54,15 +53,15 @@ accept_by books (Err r) = refused r
 -- ---- pay-out and hand-over
 
 -- "Pay-out names an entry and an amount up to its standing credit (credited − paid out); 0 is allowed."
-abbrev pub pay_out_by : Found EntryParticulars → ℕ → Decision
-pay_out_by none amount = refused (refusal no_such_entry 0 0)
-pay_out_by (found row) amount =
+abbrev pub pay_out_by : Option EntryParticulars → ℕ → Decision
+pay_out_by None amount = refused (refusal no_such_entry 0 0)
+pay_out_by (Some row) amount =
     cond (leb (row.paid_out + amount) row.credited) (paid_out row.scheme row.number amount) (refused (refusal pay_out_above_credit 0 0))
 
 -- "Hand-over gives an entry another person number."
-abbrev pub hand_over_by : Found EntryParticulars → ℕ → Decision
-hand_over_by none person = refused (refusal no_such_entry 0 0)
-hand_over_by (found row) person = handed_over row.number person
+abbrev pub hand_over_by : Option EntryParticulars → ℕ → Decision
+hand_over_by None person = refused (refusal no_such_entry 0 0)
+hand_over_by (Some row) person = handed_over row.number person
 
 abbrev pub decided : Books → Call → Decision
 decided books (accept book request) = accept_by books (price_of book request)

@@ -3,6 +3,8 @@ pub mod Verdict
 pub mod Decision
 pub mod Answers
 pub mod CallEnding
+pub mod CallEndingTests
+pub mod AnswerEndings
 pub mod Carried
 pub mod Calls
 pub mod CreditColumns

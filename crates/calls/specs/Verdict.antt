@@ -1,11 +1,10 @@
 -- Document 01, 'Accept': what becomes of a priced request, in two parts: the joining that it asks for, and whether a scheme opens.
-use Rattle.std.specs.Prelude.{ℕ, ◌+◌, [], ◌∷◌, Bool, true, false, cond, length, leb, ltb, eqb, Err, Ok, Result}
+use Rattle.std.specs.Prelude.{ℕ, ◌+◌, [], ◌∷◌, Bool, true, false, cond, length, leb, ltb, eqb, Err, Ok, Result, None, Some, Option}
 use Rattle.tagged.specs.File.{refusal}
 use Rattle.tagged.specs.Refusals.{scheme_never_opened, month_before_last, no_scheme_left, no_entry_left, no_connection_left}
 use Rattle.tagged.specs.declared.file.Refusal.{Refusal}
 use Rattle.charge.specs.declared.Bill.{Bill}
 use Rattle.ledger.specs.Limits.{most_schemes, most_entries, most_connections}
-use Rattle.ledger.specs.Lists.{Found, none, found}
 use Rattle.ledger.specs.Books.{SchemeParticulars, Books, scheme_at}
 use Rattle.ledger.specs.Sound.{all_hold}
 use Rattle.calls.specs.Rules.{parties_of, capacity_of, contribution}
@@ -29,9 +28,9 @@ joining_of books bill row =
     (cond (ltb G row.minimum) Small (Pays (record { collected = G; fee = row.fee; capacity = K })))
 
 -- every scheme that was opened stands, so that the first case doesn't come up once 6 is judged
-abbrev pub joining_by : Books → Bill → Found SchemeParticulars → Joining
-joining_by books bill none = Ended
-joining_by books bill (found row) = joining_of books bill row
+abbrev pub joining_by : Books → Bill → Option SchemeParticulars → Joining
+joining_by books bill None = Ended
+joining_by books bill (Some row) = joining_of books bill row
 
 -- scheme 0 is none
 abbrev pub joining_part : Books → Bill → Joining

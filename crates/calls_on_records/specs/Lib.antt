@@ -1,1 +1,2 @@
 pub mod OnRecords
+pub mod PlaceIfDone

@@ -1,3 +1,4 @@
 pub mod Capacity
 pub mod CapacityLimits
+pub mod TierLimits
 pub mod Cases

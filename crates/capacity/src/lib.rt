@@ -5,7 +5,8 @@
 ghost use Rattle.std.specs.Prelude.{◌≡◌, ◌<◌, ◌≤◌};
 ghost use Rattle.capacity.specs.Capacity.{bespoke_allowed, tier_allowed, first_not_allowed, rate_used, tier_cost, cost_at, capacity_cost};
 ghost use Rattle.field_values.specs.Limits.{tier_count, highest_rate, highest_demand};
-ghost use Rattle.capacity.specs.CapacityLimits.{highest_tier_cost, highest_capacity_cost, TiersWithin, DemandsWithin};
+ghost use Rattle.capacity.specs.CapacityLimits.{highest_tier_cost, highest_capacity_cost};
+ghost use Rattle.capacity.specs.TierLimits.{TiersWithin, DemandsWithin};
 
 use field_values::limits::TIERS;
 

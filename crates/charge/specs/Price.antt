@@ -1,5 +1,5 @@
 -- Document 01, 'How calls end': "Pricing (slip): book, request, 4, 5." The pricing of a request by a rate book, from their bytes alone.
-use Rattle.std.specs.Prelude.{ℕ, zero, suc, ◌+◌, ◌<◌, List, [], cond, get_or, eqb, Err, None, Ok, Option, Some, Result}
+use Rattle.std.specs.Prelude.{ℕ, zero, suc, ◌+◌, List, [], cond, get_or, eqb, Err, None, Ok, Option, Some, Result}
 use Rattle.tagged.specs.File.{fields_part, refusal}
 use Rattle.tagged.specs.Refusals.{zone_not_in_book, bespoke_not_allowed}
 use Rattle.rate_book.specs.Book.{book_of}
@@ -24,10 +24,6 @@ Pricing = Result Bill Refusal
 unfoldable pub zone_found : ℕ → ℕ → List ℕ → ℕ → Option ℕ
 zone_found k zero numbers number = None
 zone_found k (suc zones) numbers number = cond (eqb (get_or numbers k 0) number) (Some k) (zone_found (k + 1) zones numbers number)
-
-abbrev pub ZoneBelow : ℕ → Option ℕ → Type 0
-ZoneBelow zones None = Unit {0}
-ZoneBelow zones (Some zone) = zone < zones
 
 -- the two streams of revenue; their year-one figures are handed over
 abbrev pub distribution_of : Book → Request → ℕ → Stream

@@ -2,14 +2,15 @@
 #![tactic(auto)]
 
 ghost use Rattle.std.specs.Prelude.{◌≡◌, ◌<◌, ◌≤◌, ◌==◌, length, position};
-ghost use Rattle.capacity.specs.CapacityLimits.{TiersWithin};
+ghost use Rattle.capacity.specs.TierLimits.{TiersWithin};
 ghost use Rattle.rate_book.specs.BookLimits.{BookWithin};
 ghost use Rattle.book_zones.specs.ZoneLimits.{RatesWithin};
 ghost use Rattle.request.specs.RequestLimits.{RequestWithin};
 ghost use Rattle.field_values.specs.Limits.{most_zones, highest_revenue};
 ghost use Rattle.revenue.specs.RevenueLimits.{highest_incremental_revenue};
-ghost use Rattle.revenue.specs.Revenue.{StreamWithin};
-ghost use Rattle.charge.specs.Price.{zone_found, distribution_of, transmission_of, incremental_revenue_of, bill_of, values_priced, request_priced, price_of, ZoneBelow};
+ghost use Rattle.revenue.specs.StreamLimits.{StreamWithin};
+ghost use Rattle.charge.specs.Price.{zone_found, distribution_of, transmission_of, incremental_revenue_of, bill_of, values_priced, request_priced, price_of};
+ghost use Rattle.charge.specs.ZonePlaces.{ZoneBelow};
 
 use book_zones::zones::BookFields;
 use capacity::Tiers;

@@ -5,7 +5,7 @@ use Rattle.tagged.specs.Refusals.{no_such_entry, ledger_unsound}
 use Rattle.tagged.specs.declared.file.Refusal.{Refusal}
 use Rattle.ledger.specs.Records.{no_party}
 use Rattle.ledger.specs.Books.{books_of}
-use Rattle.ledger.specs.Lookup.{entry_place}
+use Rattle.ledger.specs.EntryPlace.{entry_place}
 use Rattle.ledger.specs.Sound.{sound}
 use Rattle.ledger.specs.Updates.{with_person, with_paid_out}
 use Rattle.ledger.specs.declared.records.Party.{Party}

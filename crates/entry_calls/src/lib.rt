@@ -5,7 +5,7 @@
 ghost use Rattle.std.specs.Prelude.{◌≡◌, length, take, Some, None, MatchResult};
 ghost use Rattle.tagged.specs.File.{refusal};
 ghost use Rattle.tagged.specs.Refusals.{no_such_entry};
-ghost use Rattle.ledger.specs.Lookup.{entry_place};
+ghost use Rattle.ledger.specs.EntryPlace.{entry_place};
 ghost use Rattle.calls.specs.Calls.{state_of, Promised};
 ghost use Rattle.calls.specs.Decision.{pay_out, hand_over, of_entry_call};
 ghost use Rattle.entry_calls.specs.EntryCalls.{entry_change, changed_table};

@@ -13,7 +13,8 @@ use lib.Dec.{ltb, eqb}
 use borrow.Author.Tests.{eqb-true}
 use Rattle.numbers.specs.BigEndian.{number_at}
 use Rattle.tagged.proofs.Theorems.Walk.{by_test}
-use Rattle.field_values.specs.Judged.{width_of, within, judge_numbers, narrow}
+use Rattle.field_values.specs.Judged.{width_of, within, judge_numbers}
+use Rattle.field_values.specs.Narrow.{narrow}
 
 module _ (limits : List (List ℕ)) (k : ℕ) where
   pub numbers_at : (at : ℕ) (value : List ℕ) (offset : ℕ) → k < length limits →

@@ -1,5 +1,5 @@
 -- What holds of a factor list that passes: document 01, "1 to 8 of 2 bytes, each 0 to 40,000".
-use Rattle.std.specs.Prelude.{ℕ, ◌≤◌, get_or}
+use Rattle.std.specs.Prelude.{ℕ, ◌≤◌, get_or, ◌*◌, ◌%◌, ◌≡◌, List, length}
 use Rattle.field_values.specs.Limits.{most_factors, highest_factor}
 use Rattle.field_values.specs.declared.factors.Factors.{Factors}
 
@@ -7,3 +7,7 @@ pub record FactorsWithin (list : Factors) : Type 0 where
   pub least : 1 ≤ list.count
   pub most : list.count ≤ most_factors
   pub each : (k : ℕ) → get_or list.values k 0 ≤ highest_factor
+
+-- the bytes of a list of 1 to 8 factors
+abbrev pub FactorBytes : List ℕ → Type 0
+FactorBytes value = (2 ≤ length value) × (length value ≤ 2 * most_factors) × (length value % 2 ≡ 0)

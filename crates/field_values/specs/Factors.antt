@@ -1,6 +1,6 @@
 -- Document 01, 'Rate book', 04 and 05: "distribution and transmission revenue factors, 1 to 8 of 2 bytes, each 0 to 40,000"; 'Request', 09, 0A and 0B:
 -- "part-year, distribution tariff and transmission tariff factors, as in 04".
-use Rattle.std.specs.Prelude.{ℕ, ◌+◌, ◌*◌, ◌/◌, ◌%◌, ◌≤◌, ◌≡◌, List, [], ◌∷◌, cond, length, replicate, leb}
+use Rattle.std.specs.Prelude.{ℕ, ◌+◌, ◌/◌, List, [], ◌∷◌, cond, length, replicate, leb}
 use Rattle.numbers.specs.BigEndian.{number_at}
 use Rattle.tagged.specs.Find.{field_value}
 use Rattle.field_values.specs.Limits.{most_factors, highest_factor}
@@ -10,10 +10,6 @@ use Rattle.field_values.specs.declared.factors.Factors.{Factors}
 -- "1 to 8 of 2 bytes, each 0 to 40,000"
 abbrev pub factor_limits : List (List ℕ)
 factor_limits = replicate most_factors (2 ∷ 0 ∷ highest_factor ∷ [])
-
--- the bytes of a list of 1 to 8 factors
-abbrev pub FactorBytes : List ℕ → Type 0
-FactorBytes value = (2 ≤ length value) × (length value ≤ 2 * most_factors) × (length value % 2 ≡ 0)
 
 abbrev pub judge_factors : ℕ → List ℕ → Judged
 judge_factors tag s = judge_field factor_limits tag s

@@ -39,13 +39,6 @@ judge_numbers (limit ∷ limits) at value =
 abbrev pub judge_field : List (List ℕ) → ℕ → List ℕ → Judged
 judge_field limits tag s = judge_numbers limits (field_start tag s) (field_value tag s)
 
--- numbers are 1, 2 or 4 bytes wide
-unfoldable pub narrow : List (List ℕ) → Bool
-narrow [] = true
-narrow (limit ∷ limits) =
-    cond (eqb (width_of limit) 1) (narrow limits)
-    (cond (eqb (width_of limit) 2) (narrow limits) (cond (eqb (width_of limit) 4) (narrow limits) false))
-
 unfoldable pub same_bytes : List ℕ → List ℕ → Bool
 same_bytes [] [] = true
 same_bytes [] (b ∷ bs) = false

@@ -77,7 +77,3 @@ highest_mark = 2
 -- month and scheme joined take any value of their two bytes
 abbrev pub highest_of_two_bytes : ℕ
 highest_of_two_bytes = 65535
-
--- "five pairs of 4-byte figures": a sum of five is below 5 × 2^32
-abbrev pub sums_below : ℕ
-sums_below = 21474836480

@@ -17,7 +17,7 @@ pub struct Factors {
 
 const FACTOR_LIMITS: [Limit; MOST_FACTORS] = [[2, 0, HIGHEST_FACTOR]; MOST_FACTORS];
 
-#[tactic(auto, unfolding(crate::specs::Judged::narrow))]
+#[tactic(auto, unfolding(crate::specs::Narrow::narrow))]
 pub fn judge_factors(fields: &[u8], tag: u8) -> Judged
     ensures { result ≡ judge_factors tag fields.now }
 {

@@ -1,7 +1,8 @@
 // Whether values are as document 01, 'Rate book' or 'Request', lists them: the first that isn't gives the place.
 ghost use Rattle.std.specs.Prelude.{◌≡◌, true, ◌⊎◌, ◌+◌, ◌<◌, ◌≤◌, ◌^◌, length};
 ghost use Rattle.numbers.specs.BigEndian.{number_at};
-ghost use Rattle.field_values.specs.Judged.{judge, judge_numbers, judge_field, judge_letters, same_bytes, narrow};
+ghost use Rattle.field_values.specs.Judged.{judge, judge_numbers, judge_field, judge_letters, same_bytes};
+ghost use Rattle.field_values.specs.Narrow.{narrow};
 
 use numbers::big_endian::BigEndian;
 

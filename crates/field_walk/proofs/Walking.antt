@@ -4,7 +4,8 @@ use mathlib.Core.List.{List}
 use Prim.Native.Nat.{ℕ, ◌+◌, ◌≤◌}
 use lib.ListN.{length}
 use Rattle.field_walk.specs.declared.walk.Front.TheVariants.{Field}
-use Rattle.field_walk.specs.Walk.{front_of, walk_from, walk_by, walked, Walk, fields, stops, and_then, FieldAt}
+use Rattle.field_walk.specs.Walk.{front_of, walk_from, walk_by, Walk, fields, stops, and_then, FieldAt}
+use Rattle.field_walk.specs.Walked.{walked}
 use Rattle.field_walk.proofs.Rest.{rest_from, rest_from_drop, SoFar, one_field_on}
 
 abbrev pub WalkSoFar : List (List ℕ) → List ℕ → List ℕ → ℕ → ℕ → ℕ → Type 0

@@ -1,2 +1,4 @@
 pub mod Walk
+pub mod WalkSteps
+pub mod Walked
 pub mod Cases

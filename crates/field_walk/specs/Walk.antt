@@ -2,14 +2,10 @@
 -- tag order, except where a count is given. Its permitted lengths stand in one constant table for each kind of file."
 -- A kind of file is its rows; the walk is one definition over any rows. It sees the file without the last five bytes, the field FF.
 -- A kind may have files of two forms: a row of one form permits its field in files of that form alone.
-use Rattle.std.specs.Prelude.{ℕ, zero, suc, ◌+◌, ◌-◌, ◌%◌, ◌<◌, ◌≤◌, ◌≡◌, List, [], ◌∷◌, map, Bool, true, false, cond, length, get_or, take, drop, ltb, leb, eqb, Err, Ok, Result, Some, None, Option}
+use Rattle.std.specs.Prelude.{ℕ, zero, suc, ◌+◌, ◌-◌, ◌%◌, List, [], ◌∷◌, map, Bool, true, false, cond, length, get_or, take, drop, ltb, leb, eqb, Some, None, Option}
 use Rattle.numbers.specs.BigEndian.{number_at}
 use Rattle.field_walk.specs.declared.walk.Front.{Front}
 use Rattle.field_walk.specs.declared.walk.Front.TheVariants.{End, Field, CannotStand}
-
--- what the code answers of a walk: every field stands, or the offset of the first that can't
-abbrev pub Walked : Type 0
-Walked = Result (Unit {0}) ℕ
 
 -- A row: tag, lowest, highest and step of length, how often at least and at most, and the form that it is of: 0 for both.
 abbrev pub tag_of : List ℕ → ℕ
@@ -144,22 +140,3 @@ by_forms (stops at) (stops at') (stops _) = stops (cond (ltb at at') at' at)
 
 abbrev pub walk : List (List ℕ) → List ℕ → Walk
 walk rows s = by_forms (walk_by (rows_in first_form rows) s) (walk_by (rows_in second_form rows) s) (walk_by (rows_in neither_form rows) s)
-
--- the fields walk
-abbrev pub FieldsWalk : List (List ℕ) → List ℕ → Type 0
-FieldsWalk rows s = (fs : List FieldAt) × (walk rows s ≡ fields fs)
-
--- what the code answers of a walk
-abbrev pub walked : Walk → Walked
-walked (fields fs) = Ok tt
-walked (stops at) = Err at
-
--- What callers of the steps need besides: a row that is due is one of the table's, and a field ends within the rest.
-abbrev pub RowBelow : ℕ → Due → Type 0
-RowBelow size None = Unit {0}
-RowBelow size (Some (k, n)) = k < size
-
-abbrev pub EndsWithin : ℕ → Front → Type 0
-EndsWithin size End = Unit {0}
-EndsWithin size (Field k n len) = len + 3 ≤ size
-EndsWithin size CannotStand = Unit {0}

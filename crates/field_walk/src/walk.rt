@@ -1,6 +1,8 @@
 // The walk over a file's fields: one walker for every kind of file, by the rows that it is handed.
 ghost use Rattle.std.specs.Prelude.{◌≡◌, length, drop};
-ghost use Rattle.field_walk.specs.Walk.{least_of, most_of, in_form, row_in, rows_in, due_from, all_had, permitted_by, front_of, walk_by, walk, walked, RowBelow, EndsWithin};
+ghost use Rattle.field_walk.specs.Walk.{least_of, most_of, in_form, row_in, rows_in, due_from, all_had, permitted_by, front_of, walk_by, walk};
+ghost use Rattle.field_walk.specs.WalkSteps.{RowBelow, EndsWithin};
+ghost use Rattle.field_walk.specs.Walked.{walked};
 
 use numbers::big_endian::BigEndian;
 use std::cmp::max;

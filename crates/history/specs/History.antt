@@ -1,8 +1,8 @@
 -- The history of a list of calls: what they come to by document 01's rules, from the calls and the table's length alone. No ledger and no table is read.
 -- One list for each kind of thing, the newest first; schemes and entries go by their numbers.
-use Rattle.std.specs.Prelude.{ℕ, ◌+◌, ◌*◌, ◌-◌, List, [], ◌∷◌, map, Bool, true, false, cond, length, eqb}
+use Rattle.std.specs.Prelude.{ℕ, ◌+◌, ◌*◌, ◌-◌, List, [], ◌∷◌, map, Bool, true, false, cond, length, eqb, filter}
 use Rattle.charge.specs.declared.Bill.{Bill}
-use Rattle.ledger.specs.Lists.{keep, oldest_first, sum_by, at_start}
+use Rattle.ledger.specs.Lists.{oldest_first, sum_by, at_start}
 use Rattle.ledger.specs.Records.{new_ledger}
 use Rattle.ledger.specs.Books.{SchemeParticulars, EntryParticulars, Books}
 use Rattle.ledger.specs.declared.records.Scheme.{Scheme}
@@ -48,10 +48,10 @@ pub record Account : Type 0 where
   pub paid : List Payment
 
 abbrev pub enterings_of : ℕ → List Entering → List Entering
-enterings_of s entered = keep (λ e. eqb e.scheme s) entered
+enterings_of s entered = filter (λ e. eqb e.scheme s) entered
 
 abbrev pub payments_of : ℕ → List Payment → List Payment
-payments_of s paid = keep (λ p. eqb p.scheme s) paid
+payments_of s paid = filter (λ p. eqb p.scheme s) paid
 
 abbrev pub account_of : ℕ → History → Account
 account_of s history = record { entered = enterings_of s history.entered; paid = payments_of s history.paid }
@@ -121,7 +121,7 @@ cost_entered history = sum_by (λ bill. bill.reconciliation.entered) history.bil
 
 -- ---- what the rules read
 abbrev pub openings : List Entering → List Entering
-openings entered = keep (λ e. e.opens) entered
+openings entered = filter (λ e. e.opens) entered
 
 -- how often this number was given
 abbrev pub times : {A : Type 0} → (A → ℕ) → ℕ → List A → ℕ

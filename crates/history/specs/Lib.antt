@@ -1,8 +1,6 @@
 pub mod History
 pub mod Fair
 pub mod DemandThree
-pub mod AnswersJoined
-pub mod CountedByAnswers
 pub mod SoundHistory
 pub mod Split
 pub mod ShownState

@@ -2,7 +2,7 @@
 use Rattle.std.specs.Prelude.{ℕ, ◌≡◌, get_or}
 use Rattle.ledger.specs.Records.{no_party}
 use Rattle.ledger.specs.Books.{EntryParticulars, entry_particulars}
-use Rattle.ledger.specs.Lookup.{Placed}
+use Rattle.ledger.specs.EntryPlace.{Placed}
 use Rattle.calls.specs.Carried.{State}
 
 -- ---- an entry that the books show, by its place

@@ -1,7 +1,7 @@
 -- What every rule reads, wherever it is kept: a ledger and its table give it, and so does the history of the calls. Schemes and entries go by their
 -- numbers. A figure of a scheme is taken over that scheme's own rows: restrict first, then compute.
-use Rattle.std.specs.Prelude.{ℕ, ◌+◌, List, length, take, eqb}
-use Rattle.ledger.specs.Lists.{keep, numbered_from, Found, first}
+use Rattle.std.specs.Prelude.{ℕ, ◌+◌, List, length, take, eqb, find, Option, filter}
+use Rattle.ledger.specs.Lists.{numbered_from}
 use Rattle.ledger.specs.declared.records.Scheme.{Scheme}
 use Rattle.ledger.specs.declared.records.Party.{Party}
 use Rattle.ledger.specs.declared.records.Ledger.{Ledger}
@@ -37,15 +37,15 @@ pub record Books : Type 0 where
   pub entries : List EntryParticulars
 
 -- ---- by number
-abbrev pub scheme_at : Books → ℕ → Found SchemeParticulars
-scheme_at books s = first (keep (λ row. eqb row.number s) books.schemes)
+abbrev pub scheme_at : Books → ℕ → Option SchemeParticulars
+scheme_at books s = find (λ row. eqb row.number s) books.schemes
 
-abbrev pub entry_at : Books → ℕ → Found EntryParticulars
-entry_at books e = first (keep (λ row. eqb e row.number) books.entries)
+abbrev pub entry_at : Books → ℕ → Option EntryParticulars
+entry_at books e = find (λ row. eqb e row.number) books.entries
 
 -- the entries of scheme s
 abbrev pub of_scheme : ℕ → List EntryParticulars → List EntryParticulars
-of_scheme s rows = keep (λ row. eqb row.scheme s) rows
+of_scheme s rows = filter (λ row. eqb row.scheme s) rows
 
 -- ---- as a ledger and its table show them: schemes and entries are "numbered from 1"
 abbrev pub scheme_particulars : ℕ → Scheme → SchemeParticulars

@@ -1,14 +1,11 @@
 -- The rules go over columns, one number for each entry, wherever the entries are kept: the number of its scheme, its capacity, what it put in, was
 -- credited and was paid out.
 use Rattle.std.specs.Prelude.{ℕ, ◌+◌, cond, eqb}
-use mathlib.Core.List.{List, [], ◌∷◌, map, foldr}
+use mathlib.Core.List.{List, [], ◌∷◌, map}
 use Rattle.ledger.specs.declared.records.Party.{Party}
 
 abbrev pub scheme_column : List Party → List ℕ
 scheme_column parties = map (λ party. party.scheme) parties
-
-abbrev pub capacity_column : List Party → List ℕ
-capacity_column parties = map (λ party. party.capacity) parties
 
 abbrev pub put_in_column : List Party → List ℕ
 put_in_column parties = map (λ party. party.put_in) parties
@@ -19,19 +16,11 @@ credited_column parties = map (λ party. party.credited) parties
 abbrev pub ones_column : List Party → List ℕ
 ones_column parties = map (λ party. 1) parties
 
--- the sum of a column
-abbrev pub sum_of : List ℕ → ℕ
-sum_of figures = foldr ◌+◌ 0 figures
-
 -- the sum of a column over the entries of scheme s
 unfoldable pub sum_over : ℕ → List ℕ → List ℕ → ℕ
 sum_over s [] figures = 0
 sum_over s (scheme ∷ schemes) [] = 0
 sum_over s (scheme ∷ schemes) (figure ∷ figures) = cond (eqb scheme s) figure 0 + sum_over s schemes figures
-
--- K, the capacity of all parties of scheme s
-abbrev pub capacity_of : ℕ → List ℕ → List ℕ → ℕ
-capacity_of s schemes capacities = sum_over s schemes capacities
 
 -- how many entries a scheme has, and what its first put in; 0 where it has none
 abbrev pub entries_of : ℕ → List Party → ℕ

@@ -1,13 +1,16 @@
 pub mod Lists
 pub mod Books
 pub mod Columns
+pub mod CapacityColumns
 pub mod Limits
 pub mod Records
 pub mod Updates
 pub mod Table
 pub mod Lookup
+pub mod EntryPlace
 pub mod Sound
 pub mod RefusalNumbers
+pub mod NumberLists
 pub mod SoundConditions
 pub mod Tallied
 pub mod Cases

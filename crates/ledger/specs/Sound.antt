@@ -3,7 +3,7 @@
 -- after the last month; places past the last scheme hold zeros; each entry's scheme exists, each scheme has an entry and its first put in its cost; paid
 -- out is at most credited, fees = fee × (entries − 1), and cost + fees = the sum of put in less credited." 13 also where the table is shorter than its entries.
 -- "as in 0C" of a request: capacity 1 to 1,000,000; "as in 06" of a rate book: fee at most the minimum, minimum at most 1,000,000,000, term at least 84.
-use Rattle.std.specs.Prelude.{ℕ, suc, ◌+◌, ◌*◌, ◌-◌, List, [], ◌∷◌, Bool, true, false, cond, take, drop, leb, eqb, None, Option, Some}
+use Rattle.std.specs.Prelude.{ℕ, suc, ◌+◌, ◌*◌, ◌-◌, List, [], ◌∷◌, Bool, true, false, cond, take, drop, leb, eqb, is_some}
 use Rattle.field_values.specs.Limits.{highest_minimum, lowest_term, lowest_capacity, highest_capacity}
 use Rattle.ledger.specs.Limits.{most_schemes, most_entries, most_connections, highest_put_in, highest_credited, highest_sum}
 use Rattle.ledger.specs.Columns.{scheme_column, put_in_column, credited_column, sum_over, entries_of, first_put_in}
@@ -25,20 +25,13 @@ counts_within ledger in_table = leb ledger.count most_schemes ∷ leb ledger.ent
 abbrev pub counts_sound : Ledger → ℕ → Bool
 counts_sound ledger room = all_hold (counts_within ledger (leb ledger.entries room))
 
-abbrev pub sums_within : Ledger → List Bool
-sums_within ledger =
-    leb ledger.connections most_connections ∷
+abbrev pub sums_sound : Ledger → Bool
+sums_sound ledger =
+    all_hold
+    (leb ledger.connections most_connections ∷
     leb ledger.charged (highest_sum * ledger.connections) ∷
     leb ledger.borne (highest_sum * ledger.connections) ∷
-    []
-
-abbrev pub sums_sound : Ledger → Bool
-sums_sound ledger = all_hold (sums_within ledger)
-
--- "each entry's scheme exists"
-abbrev pub has_place : Option ℕ → Bool
-has_place (Some k) = true
-has_place None = false
+    [])
 
 -- an entry's capacity and amounts
 abbrev pub figures_within : Party → List Bool
@@ -50,9 +43,9 @@ figures_within party =
     leb party.paid_out party.credited ∷
     []
 
--- an entry, where there are so many schemes
+-- an entry, where there are so many schemes: "each entry's scheme exists"
 abbrev pub party_sound : ℕ → Party → Bool
-party_sound count party = all_hold (has_place (scheme_place count party.scheme) ∷ figures_within party)
+party_sound count party = all_hold (is_some (scheme_place count party.scheme) ∷ figures_within party)
 
 unfoldable pub parties_sound : ℕ → List Party → Bool
 parties_sound count [] = true
@@ -69,9 +62,10 @@ tally_of s parties =
     }
 
 -- a scheme's terms and accounts; no subtraction, since a party's credited can exceed what it put in
-abbrev pub accounts_hold : ℕ → Scheme → Tally → List Bool
-accounts_hold month scheme tally =
-    leb scheme.fee scheme.minimum ∷
+abbrev pub accounts_sound : ℕ → Scheme → Tally → Bool
+accounts_sound month scheme tally =
+    all_hold
+    (leb scheme.fee scheme.minimum ∷
     leb scheme.minimum highest_minimum ∷
     leb lowest_term scheme.term ∷
     leb scheme.opening month ∷
@@ -79,10 +73,7 @@ accounts_hold month scheme tally =
     eqb tally.first scheme.cost ∷
     eqb scheme.fees (scheme.fee * (tally.entries - 1)) ∷
     eqb (scheme.cost + scheme.fees + tally.credited) tally.put_in ∷
-    []
-
-abbrev pub accounts_sound : ℕ → Scheme → Tally → Bool
-accounts_sound month scheme tally = all_hold (accounts_hold month scheme tally)
+    [])
 
 abbrev pub scheme_sound : ℕ → List Party → ℕ → Scheme → Bool
 scheme_sound month parties s scheme = accounts_sound month scheme (tally_of s parties)
@@ -92,18 +83,16 @@ unfoldable pub schemes_sound : ℕ → List Party → ℕ → List Scheme → Bo
 schemes_sound month parties s [] = true
 schemes_sound month parties s (scheme ∷ schemes) = cond (scheme_sound month parties s scheme) (schemes_sound month parties (suc s) schemes) false
 
-abbrev pub zeros : Scheme → List Bool
-zeros scheme =
-    eqb scheme.cost 0 ∷
+abbrev pub is_zero : Scheme → Bool
+is_zero scheme =
+    all_hold
+    (eqb scheme.cost 0 ∷
     eqb scheme.fee 0 ∷
     eqb scheme.minimum 0 ∷
     eqb scheme.opening 0 ∷
     eqb scheme.term 0 ∷
     eqb scheme.fees 0 ∷
-    []
-
-abbrev pub is_zero : Scheme → Bool
-is_zero scheme = all_hold (zeros scheme)
+    [])
 
 unfoldable pub all_zero : List Scheme → Bool
 all_zero [] = true

@@ -4,7 +4,8 @@ use Rattle.std.proofs.Common.{sym, ◌∙◌, arith, drop-drop}
 use Rattle.std.specs.Int.{w16, w32, w64, to_be_bytes}
 use Rattle.std.proofs.lemmas.Nat.{be_bytes_2, be_bytes_4, be_bytes_8}
 use borrow.Rule.Slice.PartMut.{put_mid}
-use Rattle.numbers.specs.BigEndian.{number, number_at, bytes_of, written}
+use Rattle.numbers.specs.BigEndian.{number, number_at, bytes_of}
+use Rattle.numbers.specs.Written.{written}
 use Rattle.numbers.proofs.Theorems.BigEndian.{number_at_one, number_at_add, length_bytes_of, bytes_of_bytes, number_of_bytes_of}
 
 -- ---- read

@@ -1,6 +1,6 @@
 -- Document 01, 'How things are counted': "Files are big endian." Numbers in a file.
-use Rattle.std.specs.Prelude.{ℕ, zero, suc, ◌+◌, ◌*◌, ◌/◌, ◌%◌, ◌^◌, ◌<◌, length, get_or, take, drop}
-use mathlib.Core.List.{List, [], ◌∷◌, ◌++◌, foldl}
+use Rattle.std.specs.Prelude.{ℕ, zero, suc, ◌+◌, ◌*◌, ◌/◌, ◌%◌, ◌^◌, ◌<◌, get_or, take, drop}
+use mathlib.Core.List.{List, [], ◌∷◌, foldl}
 
 -- every element of the list is a byte
 abbrev pub Bytes : List ℕ → Type 0
@@ -18,7 +18,3 @@ number_at s at width = number (take width (drop at s))
 unfoldable pub bytes_of : ℕ → ℕ → List ℕ
 bytes_of zero n = []
 bytes_of (suc width) n = n / 256 ^ width ∷ bytes_of width (n % 256 ^ width)
-
--- `out` with these bytes from a place on, and the rest left alone
-unfoldable pub written : List ℕ → ℕ → List ℕ → List ℕ
-written out at bytes = take at out ++ (bytes ++ drop (at + length bytes) out)

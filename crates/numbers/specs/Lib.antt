@@ -1,4 +1,5 @@
 pub mod BigEndian
+pub mod Written
 pub mod Check
 pub mod CheckWords
 pub mod Cases

@@ -1,6 +1,7 @@
 // Big-endian numbers of 1, 2, 4 and 8 bytes, read at a place of a slice and written into a lent one.
 ghost use Rattle.std.specs.Prelude.{◌≡◌, ◌+◌, ◌≤◌, ℕ, length};
-ghost use Rattle.numbers.specs.BigEndian.{number_at, bytes_of, written};
+ghost use Rattle.numbers.specs.BigEndian.{number_at, bytes_of};
+ghost use Rattle.numbers.specs.Written.{written};
 
 use std::array;
 

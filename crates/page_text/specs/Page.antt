@@ -1,6 +1,6 @@
 -- Document 02, E1, "The reconciliation as a page": the bytes that are written for a pricing.
-use Rattle.std.specs.Prelude.{ℕ, zero, suc, ◌+◌, ◌-◌, ◌/◌, ◌%◌, ◌≡◌, cond, length, drop, replicate, ltb, ℤ, pos, negsuc, Err, Ok, Result}
-use mathlib.Core.List.{List, [], ◌∷◌, ◌++◌, map, flatten}
+use Rattle.std.specs.Prelude.{ℕ, zero, suc, ◌+◌, ◌-◌, ◌/◌, ◌%◌, cond, length, drop, replicate, ltb, ℤ, pos, negsuc, Err, Ok, Result}
+use mathlib.Core.List.{List, [], ◌∷◌, ◌++◌, flatten}
 use Rattle.tagged.specs.File.{refusal}
 use Rattle.tagged.specs.Refusals.{output_too_short}
 use Rattle.reconciliation.specs.declared.Reconciliation.{Reconciliation}
@@ -71,10 +71,6 @@ page_lines r =
 unfoldable pub page_of : Reconciliation → List ℕ
 page_of r = flatten (page_lines r)
 
--- "12 lines of 64 bytes"
-abbrev pub line_size : ℕ
-line_size = 64
-
 abbrev pub page_size : ℕ
 page_size = 768
 
@@ -87,7 +83,3 @@ unfoldable pub page_output : Pricing → List ℕ → List ℕ
 page_output (Err r) out = out
 page_output (Ok bill) out =
     cond (ltb (length out) page_size) out (page_of bill.reconciliation ++ drop page_size out)
-
--- so many lines of 64 bytes
-abbrev pub Lines : ℕ → List (List ℕ) → Type 0
-Lines n lines = map length lines ≡ replicate n line_size

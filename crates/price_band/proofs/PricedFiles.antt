@@ -1,7 +1,7 @@
 -- Book and request of a request that is priced: their fields walk, the values read are within their limits, and with the bill's costs they make the band.
 use Rattle.std.proofs.Common.{ℕ, List, ◌≡◌, Ok, subst, ap₂, ◌∙◌}
 use Rattle.numbers.specs.BigEndian.{Bytes}
-use Rattle.field_walk.specs.Walk.{FieldsWalk}
+use Rattle.field_walk.specs.Walked.{FieldsWalk}
 use Rattle.tagged.specs.File.{fields_part}
 use Rattle.book_zones.specs.BookRows.{book_rows}
 use Rattle.rate_book.specs.Book.{book_values}
@@ -15,7 +15,7 @@ use Rattle.request.specs.RequestRows.{request_rows}
 use Rattle.request.proofs.Theorems.Request.{request_walks, read_accepted, request_is_values}
 use Rattle.request.proofs.Theorems.RequestLimits.{request_within_limits}
 use Rattle.request.specs.declared.values.Request.{Request}
-use Rattle.reconciliation.specs.FigureLimits.{CostsWithin}
+use Rattle.reconciliation.specs.CostLimits.{CostsWithin}
 use Rattle.reconciliation.specs.declared.Costs.{Costs}
 use Rattle.charge.specs.Price.{price_of}
 use Rattle.charge.proofs.Theorems.Bill.{PricedBy, priced_by}

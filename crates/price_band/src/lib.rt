@@ -6,7 +6,7 @@ ghost use Rattle.std.specs.Prelude.{◌≡◌, true, ◌≤◌};
 ghost use Rattle.field_values.specs.Limits.{highest_revenue};
 ghost use Rattle.rate_book.specs.BookLimits.{BookWithin};
 ghost use Rattle.request.specs.RequestLimits.{RequestWithin};
-ghost use Rattle.reconciliation.specs.FigureLimits.{CostsWithin};
+ghost use Rattle.reconciliation.specs.CostLimits.{CostsWithin};
 ghost use Rattle.charge.specs.Price.{price_of};
 ghost use Rattle.price_band.specs.PriceBand.{within_limits, low_to_high, band_between, band_at_ends, band_of};
 ghost use Rattle.price_band.specs.EndCosts.{end_costs, end_reconciliation};

@@ -8,10 +8,10 @@
 // these steps through every year, with the book's and the request's own factors, and never looks at
 // a computed figure. Every division here rounds up.
 ghost use Rattle.std.specs.Prelude.{◌<◌, ◌≤◌};
-ghost use Rattle.field_values.specs.Limits.{tier_count, highest_factor, highest_share, sums_below};
+ghost use Rattle.field_values.specs.Limits.{tier_count, highest_factor, highest_share};
+ghost use Rattle.field_values.specs.SumLimits.{sums_below};
 ghost use Rattle.discount.specs.DiscountLimits.{highest_discount};
-ghost use Rattle.revenue.specs.RevenueLimits.{longest_life};
-ghost use Rattle.revenue.specs.Revenue.{StreamWithin};
+ghost use Rattle.revenue.specs.StreamLimits.{longest_life, StreamWithin};
 ghost use Rattle.rate_book.specs.BookLimits.{BookWithin};
 ghost use Rattle.request.specs.RequestLimits.{RequestWithin};
 ghost use Rattle.printed_figures.specs.Tolerance.{limit};

@@ -5,7 +5,7 @@ use Rattle.charge.specs.Price.{price_of}
 use Rattle.charge.specs.declared.Bill.{Bill}
 use Rattle.ledger.specs.RefusalNumbers.{one_of}
 use Rattle.slip_text.specs.Slip.{slip_written}
-use Rattle.stored.specs.Reading.{reading_numbers}
+use Rattle.stored.specs.StoredNumbers.{reading_numbers}
 use Rattle.stored_calls.specs.StoredCalls.{new_stored_of, stored_call_of, check_stored_of}
 use Rattle.stored_calls.specs.StoredRefusals.{is_made, stored_numbers}
 use Rattle.stored_calls.specs.declared.StoredCounts.{StoredCounts}

@@ -1,6 +1,7 @@
 -- How long a book's values are, where its fields walk.
 use Rattle.std.specs.Prelude.{◌≡◌, List, ℕ, length, Ok}
-use Rattle.field_walk.specs.Walk.{walk, walked}
+use Rattle.field_walk.specs.Walk.{walk}
+use Rattle.field_walk.specs.Walked.{walked}
 use Rattle.tagged.specs.Find.{field_value}
 use Rattle.book_zones.specs.BookRows.{book_rows}
 use Rattle.book_zones.proofs.Theorems.ZoneFields.{fields_walk}

@@ -1,6 +1,7 @@
 -- A book's values within document 01's limits.
 use Rattle.std.specs.Prelude.{ℕ, ◌+◌, ◌<◌, ◌≤◌, ◌≡◌, length, get_or}
-use Rattle.field_values.specs.Limits.{most_zones, highest_discount_rate, sums_below, highest_threshold, highest_minimum, lowest_term, highest_share}
+use Rattle.field_values.specs.Limits.{most_zones, highest_discount_rate, highest_threshold, highest_minimum, lowest_term, highest_share}
+use Rattle.field_values.specs.SumLimits.{sums_below}
 use Rattle.field_values.specs.FactorLimits.{FactorsWithin}
 use Rattle.rate_book.specs.declared.book.Book.{Book}
 

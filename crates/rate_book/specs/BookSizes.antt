@@ -1,7 +1,7 @@
 -- The lengths of the values of a book that walks, as its rows give them.
 use Rattle.std.specs.Prelude.{ℕ, ◌+◌, ◌≤◌, ◌≡◌, List, length}
 use Rattle.tagged.specs.Find.{field_value, field_start}
-use Rattle.field_values.specs.Factors.{FactorBytes}
+use Rattle.field_values.specs.FactorLimits.{FactorBytes}
 
 pub record BookSizes (s : List ℕ) : Type 0 where
   pub rate : length (field_value 2 s) ≡ 2

@@ -44,7 +44,7 @@ pub struct Book {
 }
 
 // The first value, in byte order, that isn't as listed.
-#[tactic(auto, unfolding(field_values::specs::Judged::narrow))]
+#[tactic(auto, unfolding(field_values::specs::Narrow::narrow))]
 fn judge_book(book: BookFields, rates: Rates) -> Judged
     requires { rates ≡ zone_rates book.fields.now }
     ensures { result ≡ judge_book book.entry.fields.now }

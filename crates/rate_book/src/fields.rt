@@ -1,7 +1,7 @@
 // The fields of a rate book one by one: the limits on a field's values, and its reader. The two lists
 // of factors have theirs in `field_values`, the zones in `book_zones`.
 ghost use Rattle.std.specs.Prelude.{◌≡◌, ◌+◌, ◌<◌, ◌≤◌, length};
-ghost use Rattle.field_values.specs.Limits.{sums_below};
+ghost use Rattle.field_values.specs.SumLimits.{sums_below};
 ghost use Rattle.rate_book.specs.Fields.{rate_in, sum_from, sums_in, judge_sums, terms_in, judge_terms, charging_in};
 
 use book_zones::zones::BookFields;

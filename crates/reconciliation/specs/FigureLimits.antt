@@ -4,16 +4,7 @@ use Rattle.field_values.specs.Limits.{highest_amount}
 use Rattle.revenue.specs.RevenueLimits.{highest_incremental_revenue}
 use Rattle.capacity.specs.CapacityLimits.{highest_capacity_cost}
 use Rattle.reconciliation.specs.declared.Reconciliation.{Reconciliation}
-use Rattle.reconciliation.specs.declared.Costs.{Costs}
 use Rattle.reconciliation.specs.Percent.{Percent}
-
--- 2⁶³: an amount below it fits 64 bits with a sign
-abbrev pub signed_below : ℕ
-signed_below = 9223372036854775808
-
--- 200 times an amount below it, and another one, fit 64 bits
-abbrev pub percent_below : ℕ
-percent_below = 10000000000000000
 
 -- IC: ME, CE, TW, HR and OL, with MC and CC2
 abbrev pub highest_incremental_cost : ℕ
@@ -22,17 +13,6 @@ highest_incremental_cost = 5 * highest_amount + 2 * highest_capacity_cost
 -- IC, and CC + IR, which percentages are divided by
 abbrev pub highest_divisor : ℕ
 highest_divisor = highest_incremental_cost + highest_incremental_revenue
-
--- what an accepted book and request give of the costs
-pub record CostsWithin (costs : Costs) : Type 0 where
-  pub me : costs.me ≤ highest_amount
-  pub mc : costs.mc ≤ highest_capacity_cost
-  pub ce : costs.ce ≤ highest_amount
-  pub cc2 : costs.cc2 ≤ highest_capacity_cost
-  pub de : costs.de ≤ highest_amount
-  pub tw : costs.tw ≤ highest_amount
-  pub hr : costs.hr ≤ highest_amount
-  pub ol : costs.ol ≤ highest_amount
 
 -- a percentage is at most so many percent, up or down, rounded to the nearest as well as down
 abbrev pub PercentWithin : ℕ → Percent → Type 0

@@ -1,5 +1,6 @@
 pub mod ExactPercent
 pub mod FigureLimits
+pub mod CostLimits
 pub mod Figures
 pub mod Percent
 pub mod Reconciliation

@@ -1,7 +1,8 @@
 -- How long a request's values are, where its fields walk.
 use Rattle.std.specs.Prelude.{◌≡◌, List, ℕ, length, Ok, None, Some}
 use Rattle.std.proofs.Common.{subst}
-use Rattle.field_walk.specs.Walk.{walk, walked}
+use Rattle.field_walk.specs.Walk.{walk}
+use Rattle.field_walk.specs.Walked.{walked}
 use Rattle.tagged.specs.Find.{first_place, field_value}
 use Rattle.tagged.specs.declared.find.Place.{Place}
 use Rattle.request.specs.RequestRows.{request_rows}

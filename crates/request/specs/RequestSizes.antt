@@ -2,7 +2,7 @@
 use Rattle.std.specs.Prelude.{ℕ, ◌≡◌, List, length, None, Some, Option}
 use Rattle.tagged.specs.Find.{first_place, field_value}
 use Rattle.tagged.specs.declared.find.Place.{Place}
-use Rattle.field_values.specs.Factors.{FactorBytes}
+use Rattle.field_values.specs.FactorLimits.{FactorBytes}
 
 -- a zone number of one byte in 04, or of two in 0D
 abbrev pub ZoneBytes : Option Place → List ℕ → Type 0

@@ -1,7 +1,8 @@
 // The fields of a request one by one: the limits on a field's values, and its reader. The three lists
 // of factors have theirs in `field_values`.
 ghost use Rattle.std.specs.Prelude.{Ok, ◌≡◌};
-ghost use Rattle.field_walk.specs.Walk.{walk, walked};
+ghost use Rattle.field_walk.specs.Walk.{walk};
+ghost use Rattle.field_walk.specs.Walked.{walked};
 ghost use Rattle.request.specs.RequestRows.{request_rows};
 ghost use Rattle.request.specs.Fields.{person_in, class_in, zone_in, amounts_in, tiers_in, added_in, revenues_in, connection_in};
 

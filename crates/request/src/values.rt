@@ -1,6 +1,6 @@
 // The values of a request, or its refusal.
 ghost use Rattle.std.specs.Prelude.{◌≡◌};
-ghost use Rattle.field_walk.specs.Walk.{FieldsWalk};
+ghost use Rattle.field_walk.specs.Walked.{FieldsWalk};
 ghost use Rattle.request.specs.RequestRows.{request_rows};
 ghost use Rattle.field_values.specs.Judged.{judge_field};
 ghost use Rattle.request.specs.Fields.{amount_limits};
@@ -56,7 +56,7 @@ pub struct Request {
 
 // The six amounts of a request of this class.
 // By an if and no step handed in: the class is in the file, and the list of limits follows from it.
-#[tactic(auto, unfolding(field_values::specs::Judged::narrow))]
+#[tactic(auto, unfolding(field_values::specs::Narrow::narrow))]
 fn judge_amounts(fields: &[u8], class: u8) -> Judged
     ensures { result ≡ judge_field (amount_limits class) 5 fields.now }
 {
@@ -68,7 +68,7 @@ fn judge_amounts(fields: &[u8], class: u8) -> Judged
 }
 
 // The class, and the six amounts by it.
-#[tactic(auto, unfolding(field_values::specs::Judged::narrow))]
+#[tactic(auto, unfolding(field_values::specs::Narrow::narrow))]
 fn judge_charges(request: RequestFields) -> Judged
     ensures { result ≡ judge_charges request.entry.fields.now }
 {
@@ -77,7 +77,7 @@ fn judge_charges(request: RequestFields) -> Judged
 }
 
 // The first value, in byte order, that isn't as document 01, 'Request', lists it.
-#[tactic(auto, unfolding(field_values::specs::Judged::narrow))]
+#[tactic(auto, unfolding(field_values::specs::Narrow::narrow))]
 fn judge_request(request: RequestFields) -> Judged
     ensures { result ≡ judge_request request.entry.fields.now }
 {

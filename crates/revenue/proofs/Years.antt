@@ -2,8 +2,8 @@
 use Rattle.std.specs.Prelude.{ℕ, ◌+◌, ◌<◌, ◌≤◌, ◌≡◌, List, suc, length, take, get_or}
 use Rattle.std.proofs.Common.{arith, add-one, refl}
 use Rattle.std.proofs.lemmas.List.{get_or-take, length-take}
-use Rattle.discount.specs.Discount.{discount, FactorsUntil}
-use Rattle.discount.specs.DiscountLimits.{highest_discount}
+use Rattle.discount.specs.Discount.{discount}
+use Rattle.discount.specs.DiscountLimits.{FactorsUntil, highest_discount}
 use Rattle.discount.proofs.Theorems.Discount.{discount_at_most}
 use Rattle.revenue.specs.Revenue.{stream_year, incremental_revenue}
 use Rattle.revenue.specs.declared.Stream.{Stream}

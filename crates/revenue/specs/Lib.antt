@@ -1,3 +1,4 @@
 pub mod RevenueLimits
 pub mod Revenue
+pub mod StreamLimits
 pub mod Cases

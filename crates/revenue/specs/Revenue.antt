@@ -1,10 +1,8 @@
 -- Document 01, 'Charge and reconciliation': the opex factor and the revenue of the years.
-use Rattle.std.specs.Prelude.{ℕ, zero, suc, ◌+◌, ◌*◌, ◌-◌, ◌/◌, ◌≤◌, min, cond, get_or, eqb}
+use Rattle.std.specs.Prelude.{ℕ, zero, suc, ◌+◌, ◌*◌, ◌-◌, ◌/◌, min, cond, get_or, eqb}
 use Rattle.field_values.specs.declared.factors.Factors.{Factors}
-use Rattle.field_values.specs.FactorLimits.{FactorsWithin}
-use Rattle.field_values.specs.Limits.{special_pricing, highest_revenue}
+use Rattle.field_values.specs.Limits.{special_pricing}
 use Rattle.discount.specs.Discount.{discount}
-use Rattle.revenue.specs.RevenueLimits.{highest_opex_factor}
 use Rattle.revenue.specs.declared.Stream.{Stream}
 
 -- "Opex factor O = ⌊10,000 × (revenue sum − opex sum) / revenue sum⌋; 10,000 for transmission."
@@ -47,11 +45,3 @@ unfoldable pub incremental_revenue : Stream → Stream → ℕ → ℕ → ℕ
 incremental_revenue distribution transmission b zero = 0
 incremental_revenue distribution transmission b (suc n) =
     incremental_revenue distribution transmission b n + (stream_year distribution n (discount b n) + stream_year transmission n (discount b n))
-
--- what an accepted book and request give of a stream
-pub record StreamWithin (stream : Stream) : Type 0 where
-  pub revenue : stream.revenue ≤ highest_revenue
-  pub opex_factor : stream.opex_factor ≤ highest_opex_factor
-  pub part_year : FactorsWithin stream.part_year
-  pub revenue_factors : FactorsWithin stream.revenue_factors
-  pub tariff_factors : FactorsWithin stream.tariff_factors

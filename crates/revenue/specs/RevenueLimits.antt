@@ -2,14 +2,6 @@
 use Rattle.std.specs.Prelude.{ℕ, ◌*◌}
 use Rattle.field_values.specs.Limits.{highest_revenue}
 
--- 10,000 is one: opex takes from the revenue and adds nothing
-abbrev pub highest_opex_factor : ℕ
-highest_opex_factor = 10000
-
--- "0 residential, life 30"
-abbrev pub longest_life : ℕ
-longest_life = 30
-
 -- the part-year, revenue and tariff factor are at most 4 each
 abbrev pub highest_year_revenue : ℕ
 highest_year_revenue = 64 * highest_revenue

@@ -3,10 +3,12 @@
 
 ghost use Rattle.std.specs.Prelude.{◌≡◌, suc, ◌*◌, ◌<◌, ◌≤◌};
 ghost use Rattle.field_values.specs.FactorLimits.{FactorsWithin};
-ghost use Rattle.field_values.specs.Limits.{highest_factor, highest_revenue, sums_below};
+ghost use Rattle.field_values.specs.Limits.{highest_factor, highest_revenue};
+ghost use Rattle.field_values.specs.SumLimits.{sums_below};
 ghost use Rattle.discount.specs.DiscountLimits.{highest_discount};
-ghost use Rattle.revenue.specs.RevenueLimits.{highest_opex_factor, longest_life, highest_year_revenue, highest_incremental_revenue};
-ghost use Rattle.revenue.specs.Revenue.{opex_factor, distribution_opex_factor, factor_of, life_of, scaled, stream_year, incremental_revenue, StreamWithin};
+ghost use Rattle.revenue.specs.RevenueLimits.{highest_year_revenue, highest_incremental_revenue};
+ghost use Rattle.revenue.specs.StreamLimits.{highest_opex_factor, longest_life, StreamWithin};
+ghost use Rattle.revenue.specs.Revenue.{opex_factor, distribution_opex_factor, factor_of, life_of, scaled, stream_year, incremental_revenue};
 
 use field_values::factors::Factors;
 use field_values::limits::SPECIAL_PRICING;

@@ -1,4 +1,5 @@
 pub mod Slip
+pub mod SlipRoom
 pub mod SlipReading
 pub mod ExactReading
 pub mod SlipEnding

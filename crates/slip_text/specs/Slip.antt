@@ -9,8 +9,6 @@ use Rattle.tagged.specs.declared.file.Refusal.{Refusal}
 use Rattle.reconciliation.specs.Percent.{Percent}
 use Rattle.reconciliation.specs.declared.Reconciliation.{Reconciliation}
 use Rattle.charge.specs.Price.{Pricing}
-use Rattle.slip_text.specs.declared.Figure.{Figure}
-use Rattle.slip_text.specs.declared.Figure.TheVariants.{Unsigned, Signed, Rounded, Exact}
 
 -- how many bytes were written, or the refusal
 abbrev pub SlipWritten : Type 0
@@ -85,23 +83,3 @@ slip_written pricing out = cond (ltb (length out) (length (slip_of pricing))) (E
 
 abbrev pub slip_buffer : Pricing → List ℕ → List ℕ
 slip_buffer pricing out = cond (ltb (length out) (length (slip_of pricing))) out (slip_of pricing ++ drop (length (slip_of pricing)) out)
-
--- a figure of a line, by its kind
-abbrev pub figure_text : Figure → List ℕ
-figure_text (Unsigned n) = decimal n
-figure_text (Signed n) = signed_decimal n
-figure_text (Rounded p) = percent_text p
-figure_text (Exact p) = exact_text p
-
--- how many bytes a figure has at most: 20 digits and a sign, and of a pair a blank and 20 digits more
-abbrev pub figure_room : Figure → ℕ
-figure_room (Exact p) = 42
-figure_room figure = 21
-
--- how many bytes a text has room for: eleven lines of any figures of 64 bits
-abbrev pub room : ℕ
-room = 384
-
--- how long the slip of two files is at most
-abbrev pub longest_slip : ℕ
-longest_slip = 236

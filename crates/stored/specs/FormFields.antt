@@ -5,7 +5,8 @@ use Rattle.ledger.specs.Limits.{most_schemes}
 use Rattle.ledger.specs.declared.records.Scheme.{Scheme}
 use Rattle.ledger.specs.declared.records.Party.{Party}
 use Rattle.ledger.specs.declared.records.Ledger.{Ledger}
-use Rattle.stored.specs.Layout.{head_widths, head_values, scheme_widths, scheme_values, party_widths, party_values, Fit}
+use Rattle.stored.specs.Layout.{head_widths, head_values, scheme_widths, scheme_values, party_widths, party_values}
+use Rattle.stored.specs.Fit.{Fit}
 
 -- A ledger and entries that a call can be handed: 64 places, and each value within its width.
 pub record FormFits (ledger : Ledger) (parties : List Party) : Type 0 where

@@ -1,5 +1,5 @@
 -- Records as numbers of given widths, one after the other, each big endian. A layout is its list of widths.
-use Rattle.std.specs.Prelude.{ℕ, ◌+◌, ◌^◌, ◌<◌, List, [], ◌∷◌, ◌++◌, get_or}
+use Rattle.std.specs.Prelude.{ℕ, ◌+◌, List, [], ◌∷◌, ◌++◌, get_or}
 use Rattle.numbers.specs.BigEndian.{number_at, bytes_of}
 use Rattle.ledger.specs.declared.records.Scheme.{Scheme}
 use Rattle.ledger.specs.declared.records.Party.{Party}
@@ -74,10 +74,3 @@ party_from values =
       credited = get_or values 4 0;
       paid_out = get_or values 5 0;
     }
-
--- as many values as widths, each within its width
-abbrev pub Fit : List ℕ → List ℕ → Type 0
-Fit [] [] = Unit {0}
-Fit [] (value ∷ values) = ⊥
-Fit (width ∷ widths) [] = ⊥
-Fit (width ∷ widths) (value ∷ values) = (value < 256 ^ width) × Fit widths values

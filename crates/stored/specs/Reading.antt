@@ -1,7 +1,7 @@
 -- Document 01, 'How calls end': "Reading: file order, 9 where the table is too short, 13." In a stored ledger 3 is for "only the letters".
-use Rattle.std.specs.Prelude.{ℕ, List, [], ◌∷◌, cond, true, ◌≡◌, length, leb, Err, Ok}
+use Rattle.std.specs.Prelude.{ℕ, List, cond, length, leb, Err, Ok}
 use Rattle.tagged.specs.File.{file_answer, fields_part, refusal, FileAnswer}
-use Rattle.tagged.specs.Refusals.{value_not_listed, no_entry_left, ledger_unsound, file_does_not_walk, check_differs}
+use Rattle.tagged.specs.Refusals.{value_not_listed, no_entry_left, ledger_unsound}
 use Rattle.tagged.specs.declared.file.Refusal.{Refusal}
 use Rattle.field_values.specs.Judged.{judge_letters, Judged}
 use Rattle.ledger.specs.Lists.{at_start}
@@ -9,7 +9,6 @@ use Rattle.ledger.specs.Records.{no_parties}
 use Rattle.ledger.specs.Sound.{sound}
 use Rattle.ledger.specs.declared.records.Party.{Party}
 use Rattle.ledger.specs.declared.records.Ledger.{Ledger}
-use Rattle.ledger.specs.RefusalNumbers.{one_of}
 use Rattle.stored.specs.StoredRows.{stored_rows}
 use Rattle.stored.specs.Form.{letters, stored_entries, stored_ledger}
 
@@ -73,11 +72,3 @@ table_by (Err r) ledger table s = record { answer = Err r; ledger = ledger; tabl
 
 abbrev pub read_of : Ledger → List Party → List ℕ → ReadEnd
 read_of ledger table file = table_by (read_answer (length table) file) ledger table (fields_part file)
-
--- ---- the numbers that reading refuses with
-abbrev pub reading_numbers : List ℕ
-reading_numbers = file_does_not_walk ∷ check_differs ∷ value_not_listed ∷ no_entry_left ∷ ledger_unsound ∷ []
-
-abbrev pub ReadRefuses : FileAnswer → Type 0
-ReadRefuses (Ok _) = Unit {0}
-ReadRefuses (Err r) = one_of reading_numbers r.number ≡ true

@@ -1,7 +1,8 @@
 -- A stored ledger that reading accepts: its bytes are the form of the ledger and the entries that are read.
 use Rattle.std.specs.Prelude.{ℕ, ◌≤◌, ◌≡◌, List, true, length}
 use Rattle.tagged.specs.Find.{field_value}
-use Rattle.tagged.specs.File.{fields_part, FileStands}
+use Rattle.tagged.specs.File.{fields_part}
+use Rattle.tagged.specs.FileStands.{FileStands}
 use Rattle.ledger.specs.Sound.{sound}
 use Rattle.stored.specs.StoredRows.{stored_rows}
 use Rattle.stored.specs.Form.{letters, stored_entries, stored_ledger}

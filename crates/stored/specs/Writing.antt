@@ -1,12 +1,11 @@
 -- Document 01, 'How calls end': "Writing answers the form's length and leaves output past that alone." Order: 13, 14.
-use Rattle.std.specs.Prelude.{ℕ, List, [], ◌∷◌, cond, true, ◌≡◌, length, leb, Err, Ok, Result}
+use Rattle.std.specs.Prelude.{ℕ, List, cond, length, leb, Err, Ok, Result}
 use Rattle.tagged.specs.File.{refusal}
 use Rattle.tagged.specs.Refusals.{ledger_unsound, output_too_short}
 use Rattle.ledger.specs.Lists.{at_start}
 use Rattle.ledger.specs.Sound.{sound}
 use Rattle.ledger.specs.declared.records.Party.{Party}
 use Rattle.ledger.specs.declared.records.Ledger.{Ledger}
-use Rattle.ledger.specs.RefusalNumbers.{one_of}
 use Rattle.stored.specs.Form.{stored_form}
 use Rattle.tagged.specs.declared.file.Refusal.{Refusal}
 
@@ -28,9 +27,6 @@ abbrev pub output_by : Written → List ℕ → List ℕ → List ℕ
 output_by (Ok size) form out = at_start form out
 output_by (Err r) form out = out
 
-abbrev pub form_output : Ledger → List Party → List ℕ → List ℕ
-form_output ledger parties out = output_by (form_answer ledger parties out) (stored_form ledger parties) out
-
 abbrev pub written_output : Ledger → List Party → ℕ → List ℕ → List ℕ
 written_output ledger parties room out = output_by (written_answer ledger parties room out) (stored_form ledger parties) out
 
@@ -39,18 +35,6 @@ pub record WriteEnd : Type 0 where
   pub answer : Written
   pub output : List ℕ
 
--- without the soundness test
-abbrev pub form_end : Ledger → List Party → List ℕ → WriteEnd
-form_end ledger parties out = record { answer = form_answer ledger parties out; output = form_output ledger parties out }
-
 abbrev pub write_of : Ledger → List Party → List ℕ → WriteEnd
 write_of ledger table out =
     record { answer = written_answer ledger table (length table) out; output = written_output ledger table (length table) out }
-
--- ---- the numbers that writing refuses with
-abbrev pub writing_numbers : List ℕ
-writing_numbers = ledger_unsound ∷ output_too_short ∷ []
-
-abbrev pub WriteRefuses : Written → Type 0
-WriteRefuses (Ok size) = Unit {0}
-WriteRefuses (Err r) = one_of writing_numbers r.number ≡ true

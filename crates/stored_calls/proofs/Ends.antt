@@ -25,7 +25,8 @@ use Rattle.calls_on_records.specs.OnRecords.{SoundOnRecords, PromisedOnRecords}
 use Rattle.stored.specs.Form.{stored_form, stored_entries, stored_ledger}
 use Rattle.stored.proofs.Theorems.StoredAccepted.{accepted_means}
 use Rattle.stored.specs.Reading.{ReadBack, ReadEnd, read_answer, read_by, read_back, refused_read, of_reading, table_by}
-use Rattle.stored.specs.Writing.{output_by, form_end, write_of}
+use Rattle.stored.specs.Writing.{output_by, write_of}
+use Rattle.stored.specs.FormOutput.{form_end}
 use Rattle.stored.proofs.Theorems.Writing.{write_sound}
 use Rattle.stored.proofs.Theorems.SameForm.{same_form}
 use Rattle.stored_calls.specs.StoredCalls.{stored_read, end_by, call_on_read, stored_call_of}

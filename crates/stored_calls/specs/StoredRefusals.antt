@@ -1,7 +1,6 @@
 -- The numbers that the calls on stored bytes refuse with: reading's, the call's own and writing's.
-use Rattle.std.specs.Prelude.{ℕ, ◌≡◌, List, [], ◌∷◌, Bool, true, false}
+use Rattle.std.specs.Prelude.{ℕ, List, [], ◌∷◌, Bool, true, false}
 use Rattle.tagged.specs.Refusals.{file_does_not_walk, check_differs, value_not_listed, zone_not_in_book, bespoke_not_allowed, scheme_never_opened, month_before_last, no_scheme_left, no_entry_left, no_connection_left, no_such_entry, pay_out_above_credit, ledger_unsound, output_too_short}
-use Rattle.ledger.specs.RefusalNumbers.{one_of}
 use Rattle.calls.specs.Decision.{Call, accept, pay_out, hand_over}
 use Rattle.stored_calls.specs.StoredCalls.{StoredCallAnswer, not_read, not_made, made_accepted, made_done}
 
@@ -31,9 +30,3 @@ stored_numbers (accept book request) =
 stored_numbers (pay_out e amount) =
     file_does_not_walk ∷ check_differs ∷ value_not_listed ∷ no_entry_left ∷ no_such_entry ∷ pay_out_above_credit ∷ ledger_unsound ∷ output_too_short ∷ []
 stored_numbers (hand_over e person) = file_does_not_walk ∷ check_differs ∷ value_not_listed ∷ no_entry_left ∷ no_such_entry ∷ ledger_unsound ∷ output_too_short ∷ []
-
-abbrev pub StoredRefuses : List ℕ → StoredCallAnswer → Type 0
-StoredRefuses numbers (not_read r) = one_of numbers r.number ≡ true
-StoredRefuses numbers (not_made r) = one_of numbers r.number ≡ true
-StoredRefuses numbers (made_accepted acceptance size) = Unit {0}
-StoredRefuses numbers (made_done size) = Unit {0}

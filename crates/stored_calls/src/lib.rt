@@ -8,7 +8,7 @@ ghost use Rattle.std.specs.Prelude.{◌≡◌, ◌≤◌, take, MatchResult, Ok,
 ghost use Rattle.ledger.specs.Limits.{most_schemes, most_entries};
 ghost use Rattle.ledger.specs.Records.{no_parties, new_ledger};
 ghost use Rattle.calls.specs.Decision.{accept, pay_out, hand_over, of_accept, of_entry_call};
-ghost use Rattle.stored.specs.Writing.{form_end};
+ghost use Rattle.stored.specs.FormOutput.{form_end};
 ghost use Rattle.stored_calls.specs.StoredCalls.{of_stored_accept, of_stored_answer, stored_read, end_by, stored_call_of, new_stored_of, counts_of, check_stored_of};
 
 use calls::answers::{AcceptAnswer, Acceptance, Answer};

@@ -7,8 +7,10 @@ use lib.ListN.{length, get_or, set, drop, length-append, length-take, length-dro
 use Rattle.std.specs.Prelude.{true, false}
 use Rattle.std.specs.Borrow.{Bor}
 use mathlib.Core.Bool.{true≢false}
-use Rattle.field_walk.specs.Walk.{FieldAt, FieldsWalk, value_of}
-use Rattle.tagged.specs.Find.{fields_of, fields_with, whole_field, value_place, rest_place, part_of, NextField}
+use Rattle.field_walk.specs.Walk.{FieldAt, value_of}
+use Rattle.field_walk.specs.Walked.{FieldsWalk}
+use Rattle.tagged.specs.Find.{fields_of, fields_with, whole_field, part_of}
+use Rattle.tagged.specs.Parts.{value_place, rest_place, NextField}
 use Rattle.tagged.specs.declared.find.Field.{Field}
 use Rattle.tagged.proofs.Theorems.FieldsWith.{with_this, with_past}
 use Rattle.tagged.specs.WalkRelations.{Fields, none, first}

@@ -1,7 +1,8 @@
 -- Of fields of a stored ledger, that they walk, in the form that `StoredFields` keeps; and so how long the head is, and how many entries there may be.
 use Rattle.std.specs.Prelude.{ℕ, List, Ok, length, ◌≡◌, ◌≤◌}
 use Rattle.std.proofs.Math.Path.{refl}
-use Rattle.field_walk.specs.Walk.{FieldsWalk, Walk, fields, stops, walk, walked}
+use Rattle.field_walk.specs.Walk.{Walk, fields, stops, walk}
+use Rattle.field_walk.specs.Walked.{FieldsWalk, walked}
 use Rattle.tagged.specs.Find.{field_value, fields_of}
 use Rattle.ledger.specs.Limits.{most_entries}
 use Rattle.stored.specs.StoredRows.{stored_rows}

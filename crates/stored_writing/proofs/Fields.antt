@@ -11,8 +11,9 @@ use Rattle.std.proofs.Common.{add_assoc, drop-drop}
 use borrow.Rule.Slice.PartMut.{put_mid}
 use lib.Seq.{take-suc, length-take-le}
 use Rattle.ledger.specs.Lists.{at_start}
-use Rattle.ledger.specs.Columns.{sum_of}
-use Rattle.numbers.specs.BigEndian.{bytes_of, written}
+use Rattle.ledger.specs.CapacityColumns.{sum_of}
+use Rattle.numbers.specs.BigEndian.{bytes_of}
+use Rattle.numbers.specs.Written.{written}
 use Rattle.numbers.proofs.Theorems.BigEndian.{length_bytes_of, length_written, take_written, written_written}
 use Rattle.numbers.specs.Check.{check}
 use Rattle.tagged.specs.Encoded.{encoded_parts}

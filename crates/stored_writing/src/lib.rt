@@ -3,14 +3,16 @@
 
 ghost use Rattle.std.specs.Prelude.{◌≡◌, ℕ, List, [], ◌∷◌, ◌++◌, map, ◌+◌, ◌*◌, ◌≤◌, length, take};
 ghost use Rattle.std.proofs.Common.{ap};
-ghost use Rattle.numbers.specs.BigEndian.{bytes_of, written};
+ghost use Rattle.numbers.specs.BigEndian.{bytes_of};
+ghost use Rattle.numbers.specs.Written.{written};
 ghost use Rattle.numbers.specs.Check.{check};
 ghost use Rattle.tagged.specs.Encoded.{encoded_parts};
 ghost use Rattle.ledger.specs.Limits.{most_schemes};
 ghost use Rattle.stored.specs.Form.{letters_part, head_part, scheme_part, party_part, stored_parts, header_length, scheme_length, entry_length, check_length, form_length};
 ghost use Rattle.stored.specs.Layout.{head_values};
 ghost use Rattle.stored.proofs.Theorems.Form.{scheme_size, party_size};
-ghost use Rattle.stored.specs.Writing.{form_answer, form_output, write_of};
+ghost use Rattle.stored.specs.Writing.{form_answer, write_of};
+ghost use Rattle.stored.specs.FormOutput.{form_output};
 
 use ledger::records::{Ledger, Party, Scheme};
 use numbers::big_endian::BigEndian;

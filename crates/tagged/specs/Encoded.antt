@@ -1,9 +1,8 @@
 -- The bytes of fields, and of the file that they make up.
 use Rattle.std.specs.Prelude.{ℕ, length}
-use mathlib.Core.List.{List, [], ◌∷◌, ◌++◌, flat_map, map}
+use mathlib.Core.List.{List, [], ◌∷◌, ◌++◌, flat_map}
 use Rattle.numbers.specs.BigEndian.{bytes_of}
 use Rattle.numbers.specs.Check.{check}
-use Rattle.field_walk.specs.Walk.{FieldAt, value_of}
 
 -- "A field is a one-byte tag, a two-byte length, then the value": its bytes.
 abbrev pub encoded : ℕ → List ℕ → List ℕ
@@ -16,7 +15,3 @@ encoded_parts parts = flat_map (λ part. encoded part.0 part.1) parts
 -- the file of these fields: after them FF, the length 2 and the check
 abbrev pub closed : List (ℕ × List ℕ) → List ℕ
 closed parts = let checked = encoded_parts parts ++ (255 ∷ 0 ∷ 2 ∷ []) in checked ++ bytes_of 2 (check checked)
-
--- the tags and values of a file's fields
-abbrev pub parts_of : List ℕ → List FieldAt → List (ℕ × List ℕ)
-parts_of s fs = map (λ f. (f.tag, value_of s f)) fs

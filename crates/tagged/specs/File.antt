@@ -1,8 +1,8 @@
 -- Document 01, 'How calls end': "Order for a file: 1 for its last five bytes, 2, 1 for the rest". The rest, 3, is each reader's.
-use Rattle.std.specs.Prelude.{ℕ, ◌-◌, ◌≤◌, List, Bool, false, cond, true, ◌≡◌, length, get_or, take, ltb, eqb, Err, Ok, Result}
+use Rattle.std.specs.Prelude.{ℕ, ◌-◌, List, Bool, false, cond, length, get_or, take, ltb, eqb, Err, Ok, Result}
 use Rattle.numbers.specs.BigEndian.{number, number_at}
 use Rattle.numbers.specs.Check.{check}
-use Rattle.field_walk.specs.Walk.{Walk, walk, fields, stops, FieldAt}
+use Rattle.field_walk.specs.Walk.{Walk, walk, fields, stops}
 use Rattle.tagged.specs.Refusals.{file_does_not_walk, check_differs}
 use Rattle.tagged.specs.declared.file.Refusal.{Refusal}
 
@@ -45,14 +45,3 @@ file_answer rows file s =
     cond (tail_stands s)
     (cond (check_stands s) (of_walk file (walk rows (fields_part s))) (Err (refusal check_differs file (length s - 2))))
     (Err (refusal file_does_not_walk file 0))
-
-pub record FileStands (rows : List (List ℕ)) (s : List ℕ) : Type 0 where
-  pub size : 5 ≤ length s
-  pub tail : tail_stands s ≡ true
-  pub right_check : check_stands s ≡ true
-  pub field_list : List FieldAt
-  pub walks : walk rows (fields_part s) ≡ fields field_list
-
--- a refusal of this file, with a number from 1 to `most`
-abbrev pub RefusalTo : ℕ → ℕ → Refusal → Type 0
-RefusalTo most file r = (1 ≤ r.number) × (r.number ≤ most) × (r.file ≡ file)

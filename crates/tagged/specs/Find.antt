@@ -1,10 +1,8 @@
 -- Document 01, 'Tagged fields': "Finding a field hands back that very part of the file and no copy: its value."
 -- The search needs no rows: it goes from field to field by their lengths, as far as whole fields stand.
-use Rattle.std.specs.Prelude.{ℕ, zero, suc, ◌+◌, ◌-◌, ◌≤◌, ◌≡◌, List, [], ◌∷◌, Bool, true, false, cond, length, get_or, take, drop, ltb, leb, eqb, None, Some, Option}
-use Rattle.std.specs.Borrow.{Bor}
+use Rattle.std.specs.Prelude.{ℕ, zero, suc, ◌+◌, List, [], ◌∷◌, Bool, false, cond, length, get_or, take, drop, ltb, leb, eqb, None, Some, Option}
 use Rattle.field_walk.specs.Walk.{FieldAt, length_at}
 use Rattle.tagged.specs.declared.find.Place.{Place}
-use Rattle.tagged.specs.declared.find.Field.{Field}
 
 -- a whole field stands at the front
 abbrev pub whole_field : List ℕ → Bool
@@ -31,13 +29,6 @@ first_with tag (f ∷ fs) = cond (eqb f.tag tag) (place_at f.start f.len) (first
 abbrev pub first_place : ℕ → List ℕ → Option Place
 first_place tag s = first_with tag (fields_of s)
 
--- the value of the field at the front, and the rest of the file after it
-abbrev pub value_place : List ℕ → Option Place
-value_place s = cond (whole_field s) (place_at 3 (length_at s)) None
-
-abbrev pub rest_place : List ℕ → Option Place
-rest_place s = cond (whole_field s) (place_at (length_at s + 3) (length s - (length_at s + 3))) None
-
 -- the part of the file at a place, and the offset at which it starts; no bytes where there is none
 abbrev pub part_of : Option Place → List ℕ → List ℕ
 part_of None s = []
@@ -46,23 +37,6 @@ part_of (Some place) s = take place.len (drop place.start s)
 abbrev pub start_of : Option Place → ℕ
 start_of None = 0
 start_of (Some place) = place.start
-
--- a place lies within a file of this size
-abbrev pub PlaceWithin : ℕ → Option Place → Type 0
-PlaceWithin size None = Unit {0}
-PlaceWithin size (Some place) = place.start + place.len ≤ size
-
--- r refers to that very part of the file: it has the part's bytes, and points to where the part starts in the file
-pub record IsPart (place : Option Place) (file r : Bor (List ℕ)) : Type 0 where
-  pub bytes : r.now ≡ part_of place file.now
-  pub pointer : r.ref_ptr ≡ (file.ref_ptr.0, start_of place + file.ref_ptr.1)
-
--- the field that the rest of a file starts with: a whole one, with its tag, and its value and the rest after it as those very parts
-pub record NextField (s : Bor (List ℕ)) (field : Field) : Type 0 where
-  pub whole : whole_field s.now ≡ true
-  pub tag : field.tag ≡ get_or s.now 0 0
-  pub value : IsPart (value_place s.now) s field.value
-  pub rest : IsPart (rest_place s.now) s field.rest
 
 -- the value of the first field with this tag, and the offset at which it starts
 abbrev pub field_value : ℕ → List ℕ → List ℕ

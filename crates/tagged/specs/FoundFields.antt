@@ -1,7 +1,8 @@
 -- Fields of a file that lie in it, one after the other, and the parts that a search finds.
 use Rattle.std.specs.Prelude.{ℕ, ◌+◌, ◌-◌, ◌%◌, ◌≤◌, ◌≡◌, List, true, length, get_or, drop}
 use Rattle.field_walk.specs.Walk.{tag_of, lowest_of, highest_of, step_of, permitted_by, length_at, FieldAt, value_of}
-use Rattle.tagged.specs.Find.{place_at, whole_field, first_place, value_place, rest_place, part_of, field_value, field_start}
+use Rattle.tagged.specs.Find.{place_at, whole_field, first_place, part_of, field_value, field_start}
+use Rattle.tagged.specs.Parts.{value_place, rest_place}
 use Rattle.tagged.specs.WalkRelations.{StandsAt, Fields}
 
 -- What a reader sees whose rest of the file starts at a field: its value, and the rest of the file after it.

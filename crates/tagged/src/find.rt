@@ -1,7 +1,8 @@
 // Finding a field hands back that very part of the file and no copy: its value.
 ghost use Rattle.std.specs.Prelude.{◌≡◌, length, false, cond, Some, None, MatchOption};
 ghost use Rattle.field_walk.specs.Walk.{length_at};
-ghost use Rattle.tagged.specs.Find.{whole_field, first_place, start_of, PlaceWithin, IsPart, NextField};
+ghost use Rattle.tagged.specs.Find.{whole_field, first_place, start_of};
+ghost use Rattle.tagged.specs.Parts.{PlaceWithin, IsPart, NextField};
 
 use numbers::big_endian::BigEndian;
 

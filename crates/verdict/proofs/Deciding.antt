@@ -10,7 +10,8 @@ use lib.Dec.{eqb}
 use lib.ListN.{length, take, get_or}
 use lib.Seq.{take-suc}
 use borrow.Author.Tests.{eq-eqb, ne_eqb}
-use Rattle.ledger.specs.Columns.{scheme_column, capacity_column, sum_over}
+use Rattle.ledger.specs.Columns.{scheme_column, sum_over}
+use Rattle.ledger.specs.CapacityColumns.{capacity_column}
 use Rattle.tagged.specs.File.{refusal}
 use Rattle.tagged.specs.Refusals.{no_scheme_left, no_entry_left}
 use Rattle.charge.specs.declared.Bill.{Bill}

@@ -6,7 +6,8 @@ ghost use Rattle.std.specs.Prelude.{◌≡◌, true, ℕ, ◌*◌, ◌≤◌, Li
 ghost use Rattle.ledger.specs.declared.records.Party.{Party};
 ghost use Rattle.ledger.specs.Limits.{most_schemes, most_entries};
 ghost use Rattle.ledger.specs.Books.{Books, scheme_particulars};
-ghost use Rattle.ledger.specs.Columns.{scheme_column, capacity_column, sum_over};
+ghost use Rattle.ledger.specs.Columns.{scheme_column, sum_over};
+ghost use Rattle.ledger.specs.CapacityColumns.{capacity_column};
 ghost use Rattle.ledger.specs.Sound.{sound};
 ghost use Rattle.calls.specs.Rules.{parties_of, capacity_of, contribution};
 ghost use Rattle.calls.specs.Verdict.{joining_of, joining_part, opens_scheme, entries_needed, schemes_lacking, entries_lacking, course_verdict, verdict};

@@ -16,7 +16,7 @@ use Rattle.calls.specs.Calls.{state_of}
 use Rattle.calls.specs.Cases.Verdict.{book, other_book, bill_of, with_month, with_capacity, in_scheme, opening, scheme, party, ledger, places, past, three, first_three}
 use Rattle.calls.specs.Answers.{accepted_as, joined_as}
 use Rattle.calls.specs.declared.answers.JoiningAnswer.TheVariants.{NotAsked, Ended, Small}
-use Rattle.accept_rules.specs.Theorems.AcceptByPricing.{answered_by, leaves_by}
+use Rattle.accept_rules.specs.Laws.{answered_by, leaves_by}
 
 -- two schemes, each with its first entry alone
 abbrev two : ℕ → Ledger

@@ -17,7 +17,7 @@ use Rattle.calls.specs.Calls.{state_of}
 use Rattle.calls.specs.Cases.Verdict.{party, ledger, past}
 use Rattle.calls.specs.Answers.{accepted_as, joined_as}
 use Rattle.calls.specs.declared.answers.JoiningAnswer.TheVariants.{Ended, Small}
-use Rattle.accept_rules.specs.Theorems.AcceptByPricing.{answered_by, leaves_by}
+use Rattle.accept_rules.specs.Laws.{answered_by, leaves_by}
 
 -- person 9 joins scheme 1, with this ME, which is X; month and capacity
 abbrev bill : ℕ → ℕ → ℕ → Bill

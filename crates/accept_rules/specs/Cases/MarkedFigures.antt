@@ -17,7 +17,7 @@ use Rattle.calls.specs.Cases.Verdict.{party}
 use Rattle.calls.specs.Answers.{joined_as}
 use Rattle.calls.specs.declared.answers.JoiningAnswer.{JoiningAnswer}
 use Rattle.calls.specs.declared.answers.JoiningAnswer.TheVariants.{NotAsked, Ended, Small}
-use Rattle.accept_rules.specs.Theorems.AcceptByPricing.{answered_by, leaves_by}
+use Rattle.accept_rules.specs.Laws.{answered_by, leaves_by}
 
 -- what accept answers of joining and opening; nothing where it refuses
 abbrev pub AnswerParts : Type 0

@@ -1,6 +1,6 @@
 -- Exactly when accept answers what, in document 01's order of refusals: 13, pricing's own, 10, 7, 6, 8, 9; what it leaves as it was, and the numbers that it
 -- refuses with. Each case has the tests that lead to it, and every test goes one way or the other.
-use Rattle.std.specs.Prelude.{ℕ, ◌+◌, ◌<◌, ◌≤◌, ◌≡◌, refl, List, [], ◌∷◌, ◌++◌, Bool, true, false, cond, ◌⊎◌, length, ltb, eqb, Err, None, Ok, Option, Some}
+use Rattle.std.specs.Prelude.{ℕ, ◌+◌, ◌<◌, ◌≤◌, ◌≡◌, refl, List, Bool, true, false, cond, ◌⊎◌, length, ltb, eqb, Err, None, Ok, Option, Some}
 use Rattle.std.proofs.Common.{sym, ap, ap₂, subst, ◌∙◌, inl, inr, ⊎_elim, arith, ltb-true, ltb-false, le-leb, lt-ltb, le-ltb, eq-eqb, ne_eqb}
 use mathlib.Mathlib.Data.Bool.Basic.{dichotomy}
 use Rattle.std.proofs.lemmas.Bool.{lt-leb}
@@ -14,10 +14,8 @@ use Rattle.ledger.specs.Books.{SchemeParticulars, Books}
 use Rattle.ledger.specs.Sound.{sound}
 use Rattle.ledger.specs.SoundConditions.{SoundLedger}
 use Rattle.ledger.proofs.Theorems.Sound.{not_both, sound_means}
-use Rattle.ledger.specs.RefusalNumbers.{one_of}
 use Rattle.calls.proofs.Theorems.Lists.{by_cond}
 use Rattle.calls.specs.Verdict.{joining_of, joining_part, opens_scheme, entries_of_joining, entries_needed, schemes_lacking, entries_lacking, course_verdict, verdict, Verdict}
-use Rattle.calls.specs.VerdictConditions.{verdict_numbers}
 use Rattle.calls.proofs.Theorems.Verdict.{joining_ended, joining_small, joining_pays, verdict_refused_10, verdict_refused_7, verdict_refused_6, verdict_course, course_refused_8, course_refused_9, course_accepted}
 use Rattle.calls.specs.Decision.{accept, Decision, refused, credits_by, accept_by, decided_by as decided_of, CallAnswer, is_accepted, is_done, is_refused, joining_answer, answer_to}
 use Rattle.calls.specs.Carried.{State, books_on, booked, joined, opened, carried_out}
@@ -29,8 +27,7 @@ use Rattle.calls.specs.Answers.{accepted_as, joined_as}
 use Rattle.calls.specs.declared.courses.Joining.{Joining}
 use Rattle.calls.specs.declared.courses.Course.{Course}
 use Rattle.calls.specs.declared.answers.JoiningAnswer.{JoiningAnswer}
-use Rattle.accept_rules.specs.Theorems.AcceptByPricing.{decided_by, answered_by, leaves_by}
-use Rattle.accept_rules.specs.AcceptAnswers.{earlier_capacity, contribution_of, joined_with, EntriesLeft, EntriesLacking, Billed, MayConnect, MayJoin, InForce, JoiningAnswers, not_asked, ended, small, joins, OpeningAnswers, opens_none, opens, Answers, refused_13, refused_by_pricing, refused_10, refused_7, refused_6, refused_8, refused_9, accepts}
+use Rattle.accept_rules.specs.Laws.{ledger_numbers, AcceptRefuses, decided_by, answered_by, leaves_by, earlier_capacity, contribution_of, joined_with, EntriesLeft, EntriesLacking, Billed, MayConnect, MayJoin, InForce, JoiningAnswers, not_asked, ended, small, joins, OpeningAnswers, opens_none, opens, Answers, refused_13, refused_by_pricing, refused_10, refused_7, refused_6, refused_8, refused_9, accepts}
 
 -- ---- each case is accept's
 lt_or_le : (a b : ℕ) → (a < b) ⊎ (b ≤ a)
@@ -304,16 +301,6 @@ module _ (state : State) (book request : List ℕ) (places : length state.ledger
 pub accept_refused_changes_nothing : (state : State) (book request : List ℕ) {r : Refusal} → answered state (accept book request) ≡ is_refused r →
     leaves state (accept book request) ≡ state
 accept_refused_changes_nothing state book request e = refused_changes_nothing state (accept book request) e
-
--- the ledger's own numbers
-abbrev pub ledger_numbers : List ℕ
-ledger_numbers = verdict_numbers ++ (ledger_unsound ∷ [])
-
--- a refusal is pricing's, or has one of them
-abbrev pub AcceptRefuses : Pricing → CallAnswer → Type 0
-AcceptRefuses pricing (is_accepted acceptance) = Unit {0}
-AcceptRefuses pricing is_done = Unit {0}
-AcceptRefuses pricing (is_refused r) = (pricing ≡ Err r) ⊎ (one_of ledger_numbers r.number ≡ true)
 
 pub accept_refusal_numbers : (state : State) (book request : List ℕ) → AcceptRefuses (price_of book request) (answered state (accept book request))
 unfolding answered

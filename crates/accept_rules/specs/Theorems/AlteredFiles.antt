@@ -12,7 +12,7 @@ use Rattle.ledger.specs.Sound.{sound}
 use Rattle.calls.specs.Decision.{accept}
 use Rattle.calls.specs.Carried.{State}
 use Rattle.calls.specs.Calls.{answered, leaves}
-use Rattle.accept_rules.specs.AlteredFiles.{RefusedAndLeft}
+use Rattle.accept_rules.specs.Laws.{RefusedAndLeft}
 
 -- a request that isn't priced: 13, or pricing's own refusal
 not_priced_left : (state : State) (book request : List ℕ) (r : Refusal) → price_of book request ≡ Err r → RefusedAndLeft state (accept book request)

@@ -7,7 +7,8 @@ use Rattle.charge.specs.Price.{Pricing}
 use Rattle.ledger.specs.Limits.{most_schemes, most_entries, highest_put_in, highest_credited}
 use Rattle.ledger.specs.Records.{no_party}
 use Rattle.ledger.proofs.Theorems.Lookup.{placed_scheme}
-use Rattle.ledger.specs.Columns.{scheme_column, capacity_column}
+use Rattle.ledger.specs.Columns.{scheme_column}
+use Rattle.ledger.specs.CapacityColumns.{capacity_column}
 use Rattle.ledger.specs.Sound.{sound}
 use Rattle.ledger.specs.SoundConditions.{SoundLedger}
 use Rattle.ledger.proofs.Theorems.Sound.{sound_means, some_capacity, cost_at_most}

@@ -1,12 +1,11 @@
 -- A sound ledger and a verdict that accepts give what the booking needs.
-use Rattle.std.specs.Prelude.{ℕ, zero, suc, ◌+◌, ◌-◌, ◌<◌, ◌≤◌, ◌≡◌, refl, List, true, cond, eqb, length, take, Ok}
+use Rattle.std.specs.Prelude.{ℕ, zero, suc, ◌+◌, ◌-◌, ◌<◌, ◌≤◌, ◌≡◌, refl, List, true, cond, eqb, length, take, Ok, None, Some, Option}
 use Rattle.std.proofs.Common.{sym, ap, subst, ◌∙◌, arith}
 use Rattle.charge.specs.BillLimits.{BillWithin}
 use Rattle.charge.specs.declared.Bill.{Bill}
 use Rattle.ledger.specs.Limits.{most_schemes}
-use Rattle.ledger.specs.Lists.{Found, none, found}
 use Rattle.ledger.specs.Books.{SchemeParticulars, books_of, scheme_at}
-use Rattle.ledger.specs.Lookup.{Placed}
+use Rattle.ledger.specs.EntryPlace.{Placed}
 use Rattle.ledger.proofs.Theorems.Lookup.{scheme_placed, placed_scheme}
 use Rattle.ledger.specs.Sound.{sound}
 use Rattle.ledger.specs.SoundConditions.{SoundLedger}
@@ -37,10 +36,10 @@ where_needed zero entries most all left = omega arith
 where_needed (suc needed) entries most all left = left (omega arith)
 
 -- the table's length plays no part in a joining
-joining_without_room : (ledger : Ledger) (parties : List Party) (room : ℕ) (bill : Bill) (at : Found SchemeParticulars) →
+joining_without_room : (ledger : Ledger) (parties : List Party) (room : ℕ) (bill : Bill) (at : Option SchemeParticulars) →
     joining_by (books_of ledger parties) bill at ≡ joining_by (snapshot_books ledger parties room) bill at
-joining_without_room ledger parties room bill none = refl
-joining_without_room ledger parties room bill (found row) = refl
+joining_without_room ledger parties room bill None = refl
+joining_without_room ledger parties room bill (Some row) = refl
 
 -- the joining of a verdict that accepts
 pub course_pays : (ledger : Ledger) (parties : List Party) (room : ℕ) (bill : Bill) (course : Course) →

@@ -5,7 +5,8 @@ use Rattle.std.proofs.Common.{sym, subst, ◌∙◌, ⊎_elim, arith, eqb-true, 
 use mathlib.Core.List.{List, [], ◌∷◌, ◌++◌, map, Memᴰ}
 use Rattle.std.proofs.lemmas.Bool.{false≢true, eqb-false}
 use Rattle.std.proofs.lemmas.List.{length-map}
-use Rattle.field_walk.specs.Walk.{tag_of, least_of, most_of, permitted_by, first_form, second_form, rows_in, walk_by, FieldAt, fields, FieldsWalk, Walk, stops, walk, walked}
+use Rattle.field_walk.specs.Walk.{tag_of, least_of, most_of, permitted_by, first_form, second_form, rows_in, walk_by, FieldAt, fields, Walk, stops, walk}
+use Rattle.field_walk.specs.Walked.{FieldsWalk, walked}
 use Rattle.tagged.specs.Find.{place_at, fields_of, fields_with, first_with, first_place, start_of}
 use Rattle.tagged.specs.declared.find.Place.{Place}
 use Rattle.tagged.proofs.Theorems.FieldsWith.{with_past, with_all}
@@ -14,7 +15,8 @@ use Rattle.tagged.proofs.Theorems.Walk.{by_test, Stand-had, Stand-once, Stand-la
 use Rattle.tagged.proofs.Theorems.FoundFields.{walk_by_finds, walk_by_finds_none, walk_fields_of, walk_next}
 use Rattle.field_values.specs.Limits.{most_zones}
 use Rattle.book_zones.specs.BookRows.{book_rows}
-use Rattle.book_zones.specs.Zones.{tag_by, zone_tag, zone_starts, first_zone, zones_apart}
+use Rattle.book_zones.specs.Zones.{tag_by, zone_tag, zone_starts}
+use Rattle.book_zones.specs.ZoneScans.{first_zone, zones_apart}
 
 -- offsets so far apart
 unfoldable pub every : ℕ → ℕ → ℕ → List ℕ

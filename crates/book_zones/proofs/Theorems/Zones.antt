@@ -11,8 +11,8 @@ use Rattle.tagged.specs.Find.{first_place}
 use Rattle.field_values.specs.Limits.{most_zones, tier_count, highest_rate}
 use Rattle.field_values.specs.Judged.{judge, in_order, Judged}
 use Rattle.field_values.proofs.Theorems.Judged.{in_order_end}
-use Rattle.book_zones.specs.Zones.{number_width, zone_starts, first_zone, zones_apart, zone_array, zone_number, zone_numbers, rate_row, zone_rates, judge_row, judge_zones_from, judge_zones}
-use Rattle.book_zones.specs.ZoneScans.{judge_rise, judge_rows, lower}
+use Rattle.book_zones.specs.Zones.{number_width, zone_starts, zone_array, zone_number, zone_numbers, rate_row, zone_rates, judge_row, judge_zones_from, judge_zones}
+use Rattle.book_zones.specs.ZoneScans.{first_zone, zones_apart, judge_rise, judge_rows, lower}
 use Rattle.book_zones.proofs.Theorems.ZoneFields.{every, tag_narrow_or_wide, ZonesStand}
 
 -- ---- arrays with a place for each zone

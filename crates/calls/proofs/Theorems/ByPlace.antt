@@ -1,6 +1,6 @@
 -- The definitions as code meets them: a number is a place and one more, a change is a store at a place, and a scheme's parties are a walk over all
 -- entries, with weight 0 for another scheme's. Each law holds one entry after the other, since the numbers go up by one from 1.
-use Rattle.std.specs.Prelude.{ℕ, zero, suc, ◌+◌, ◌-◌, ◌<◌, ◌≤◌, ◌≡◌, List, [], ◌∷◌, ◌++◌, map, Bool, cond, length, get_or, take, set, eqb, None, Option, Some}
+use Rattle.std.specs.Prelude.{ℕ, find, zero, suc, ◌+◌, ◌-◌, ◌<◌, ◌≤◌, ◌≡◌, List, [], ◌∷◌, ◌++◌, map, Bool, cond, length, get_or, take, set, eqb, None, Option, Some}
 use Rattle.std.proofs.Math.Path.{refl}
 use Rattle.std.proofs.Common.{sym, ap, ap₂, ◌∙◌, add-zero, le_of_suc-le-suc, not-suc-le-zero, arith, length-take, get_or-take, length-take-le}
 use Rattle.std.proofs.Math.Bool.{true, false}
@@ -8,12 +8,14 @@ use Rattle.std.proofs.lemmas.List.{length-map}
 use Rattle.std.proofs.Math.Dec.{ltb}
 use borrow.Author.Tests.{eq-eqb, ne_eqb, eqb-true, eqb-false, ltb-true, ltb-false}
 use Rattle.charge.specs.declared.Bill.{Bill}
-use Rattle.ledger.specs.Lists.{cons_if, keep, numbered_from, All, nil, more, Found, none, found, first, at_start}
+use Rattle.ledger.specs.Lists.{numbered_from, All, nil, more, at_start}
 use Rattle.ledger.specs.Records.{no_scheme, no_party}
 use Rattle.ledger.specs.Updates.{with_credited, with_fees, with_entries, with_schemes}
 use Rattle.ledger.specs.Books.{SchemeParticulars, EntryParticulars, scheme_particulars, entry_particulars, books_of, scheme_at, entry_at, of_scheme}
-use Rattle.ledger.specs.Lookup.{scheme_place, entry_place}
-use Rattle.ledger.specs.Columns.{scheme_column, capacity_column, sum_over}
+use Rattle.ledger.specs.Lookup.{scheme_place}
+use Rattle.ledger.specs.EntryPlace.{entry_place}
+use Rattle.ledger.specs.Columns.{scheme_column, sum_over}
+use Rattle.ledger.specs.CapacityColumns.{capacity_column}
 use Rattle.ledger.specs.Table.{credited_more, credit_each}
 use Rattle.ledger.proofs.Theorems.Table.{length_credit_each, credit_none}
 use Rattle.ledger.specs.declared.records.Scheme.{Scheme}
@@ -21,7 +23,7 @@ use Rattle.ledger.specs.declared.records.Party.{Party}
 use Rattle.ledger.specs.declared.records.Ledger.{Ledger}
 use Rattle.calls.specs.Rules.{Credit, holding, parties_of, capacity_of, share, split, shared, credit_to}
 use Rattle.calls.proofs.Theorems.Rules.{where_own, where_other}
-use Rattle.calls.proofs.Theorems.Lists.{by_test, keep_none, all_keep}
+use Rattle.calls.proofs.Theorems.Lists.{by_test, find_none, all_filter, cons_if}
 use Rattle.calls.specs.CreditColumns.{weights, shares, credits}
 use Rattle.calls.proofs.Theorems.CreditColumns.{no_share, length_credits}
 use Rattle.calls.specs.Carried.{State, books_on, entries_on, new_party, new_scheme, is_credited, joined, opened}
@@ -55,7 +57,7 @@ module _ {A B : Type 0} where
   -- the one that a test finds, at its place
   pub first_numbered : (test : B → Bool) (n place : ℕ) (each : ℕ → A → B) (xs : List A) (default : A) → place < length xs →
       ((x : A) → test (each (n + place) x) ≡ true) → ((i : ℕ) (x : A) → (n + place ≡ i → ⊥) → test (each i x) ≡ false) →
-      first (keep test (numbered_from n each xs)) ≡ found (each (n + place) (get_or xs place default))
+      find test (numbered_from n each xs) ≡ Some (each (n + place) (get_or xs place default))
   first_numbered test n place each [] default below own other = absurd (not-suc-le-zero below)
   first_numbered test n zero each (x ∷ xs) default below own other =
       let same : n + 0 ≡ n = add-zero n in
@@ -105,32 +107,31 @@ module _ (ledger : Ledger) (table : List Party) where
 -- ---- what stands at a number
 
 -- by its place
-abbrev pub scheme_found : List Scheme → Option ℕ → Found SchemeParticulars
-scheme_found schemes (Some place) = found (scheme_particulars (1 + place) (get_or schemes place no_scheme))
-scheme_found schemes None = none
+abbrev pub scheme_found : List Scheme → Option ℕ → Option SchemeParticulars
+scheme_found schemes (Some place) = Some (scheme_particulars (1 + place) (get_or schemes place no_scheme))
+scheme_found schemes None = None
 
-abbrev pub entry_found : List Party → Option ℕ → Found EntryParticulars
-entry_found table (Some place) = found (entry_particulars (1 + place) (get_or table place no_party))
-entry_found table None = none
+abbrev pub entry_found : List Party → Option ℕ → Option EntryParticulars
+entry_found table (Some place) = Some (entry_particulars (1 + place) (get_or table place no_party))
+entry_found table None = None
 
 module _ (ledger : Ledger) (table : List Party) (s : ℕ) where
   pub scheme_opened : 1 ≤ s → s ≤ ledger.count → ledger.count ≤ length ledger.schemes →
-      scheme_at (books_of ledger table) s ≡ found (scheme_particulars s (get_or ledger.schemes (s - 1) no_scheme))
+      scheme_at (books_of ledger table) s ≡ Some (scheme_particulars s (get_or ledger.schemes (s - 1) no_scheme))
   scheme_opened numbered opened places =
       let schemes : List Scheme = take ledger.count ledger.schemes in
       let number : 1 + (s - 1) ≡ s = omega arith in
-      let told : first (keep (λ row. eqb row.number s) (numbered_from 1 scheme_particulars schemes)) ≡ found (scheme_particulars (1 + (s - 1)) (get_or schemes (s - 1) no_scheme)) =
+      let told : find (λ row. eqb row.number s) (numbered_from 1 scheme_particulars schemes) ≡ Some (scheme_particulars (1 + (s - 1)) (get_or schemes (s - 1) no_scheme)) =
       first_numbered (λ row. eqb row.number s) 1 (s - 1) scheme_particulars schemes no_scheme (omega (arith, length-take ledger.count ledger.schemes))
       (λ scheme. eq-eqb (1 + (s - 1)) s number) (λ i scheme other. ne_eqb i s (λ same. other (number ∙ sym same))) in
       rw (number, get_or-take ledger.count ledger.schemes (s - 1) no_scheme (omega arith)) at told
 
-  pub scheme_never_opened : (1 ≤ s → s ≤ ledger.count → ⊥) → scheme_at (books_of ledger table) s ≡ none
+  pub scheme_never_opened : (1 ≤ s → s ≤ ledger.count → ⊥) → scheme_at (books_of ledger table) s ≡ None
   scheme_never_opened never =
-      ap first
-      (keep_none
+      find_none
       (all_numbered 1 scheme_particulars (take ledger.count ledger.schemes)
       (λ i scheme above below.
-      ne_eqb i s (λ same. never (omega arith) (omega (arith, length-take ledger.count ledger.schemes))))))
+      ne_eqb i s (λ same. never (omega arith) (omega (arith, length-take ledger.count ledger.schemes)))))
 
   pub scheme_by_place : ledger.count ≤ length ledger.schemes →
       scheme_at (books_of ledger table) s ≡ scheme_found ledger.schemes (scheme_place ledger.count s)
@@ -148,21 +149,20 @@ module _ (ledger : Ledger) (table : List Party) (s : ℕ) where
 
 module _ (ledger : Ledger) (table : List Party) (e : ℕ) where
   pub entry_there : 1 ≤ e → e ≤ ledger.entries → ledger.entries ≤ length table →
-      entry_at (books_of ledger table) e ≡ found (entry_particulars e (get_or table (e - 1) no_party))
+      entry_at (books_of ledger table) e ≡ Some (entry_particulars e (get_or table (e - 1) no_party))
   entry_there numbered there places =
       let entries : List Party = take ledger.entries table in
       let number : 1 + (e - 1) ≡ e = omega arith in
-      let told : first (keep (λ row. eqb e row.number) (numbered_from 1 entry_particulars entries)) ≡ found (entry_particulars (1 + (e - 1)) (get_or entries (e - 1) no_party)) =
+      let told : find (λ row. eqb e row.number) (numbered_from 1 entry_particulars entries) ≡ Some (entry_particulars (1 + (e - 1)) (get_or entries (e - 1) no_party)) =
       first_numbered (λ row. eqb e row.number) 1 (e - 1) entry_particulars entries no_party (omega (arith, length-take ledger.entries table))
       (λ party. eq-eqb e (1 + (e - 1)) (sym number)) (λ i party other. ne_eqb e i (λ same. other (number ∙ same))) in
       rw (number, get_or-take ledger.entries table (e - 1) no_party (omega arith)) at told
 
-  pub no_such_entry : (1 ≤ e → e ≤ ledger.entries → ⊥) → entry_at (books_of ledger table) e ≡ none
+  pub no_such_entry : (1 ≤ e → e ≤ ledger.entries → ⊥) → entry_at (books_of ledger table) e ≡ None
   no_such_entry never =
-      ap first
-      (keep_none
+      find_none
       (all_numbered 1 entry_particulars (take ledger.entries table)
-      (λ i party above below. ne_eqb e i (λ same. never (omega arith) (omega (arith, length-take ledger.entries table))))))
+      (λ i party above below. ne_eqb e i (λ same. never (omega arith) (omega (arith, length-take ledger.entries table)))))
 
   pub entry_by_place : ledger.entries ≤ length table → entry_at (books_of ledger table) e ≡ entry_found table (entry_place ledger.entries e)
   unfolding entry_place
@@ -235,7 +235,7 @@ walk s amount total before n (party ∷ entries) = go (eqb party.scheme s) refl 
           arith,
           where_own n x,
           split_none amount total from n
-              (all_keep (λ row. eqb row.scheme s) (all_numbered (suc n) entry_particulars entries (λ i entry above below. above))),
+              (all_filter (λ row. eqb row.scheme s) (all_numbered (suc n) entry_particulars entries (λ i entry above below. above))),
         ) in
         ap₂ (λ (y : Party) (ys : List Party). y ∷ ys)
         (ap (λ t. cond t (with_credited (party.credited + (credit_to n (later from) + cond (eqb n n) x 0)) party) party) (eqb_sym s party.scheme ∙ own)

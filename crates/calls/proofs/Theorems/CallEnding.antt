@@ -2,7 +2,8 @@
 use Rattle.std.specs.Prelude.{ℕ, ◌+◌, ◌≡◌, refl, List, [], ◌∷◌, ◌++◌, Bool, true, false, cond, eqb, ℤ, pos, nat_abs, get_or, drop, None, Option, Some}
 use Rattle.std.proofs.Common.{sym, ap, ◌∙◌, arith}
 use Rattle.tagged.proofs.Theorems.Impossible.{impossible}
-use Rattle.tagged.specs.Ending.{Ending, number_is_0}
+use Rattle.tagged.specs.Ending.{Ending}
+use Rattle.tagged.specs.EndingTests.{number_is_0}
 use Rattle.tagged.proofs.Theorems.Ending.{refused_by_number, refused_not_done, refusal_by_ending}
 use Rattle.reconciliation.specs.Figures.{figure_values}
 use Rattle.reconciliation.proofs.Theorems.Figures.{reconciliation_by_figures}
@@ -13,7 +14,8 @@ use Rattle.calls.specs.Carried.{State, books_on}
 use Rattle.calls.specs.Calls.{decided_on, answered}
 use Rattle.calls.specs.CallRefusals.{call_numbers, Refuses}
 use Rattle.calls.proofs.Theorems.Calls.{refusal_numbers}
-use Rattle.calls.specs.CallEnding.{joining_values, opening_value, acceptance_values, call_ending, SchemeNumbered, Numbered, not_refused}
+use Rattle.calls.specs.CallEnding.{joining_values, opening_value, acceptance_values, call_ending}
+use Rattle.calls.specs.CallEndingTests.{SchemeNumbered, Numbered, not_refused}
 use Rattle.calls.specs.declared.answers.Acceptance.{Acceptance}
 use Rattle.calls.specs.declared.answers.JoiningAnswer.{JoiningAnswer}
 use Rattle.calls.specs.declared.answers.JoiningAnswer.TheVariants.{NotAsked, Ended, Small, Joined}

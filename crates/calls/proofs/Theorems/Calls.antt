@@ -1,5 +1,5 @@
 -- What holds of every call alike: a refusal changes nothing and has one of its call's numbers, and a promise can be kept.
-use Rattle.std.specs.Prelude.{ℕ, ◌+◌, ◌≡◌, refl, List, true, false, length, leb, Err, Ok}
+use Rattle.std.specs.Prelude.{ℕ, ◌+◌, ◌≡◌, refl, List, true, false, length, leb, Err, Ok, None, Some, Option}
 use Rattle.std.proofs.Common.{ap}
 use Rattle.tagged.specs.File.{refusal}
 use Rattle.tagged.proofs.Theorems.Impossible.{impossible}
@@ -8,10 +8,10 @@ use Rattle.tagged.specs.declared.file.Refusal.{Refusal}
 use Rattle.charge.specs.Price.{price_of, Pricing}
 use Rattle.charge.proofs.Theorems.PriceRefusals.{pricing_refusal_numbers}
 use Rattle.charge.specs.declared.Bill.{Bill}
-use Rattle.ledger.specs.Lists.{Found, none, found}
 use Rattle.ledger.specs.Books.{EntryParticulars, Books, entry_at}
 use Rattle.ledger.specs.Sound.{sound}
-use Rattle.ledger.specs.RefusalNumbers.{one_of, Among, one_to}
+use Rattle.ledger.specs.RefusalNumbers.{one_of, one_to}
+use Rattle.ledger.specs.NumberLists.{Among}
 use Rattle.ledger.proofs.Theorems.RefusalNumbers.{one_of_more, within_one_to}
 use Rattle.calls.specs.Decision.{Call, CallAnswer, accept, pay_out, hand_over, Decision, accepted, paid_out, handed_over, refused, decided_by, accept_by, pay_out_by, hand_over_by, decided, is_accepted, is_done, is_refused, answer_to}
 use Rattle.calls.specs.Carried.{State, books_on, carried_out}
@@ -68,15 +68,15 @@ decided_refuses books (accept book request) = by_pricing (price_of book request)
         one_of_more (one_to 5) (rule_numbers (accept book request)) r.number refl (within_one_to 5 r.number within.0 within.1)
 decided_refuses books (pay_out e amount) = by_entry (entry_at books e)
   where
-    by_entry : (at : Found EntryParticulars) → RefusesAmong books (rule_numbers (pay_out e amount)) (pay_out_by at amount)
-    by_entry none = refl
-    by_entry (found row) =
+    by_entry : (at : Option EntryParticulars) → RefusesAmong books (rule_numbers (pay_out e amount)) (pay_out_by at amount)
+    by_entry None = refl
+    by_entry (Some row) =
         by_cond (RefusesAmong books (rule_numbers (pay_out e amount))) (leb (row.paid_out + amount) row.credited) _ _ (λ within. tt) (λ above. refl)
 decided_refuses books (hand_over e person) = by_entry (entry_at books e)
   where
-    by_entry : (at : Found EntryParticulars) → RefusesAmong books (rule_numbers (hand_over e person)) (hand_over_by at person)
-    by_entry none = refl
-    by_entry (found row) = tt
+    by_entry : (at : Option EntryParticulars) → RefusesAmong books (rule_numbers (hand_over e person)) (hand_over_by at person)
+    by_entry None = refl
+    by_entry (Some row) = tt
 
 -- 13 comes before everything else, and no rule refuses with it
 with_13 : (call : Call) (answer : CallAnswer) → Refuses (rule_numbers call) answer → Refuses (call_numbers call) answer

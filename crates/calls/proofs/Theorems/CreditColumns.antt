@@ -3,7 +3,8 @@
 use Rattle.std.specs.Prelude.{ℕ, zero, suc, ◌+◌, ◌*◌, ◌/◌, ◌≤◌, ◌<◌, ◌≡◌, refl, List, [], ◌∷◌, Bool, true, false, cond, eqb, length, get_or}
 use Rattle.std.proofs.Common.{zero-le, sym, ap, ap₂, ◌∙◌, mul-div_cancel, add-zero, zero-add, add_assoc, mul-zero, arith, ne_eqb}
 use Rattle.std.proofs.Math.Nat.{div-le_of_le-mul, zero-div, suc_inj}
-use Rattle.ledger.specs.Columns.{sum_over, sum_of, capacity_of}
+use Rattle.ledger.specs.Columns.{sum_over}
+use Rattle.ledger.specs.CapacityColumns.{sum_of, capacity_of}
 use Rattle.ledger.proofs.Theorems.Columns.{sum_none}
 use Rattle.calls.specs.Rules.{contribution, share}
 use Rattle.calls.proofs.Theorems.Rules.{growth}

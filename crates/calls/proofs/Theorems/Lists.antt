@@ -1,7 +1,7 @@
 -- How restricting, turning round, mapping and summing go past each other.
-use Rattle.std.specs.Prelude.{ℕ, ◌+◌, ◌≤◌, ◌≡◌, refl, List, [], ◌∷◌, ◌++◌, map, Bool, true, false, cond, eqb}
+use Rattle.std.specs.Prelude.{ℕ, ◌+◌, ◌≤◌, ◌≡◌, refl, List, [], ◌∷◌, ◌++◌, map, Bool, true, false, cond, eqb, find, None, Option, Some, filter}
 use Rattle.std.proofs.Common.{sym, ap, ap₂, ◌∙◌, append-nil, true≢false, arith, eq-eqb}
-use Rattle.ledger.specs.Lists.{cons_if, keep, oldest_first, sum_by, All, nil, more}
+use Rattle.ledger.specs.Lists.{oldest_first, sum_by, All, nil, more}
 
 -- a case split on a test, with what it came to
 pub by_cond : {A : Type 0} (P : A → Type 0) (t : Bool) (x y : A) → (t ≡ true → P x) → (t ≡ false → P y) → P (cond t x y)
@@ -13,41 +13,62 @@ by_test true ok not_ok = ok refl
 by_test false ok not_ok = not_ok refl
 
 module _ {A : Type 0} where
+  -- an element before the rest, where it passes
+  abbrev pub cons_if : Bool → A → List A → List A
+  cons_if t x xs = cond t (x ∷ xs) xs
+
   pub cons_if_append : (t : Bool) (x : A) (xs ys : List A) → cons_if t x (xs ++ ys) ≡ cons_if t x xs ++ ys
   cons_if_append true x xs ys = refl
   cons_if_append false x xs ys = refl
 
-  pub keep_append : (test : A → Bool) (xs ys : List A) → keep test (xs ++ ys) ≡ keep test xs ++ keep test ys
-  keep_append test [] ys = refl
-  keep_append test (x ∷ xs) ys = ap (cons_if (test x) x) (keep_append test xs ys) ∙ cons_if_append (test x) x (keep test xs) (keep test ys)
+  pub filter_append : (test : A → Bool) (xs ys : List A) → filter test (xs ++ ys) ≡ filter test xs ++ filter test ys
+  filter_append test [] ys = refl
+  filter_append test (x ∷ xs) ys = ap (cons_if (test x) x) (filter_append test xs ys) ∙ cons_if_append (test x) x (filter test xs) (filter test ys)
 
-  keep_last : (t : Bool) (x : A) (xs : List A) → oldest_first xs ++ cons_if t x [] ≡ oldest_first (cons_if t x xs)
-  keep_last true x xs = refl
-  keep_last false x xs = append-nil (oldest_first xs)
+  filter_last : (t : Bool) (x : A) (xs : List A) → oldest_first xs ++ cons_if t x [] ≡ oldest_first (cons_if t x xs)
+  filter_last true x xs = refl
+  filter_last false x xs = append-nil (oldest_first xs)
 
-  pub keep_in_order : (test : A → Bool) (xs : List A) → keep test (oldest_first xs) ≡ oldest_first (keep test xs)
-  keep_in_order test [] = refl
-  keep_in_order test (x ∷ xs) =
-      keep_append test (oldest_first xs) (x ∷ [])
-      ∙ ap (λ (l : List A). l ++ cons_if (test x) x []) (keep_in_order test xs)
-      ∙ keep_last (test x) x (keep test xs)
+  pub filter_in_order : (test : A → Bool) (xs : List A) → filter test (oldest_first xs) ≡ oldest_first (filter test xs)
+  filter_in_order test [] = refl
+  filter_in_order test (x ∷ xs) =
+      filter_append test (oldest_first xs) (x ∷ [])
+      ∙ ap (λ (l : List A). l ++ cons_if (test x) x []) (filter_in_order test xs)
+      ∙ filter_last (test x) x (filter test xs)
 
   -- two restrictions in either order
-  pub keep_swap : (p q : A → Bool) (xs : List A) → keep p (keep q xs) ≡ keep q (keep p xs)
-  keep_swap p q [] = refl
-  keep_swap p q (x ∷ xs) = go (q x) (p x) refl refl (keep_swap p q xs)
+  pub filter_swap : (p q : A → Bool) (xs : List A) → filter p (filter q xs) ≡ filter q (filter p xs)
+  filter_swap p q [] = refl
+  filter_swap p q (x ∷ xs) = go (q x) (p x) refl refl (filter_swap p q xs)
     where
-      go : (b a : Bool) → q x ≡ b → p x ≡ a → keep p (keep q xs) ≡ keep q (keep p xs)
-          → keep p (cons_if b x (keep q xs)) ≡ keep q (cons_if a x (keep p xs))
+      go : (b a : Bool) → q x ≡ b → p x ≡ a → filter p (filter q xs) ≡ filter q (filter p xs)
+          → filter p (cons_if b x (filter q xs)) ≡ filter q (cons_if a x (filter p xs))
       go true true e f r = rw (e, f) (ap (λ (l : List A). x ∷ l) r)
       go true false e f r = rw f r
       go false true e f r = rw e r
       go false false e f r = r
 
   -- none of them passes
-  pub keep_none : {test : A → Bool} {xs : List A} → All (λ x. test x ≡ false) xs → keep test xs ≡ []
-  keep_none nil = refl
-  keep_none (more h hs) = rw h (keep_none hs)
+  pub filter_none : {test : A → Bool} {xs : List A} → All (λ x. test x ≡ false) xs → filter test xs ≡ []
+  filter_none nil = refl
+  filter_none (more h hs) = rw h (filter_none hs)
+
+  pub find_none : {test : A → Bool} {xs : List A} → All (λ x. test x ≡ false) xs → find test xs ≡ None
+  find_none nil = refl
+  find_none (more h hs) = rw h (find_none hs)
+
+  -- what is found is the first of those that pass
+  abbrev pub first : List A → Option A
+  first [] = None
+  first (x ∷ xs) = Some x
+
+  pub find_first : (test : A → Bool) (xs : List A) → find test xs ≡ first (filter test xs)
+  find_first test [] = refl
+  find_first test (x ∷ xs) = go (test x) (find_first test xs)
+    where
+      go : (b : Bool) → find test xs ≡ first (filter test xs) → cond b (Some x) (find test xs) ≡ first (cons_if b x (filter test xs))
+      go true r = refl
+      go false r = r
 
   -- ---- sums
 
@@ -80,9 +101,9 @@ module _ {A : Type 0} where
   sum_by_cons_if f false x xs = omega arith
 
   -- a sum over those that pass the test
-  pub sum_by_keep : (f : A → ℕ) (test : A → Bool) (xs : List A) → sum_by f (keep test xs) ≡ sum_by (λ x. cond (test x) (f x) 0) xs
-  sum_by_keep f test [] = refl
-  sum_by_keep f test (x ∷ xs) = omega (arith, sum_by_cons_if f (test x) x (keep test xs), sum_by_keep f test xs)
+  pub sum_by_filter : (f : A → ℕ) (test : A → Bool) (xs : List A) → sum_by f (filter test xs) ≡ sum_by (λ x. cond (test x) (f x) 0) xs
+  sum_by_filter f test [] = refl
+  sum_by_filter f test (x ∷ xs) = omega (arith, sum_by_cons_if f (test x) x (filter test xs), sum_by_filter f test xs)
 
   -- ---- facts of each element
 
@@ -116,12 +137,12 @@ module _ {A : Type 0} where
   all_cons_if true x f h = more (f refl) h
   all_cons_if false x f h = h
 
-  pub all_keep : {P : A → Type 0} (test : A → Bool) {xs : List A} → All P xs → All P (keep test xs)
-  all_keep test nil = nil
-  all_keep test (more {x} h hs) = all_cons_if (test x) x (λ _. h) (all_keep test hs)
+  pub all_filter : {P : A → Type 0} (test : A → Bool) {xs : List A} → All P xs → All P (filter test xs)
+  all_filter test nil = nil
+  all_filter test (more {x} h hs) = all_cons_if (test x) x (λ _. h) (all_filter test hs)
 
   -- of those that were kept the test is known
-  pub all_kept : {P : A → Type 0} (test : A → Bool) (xs : List A) → ((x : A) → test x ≡ true → P x) → All P (keep test xs)
+  pub all_kept : {P : A → Type 0} (test : A → Bool) (xs : List A) → ((x : A) → test x ≡ true → P x) → All P (filter test xs)
   all_kept test [] f = nil
   all_kept test (x ∷ xs) f = all_cons_if (test x) x (f x) (all_kept test xs f)
 
@@ -130,25 +151,25 @@ module _ {A : Type 0} where
   of_cons_if false x xs h = ((λ e. absurd (true≢false (sym e))), h)
 
   -- a fact of those that are kept, over all of them
-  pub all_of_kept : {P : A → Type 0} (test : A → Bool) (xs : List A) → All P (keep test xs) → All (λ x. test x ≡ true → P x) xs
+  pub all_of_kept : {P : A → Type 0} (test : A → Bool) (xs : List A) → All P (filter test xs) → All (λ x. test x ≡ true → P x) xs
   all_of_kept test [] h = nil
-  all_of_kept test (x ∷ xs) h = let r = of_cons_if (test x) x (keep test xs) h in more r.0 (all_of_kept test xs r.1)
+  all_of_kept test (x ∷ xs) h = let r = of_cons_if (test x) x (filter test xs) h in more r.0 (all_of_kept test xs r.1)
 
   -- what holds of each key's part holds of all, each by its own key
-  pub all_by_key : (P : ℕ → A → Type 0) (key : A → ℕ) (xs : List A) → ((s : ℕ) → All (P s) (keep (λ x. eqb (key x) s) xs)) → All (λ x. P (key x) x) xs
+  pub all_by_key : (P : ℕ → A → Type 0) (key : A → ℕ) (xs : List A) → ((s : ℕ) → All (P s) (filter (λ x. eqb (key x) s) xs)) → All (λ x. P (key x) x) xs
   all_by_key P key [] h = nil
   all_by_key P key (x ∷ xs) h =
-      more ((of_cons_if (eqb (key x) (key x)) x (keep (λ y. eqb (key y) (key x)) xs) (h (key x))).0 (eq-eqb (key x) (key x) refl))
-      (all_by_key P key xs (λ s. (of_cons_if (eqb (key x) s) x (keep (λ y. eqb (key y) s) xs) (h s)).1))
+      more ((of_cons_if (eqb (key x) (key x)) x (filter (λ y. eqb (key y) (key x)) xs) (h (key x))).0 (eq-eqb (key x) (key x) refl))
+      (all_by_key P key xs (λ s. (of_cons_if (eqb (key x) s) x (filter (λ y. eqb (key y) s) xs) (h s)).1))
 
 module _ {A B : Type 0} where
   map_cons_if : (f : A → B) (t : Bool) (x : A) (xs : List A) → cons_if t (f x) (map f xs) ≡ map f (cons_if t x xs)
   map_cons_if f true x xs = refl
   map_cons_if f false x xs = refl
 
-  pub keep_map : (test : B → Bool) (f : A → B) (xs : List A) → keep test (map f xs) ≡ map f (keep (λ x. test (f x)) xs)
-  keep_map test f [] = refl
-  keep_map test f (x ∷ xs) = ap (cons_if (test (f x)) (f x)) (keep_map test f xs) ∙ map_cons_if f (test (f x)) x (keep (λ x. test (f x)) xs)
+  pub filter_map_lem : (test : B → Bool) (f : A → B) (xs : List A) → filter test (map f xs) ≡ map f (filter (λ x. test (f x)) xs)
+  filter_map_lem test f [] = refl
+  filter_map_lem test f (x ∷ xs) = ap (cons_if (test (f x)) (f x)) (filter_map_lem test f xs) ∙ map_cons_if f (test (f x)) x (filter (λ x. test (f x)) xs)
 
   pub map_same : (f g : A → B) {xs : List A} → All (λ x. f x ≡ g x) xs → map f xs ≡ map g xs
   map_same f g nil = refl
@@ -158,9 +179,9 @@ module _ {A B : Type 0} where
   sum_by_map w f [] = refl
   sum_by_map w f (x ∷ xs) = ap (λ (n : ℕ). n + w (f x)) (sum_by_map w f xs)
 
-  -- keep, then map, over a list turned round
-  pub keep_rows : (test : B → Bool) (f : A → B) (xs : List A) → keep test (map f (oldest_first xs)) ≡ map f (oldest_first (keep (λ x. test (f x)) xs))
-  keep_rows test f xs = keep_map test f (oldest_first xs) ∙ ap (map f) (keep_in_order (λ x. test (f x)) xs)
+  -- filter, then map, over a list turned round
+  pub filter_rows : (test : B → Bool) (f : A → B) (xs : List A) → filter test (map f (oldest_first xs)) ≡ map f (oldest_first (filter (λ x. test (f x)) xs))
+  filter_rows test f xs = filter_map_lem test f (oldest_first xs) ∙ ap (map f) (filter_in_order (λ x. test (f x)) xs)
 
   pub all_mapped : {P : B → Type 0} (f : A → B) {xs : List A} → All (λ x. P (f x)) xs → All P (map f xs)
   all_mapped f nil = nil

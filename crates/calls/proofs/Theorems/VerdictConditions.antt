@@ -1,5 +1,5 @@
 -- What a request that is accepted has: the tests that it passed, one after the other.
-use Rattle.std.specs.Prelude.{ℕ, ◌+◌, ◌-◌, ◌<◌, ◌≤◌, ◌≡◌, refl, List, [], ◌∷◌, Bool, true, false, cond, length, get_or, leb, ltb, eqb, Err, Ok}
+use Rattle.std.specs.Prelude.{ℕ, ◌+◌, ◌-◌, ◌<◌, ◌≤◌, ◌≡◌, refl, List, [], ◌∷◌, Bool, true, false, cond, length, get_or, leb, ltb, eqb, Err, Ok, None, Some, Option}
 use Rattle.std.proofs.Common.{ap, subst, ◌∙◌, arith, leb-false, ltb-true, ltb-false, eqb-true}
 use Rattle.std.proofs.lemmas.Bool.{eqb-false}
 use Rattle.tagged.proofs.Theorems.Impossible.{impossible}
@@ -7,7 +7,6 @@ use Rattle.tagged.specs.File.{refusal}
 use Rattle.tagged.specs.Refusals.{scheme_never_opened, month_before_last, no_scheme_left, no_entry_left, no_connection_left}
 use Rattle.charge.specs.declared.Bill.{Bill}
 use Rattle.ledger.specs.Limits.{most_schemes, most_entries, most_connections}
-use Rattle.ledger.specs.Lists.{Found, none, found}
 use Rattle.ledger.specs.Records.{no_scheme}
 use Rattle.ledger.specs.Books.{SchemeParticulars, Books, scheme_particulars, books_of, scheme_at}
 use Rattle.ledger.specs.Sound.{all_hold}
@@ -115,7 +114,7 @@ opening_conditions bill opens =
 pub record PayingConditions (books : Books) (bill : Bill) (paid : Contribution) : Type 0 where
   pub numbered : 1 ≤ bill.applicant.scheme
   pub row : SchemeParticulars
-  pub stands : scheme_at books bill.applicant.scheme ≡ found row
+  pub stands : scheme_at books bill.applicant.scheme ≡ Some row
   pub running : bill.applicant.month < row.opening + row.term
   pub collected : paid.collected ≡ contribution row.cost bill.applicant.capacity (capacity_of (parties_of bill.applicant.scheme books))
   pub fee : paid.fee ≡ row.fee
@@ -136,10 +135,10 @@ joining_conditions books bill =
     some_number : (s : ℕ) → (s ≡ 0 → ⊥) → 1 ≤ s
     some_number s other = omega (arith, other)
 
-    by_row : (at : Found SchemeParticulars) → scheme_at books bill.applicant.scheme ≡ at → 1 ≤ bill.applicant.scheme →
+    by_row : (at : Option SchemeParticulars) → scheme_at books bill.applicant.scheme ≡ at → 1 ≤ bill.applicant.scheme →
         JoiningConditions books bill (joining_by books bill at)
-    by_row none stands numbered = tt
-    by_row (found row) stands numbered =
+    by_row None stands numbered = tt
+    by_row (Some row) stands numbered =
         let G = contribution row.cost bill.applicant.capacity (capacity_of (parties_of bill.applicant.scheme books)) in
         by_cond (JoiningConditions books bill) (leb (row.opening + row.term) bill.applicant.month) _ _ (λ ended. tt)
         (λ running.

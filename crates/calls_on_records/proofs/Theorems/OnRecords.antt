@@ -13,7 +13,7 @@ use Rattle.acceptance.specs.Plan.{plan_table}
 use Rattle.acceptance.specs.PlanFits.{FitsIfAccepted}
 use Rattle.acceptance.specs.PlanCarried.{Plan}
 use Rattle.entry_calls.specs.EntryCalls.{changed_table, EntryChange}
-use Rattle.calls_on_records.specs.OnRecords.{PlaceIfDone}
+use Rattle.calls_on_records.specs.PlaceIfDone.{PlaceIfDone}
 
 -- ---- stores, and credits
 take_set : {A : Type 0} (n : ℕ) (xs : List A) (i : ℕ) (x : A) → take n (set xs i x) ≡ set (take n xs) i x

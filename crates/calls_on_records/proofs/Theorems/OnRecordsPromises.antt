@@ -9,7 +9,7 @@ use Rattle.tagged.specs.Refusals.{ledger_unsound}
 use Rattle.charge.specs.Price.{price_of}
 use Rattle.ledger.specs.Limits.{most_schemes, most_entries}
 use Rattle.ledger.specs.Books.{books_of}
-use Rattle.ledger.specs.Lookup.{entry_place}
+use Rattle.ledger.specs.EntryPlace.{entry_place}
 use Rattle.ledger.specs.Sound.{sound}
 use Rattle.ledger.proofs.Theorems.Sound.{sound_means}
 use Rattle.ledger.proofs.Theorems.SameEntries.{same_sound}
@@ -27,7 +27,8 @@ use Rattle.acceptance.proofs.Theorems.PlanPromised.{plan_promised}
 use Rattle.acceptance.specs.PlanCarried.{Plan}
 use Rattle.entry_calls.specs.EntryCalls.{paid_more, handed_to, refused_change, changed_at, change_of, entry_change, changed_table, EntryChange}
 use Rattle.entry_calls.proofs.Theorems.ChangePromised.{IsCall, change_promised as change_kept}
-use Rattle.calls_on_records.specs.OnRecords.{SoundOnRecords, PromisedOnRecords, PlaceIfDone}
+use Rattle.calls_on_records.specs.OnRecords.{SoundOnRecords, PromisedOnRecords}
+use Rattle.calls_on_records.specs.PlaceIfDone.{PlaceIfDone}
 use Rattle.calls_on_records.proofs.Theorems.OnRecords.{plan_take, plan_drop, change_take, change_drop, same_entries, records_length}
 
 -- ---- the place of an entry that is changed

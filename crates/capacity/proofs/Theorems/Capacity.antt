@@ -3,7 +3,8 @@ use Rattle.std.specs.Prelude.{ℕ, ◌*◌, ◌≤◌, Bool, true, false, cond, 
 use Rattle.std.proofs.Common.{zero-le, mul-le-mul, arith}
 use Rattle.field_values.specs.Limits.{highest_rate, highest_demand}
 use Rattle.capacity.specs.Capacity.{mode_at, tier_cost, cost_at, capacity_cost}
-use Rattle.capacity.specs.CapacityLimits.{highest_tier_cost, highest_capacity_cost, TiersWithin, DemandsWithin}
+use Rattle.capacity.specs.CapacityLimits.{highest_tier_cost, highest_capacity_cost}
+use Rattle.capacity.specs.TierLimits.{TiersWithin, DemandsWithin}
 use Rattle.capacity.specs.declared.Tiers.{Tiers}
 
 pub cond_within : (test : Bool) {a b limit : ℕ} → a ≤ limit → b ≤ limit → cond test a b ≤ limit

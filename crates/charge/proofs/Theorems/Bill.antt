@@ -20,13 +20,13 @@ use Rattle.request.proofs.Theorems.Request.{altered_request_refused}
 use Rattle.request.specs.RequestLimits.{RequestWithin}
 use Rattle.request.proofs.Theorems.RequestLimits.{request_within_limits}
 use Rattle.request.specs.declared.values.Request.{Request}
-use Rattle.revenue.specs.Revenue.{StreamWithin, life_of}
-use Rattle.revenue.specs.RevenueLimits.{longest_life}
+use Rattle.revenue.specs.Revenue.{life_of}
+use Rattle.revenue.specs.StreamLimits.{StreamWithin, longest_life}
 use Rattle.revenue.proofs.Theorems.Revenue.{distribution_opex_factor_at_most, incremental_revenue_bounded}
-use Rattle.capacity.specs.CapacityLimits.{TiersWithin}
+use Rattle.capacity.specs.TierLimits.{TiersWithin}
 use Rattle.capacity.specs.Capacity.{first_not_allowed}
 use Rattle.capacity.proofs.Theorems.Capacity.{capacity_cost_at_most}
-use Rattle.reconciliation.specs.FigureLimits.{CostsWithin}
+use Rattle.reconciliation.specs.CostLimits.{CostsWithin}
 use Rattle.reconciliation.specs.ExactPercent.{ExactPercentages}
 use Rattle.reconciliation.proofs.Theorems.Reconciliation.{reconciliation_bounded}
 use Rattle.reconciliation.proofs.Theorems.ExactPercent.{percentages_exact}

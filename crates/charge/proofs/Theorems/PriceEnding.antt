@@ -2,7 +2,9 @@
 use Rattle.std.specs.Prelude.{ℕ, ◌≤◌, ◌≡◌, refl, List, Err, Ok}
 use Rattle.std.proofs.Common.{sym, ap}
 use Rattle.tagged.specs.File.{answer_of}
-use Rattle.tagged.specs.Ending.{Ending, file_ending, number_is_0, stands}
+use Rattle.tagged.specs.Ending.{Ending}
+use Rattle.tagged.specs.EndingTests.{number_is_0, stands}
+use Rattle.tagged.specs.FileEnding.{file_ending}
 use Rattle.tagged.proofs.Theorems.Ending.{refused_by_number, refused_not_done, refusal_by_ending, numbered_to, file_answer_by_number}
 use Rattle.tagged.specs.Refusals.{value_not_listed}
 use Rattle.tagged.specs.declared.file.Refusal.{Refusal}

@@ -1,7 +1,8 @@
 -- Pricing refuses a book with 1 to 3, a request with 1 to 5, and with no other number.
 use Rattle.std.specs.Prelude.{ℕ, ◌≤◌, ◌≡◌, refl, List, [], get_or, Err, None, Ok, Option, Some, Result}
 use Rattle.std.proofs.Common.{subst, inl, inr, ⊎_elim, arith}
-use Rattle.tagged.specs.File.{RefusalTo, answer_of}
+use Rattle.tagged.specs.File.{answer_of}
+use Rattle.tagged.specs.FileStands.{RefusalTo}
 use Rattle.tagged.proofs.Theorems.File.{RefusesTo}
 use Rattle.tagged.specs.Refusals.{value_not_listed, bespoke_not_allowed}
 use Rattle.tagged.specs.declared.file.Refusal.{Refusal}

@@ -1,6 +1,6 @@
 -- The loop keeps that the array has the factors of the years until n.
 use Rattle.std.proofs.Common.{length, ◌≡◌}
-use Rattle.discount.specs.Discount.{FactorsUntil}
+use Rattle.discount.specs.DiscountLimits.{FactorsUntil}
 use Rattle.discount.proofs.factors_until.Given as goal
 
 abbrev pub invariant-loop-n : goal.invariant-loop-n

@@ -8,7 +8,7 @@ use Rattle.tagged.specs.declared.file.Refusal.{Refusal}
 use Rattle.ledger.specs.Lists.{numbered_from, at_start}
 use Rattle.ledger.specs.Records.{no_party}
 use Rattle.ledger.specs.Books.{entry_at, books_of}
-use Rattle.ledger.specs.Lookup.{entry_place}
+use Rattle.ledger.specs.EntryPlace.{entry_place}
 use Rattle.ledger.proofs.Theorems.Lookup.{entry_placed}
 use Rattle.ledger.proofs.Theorems.SameEntries.{snapshot_sound}
 use Rattle.ledger.specs.Sound.{sound}

@@ -5,10 +5,9 @@ use Rattle.tagged.specs.File.{refusal}
 use Rattle.tagged.proofs.Theorems.Impossible.{impossible}
 use Rattle.tagged.specs.Refusals.{no_such_entry, pay_out_above_credit, ledger_unsound}
 use Rattle.tagged.specs.declared.file.Refusal.{Refusal}
-use Rattle.ledger.specs.Lists.{Found, none, found}
 use Rattle.ledger.specs.Records.{no_party}
 use Rattle.ledger.specs.Books.{EntryParticulars, entry_at, books_of}
-use Rattle.ledger.specs.Lookup.{entry_place}
+use Rattle.ledger.specs.EntryPlace.{entry_place}
 use Rattle.ledger.proofs.Theorems.Lookup.{entry_placed}
 use Rattle.ledger.specs.Sound.{sound}
 use Rattle.ledger.specs.declared.records.Party.{Party}
@@ -51,9 +50,9 @@ module _ (ledger : Ledger) (parties : List Party) (e : ℕ) where
     unfolding entry_change
     entry_paid = by (entry_at (books_of ledger parties) e)
       where
-        by : (row : Found EntryParticulars) → IfDone entries (paid_more amount) (change_of entries (pay_out_by row amount))
-        by none = refused_none entries (paid_more amount) (refusal no_such_entry 0 0)
-        by (found row) =
+        by : (row : Option EntryParticulars) → IfDone entries (paid_more amount) (change_of entries (pay_out_by row amount))
+        by None = refused_none entries (paid_more amount) (refusal no_such_entry 0 0)
+        by (Some row) =
             by_cond (λ decision. IfDone entries (paid_more amount) (change_of entries decision)) (leb (row.paid_out + amount) row.credited)
             (paid_out row.scheme row.number amount) (refused (refusal pay_out_above_credit 0 0)) (λ within. at_place entries (paid_more amount) row.number)
             (λ above. refused_none entries (paid_more amount) (refusal pay_out_above_credit 0 0))
@@ -67,9 +66,9 @@ module _ (ledger : Ledger) (parties : List Party) (e : ℕ) where
     unfolding entry_change
     entry_handed = by (entry_at (books_of ledger parties) e)
       where
-        by : (row : Found EntryParticulars) → IfDone entries (handed_to person) (change_of entries (hand_over_by row person))
-        by none = refused_none entries (handed_to person) (refusal no_such_entry 0 0)
-        by (found row) = at_place entries (handed_to person) row.number
+        by : (row : Option EntryParticulars) → IfDone entries (handed_to person) (change_of entries (hand_over_by row person))
+        by None = refused_none entries (handed_to person) (refusal no_such_entry 0 0)
+        by (Some row) = at_place entries (handed_to person) row.number
 
     pub hand_over_changed : (room : ℕ) → IfDone entries (handed_to person) (hand_over_change ledger parties room e person)
     unfolding hand_over_change

@@ -4,7 +4,7 @@ use Rattle.std.proofs.Common.{sym, ap, ◌∙◌, length-take-le, get_or-set_oth
 use Rattle.tagged.specs.File.{refusal}
 use Rattle.tagged.specs.Refusals.{no_such_entry, pay_out_above_credit, ledger_unsound}
 use Rattle.ledger.specs.Records.{no_party}
-use Rattle.ledger.specs.Lookup.{entry_place, Placed}
+use Rattle.ledger.specs.EntryPlace.{entry_place, Placed}
 use Rattle.ledger.proofs.Theorems.Lookup.{by_number, placed_entry}
 use Rattle.ledger.specs.Sound.{sound}
 use Rattle.ledger.proofs.Theorems.Sound.{sound_means}

@@ -5,10 +5,9 @@ use Rattle.std.proofs.Common.{ap₂, ◌∙◌, le_refl, arith, length-take, get
 use Rattle.std.proofs.Math.Seq.{take-length}
 use Rattle.std.proofs.lemmas.Bool.{lt-leb}
 use Rattle.tagged.specs.Refusals.{no_such_entry, pay_out_above_credit}
-use Rattle.ledger.specs.Lists.{none, found}
 use Rattle.ledger.specs.Records.{no_party}
 use Rattle.ledger.specs.Books.{entry_at, entry_particulars, books_of}
-use Rattle.ledger.specs.Lookup.{entry_place}
+use Rattle.ledger.specs.EntryPlace.{entry_place}
 use Rattle.ledger.proofs.Theorems.Lookup.{entry_placed}
 use Rattle.ledger.specs.Updates.{with_entries}
 use Rattle.ledger.specs.declared.records.Party.{Party}
@@ -38,10 +37,10 @@ module _ (ledger : Ledger) (parties : List Party) (e : ℕ) where
     same : get_or (take ledger.entries parties) k no_party ≡ party
     same = get_or-take ledger.entries parties k no_party kept_below.0
 
-    pub row_at : entry_at (books_of ledger parties) e ≡ found (entry_particulars e party)
+    pub row_at : entry_at (books_of ledger parties) e ≡ Some (entry_particulars e party)
     row_at =
         let number : 1 + k ≡ e = omega (arith, (entry_placed (length (take ledger.entries parties)) e k place).next) in
-        found_at ∙ ap (entry_found (take ledger.entries parties)) place ∙ ap₂ (λ n record_at. found (entry_particulars n record_at)) number same
+        found_at ∙ ap (entry_found (take ledger.entries parties)) place ∙ ap₂ (λ n record_at. Some (entry_particulars n record_at)) number same
 
     pub pay_out_within : (amount : ℕ) → party.paid_out + amount ≤ party.credited →
         entry_change ledger parties (pay_out e amount) ≡ done_change k (paid_more amount party)
@@ -58,7 +57,7 @@ module _ (ledger : Ledger) (parties : List Party) (e : ℕ) where
     hand_over_there person = ap (λ row. change_of (take ledger.entries parties) (hand_over_by row person)) row_at ∙ rw (place, same)
 
   module _ (missing : entry_place (length (take ledger.entries parties)) e ≡ None) where
-    pub none_at : entry_at (books_of ledger parties) e ≡ none
+    pub none_at : entry_at (books_of ledger parties) e ≡ None
     none_at = found_at ∙ ap (entry_found (take ledger.entries parties)) missing
 
     pub pay_out_missing : (amount : ℕ) → entry_change ledger parties (pay_out e amount) ≡ refused_change no_such_entry

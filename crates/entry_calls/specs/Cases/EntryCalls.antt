@@ -2,7 +2,8 @@
 use Rattle.std.specs.Prelude.{ℕ, ◌≡◌, refl, List, [], ◌∷◌, map, replicate, Err, Ok}
 use Rattle.ledger.specs.Records.{scheme_of, party_of, ledger_of, no_scheme}
 use Rattle.ledger.specs.Columns.{sum_over, first_put_in}
-use Rattle.ledger.specs.Lookup.{scheme_place, entry_place}
+use Rattle.ledger.specs.Lookup.{scheme_place}
+use Rattle.ledger.specs.EntryPlace.{entry_place}
 use Rattle.ledger.specs.Sound.{parties_sound, schemes_sound, all_zero, sound}
 use Rattle.ledger.specs.declared.records.Party.{Party}
 use Rattle.ledger.specs.declared.records.Ledger.{Ledger}

@@ -7,8 +7,8 @@ use Rattle.tagged.proofs.Theorems.Walk.{by_test}
 use Rattle.field_values.specs.Limits.{most_factors, highest_factor}
 use Rattle.field_values.specs.Judged.{judge_numbers}
 use Rattle.field_values.proofs.Theorems.Judged.{judged_within_replicate}
-use Rattle.field_values.specs.Factors.{FactorBytes, factor_limits, judge_factors, factor_at, factors_of}
-use Rattle.field_values.specs.FactorLimits.{FactorsWithin}
+use Rattle.field_values.specs.Factors.{factor_limits, judge_factors, factor_at, factors_of}
+use Rattle.field_values.specs.FactorLimits.{FactorBytes, FactorsWithin}
 
 module _ (at : ℕ) (value : List ℕ) (passes : judge_numbers factor_limits at value ≡ Ok tt) (upto : length value ≤ 2 * most_factors) where
   factor_within : (k : ℕ) → factor_at value (2 * k) ≤ highest_factor

@@ -5,7 +5,8 @@ use Rattle.std.proofs.Common.{sym, ap, subst, ◌∙◌, arith}
 use Rattle.tagged.proofs.Theorems.Impossible.{impossible}
 use Rattle.charge.specs.Price.{price_of}
 use Rattle.charge.specs.declared.Bill.{Bill}
-use Rattle.ledger.specs.Lists.{cons_if, sum_by}
+use Rattle.ledger.specs.Lists.{sum_by}
+use Rattle.calls.proofs.Theorems.Lists.{cons_if}
 use Rattle.calls.specs.Rules.{Credit}
 use Rattle.calls.specs.Verdict.{verdict, Verdict}
 use Rattle.calls.specs.Decision.{accept, accepted, credits_by, decided_by, accept_by, is_accepted, joining_answer, opening_answer, acceptance_of, answer_to}
@@ -14,7 +15,7 @@ use Rattle.calls.specs.declared.courses.Joining.TheVariants.{NotAsked, Ended, Sm
 use Rattle.calls.specs.declared.courses.Course.{Course}
 use Rattle.calls.specs.declared.answers.Acceptance.{Acceptance}
 use Rattle.history.specs.History.{Entering, History, enterings_of, books_in, billed_in, joiner, opener, joined_in, opened_in, recorded, with_call, answer_by}
-use Rattle.history.specs.CountedByAnswers.{joinings_by, collected_by, cost_by, CountedByAnswers}
+use Rattle.history.specs.Laws.{joinings_by, collected_by, cost_by, CountedByAnswers}
 
 -- one entering more, where it is of the scheme
 one_more : (figure : Entering → ℕ) (e : Entering) (own : Bool) (older : List Entering) →

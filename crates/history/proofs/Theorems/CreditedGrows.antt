@@ -2,12 +2,12 @@
 use Rattle.std.specs.Prelude.{ℕ, ◌≡◌, refl, List, Bool, true, false, eqb}
 use Rattle.std.proofs.Common.{◌∙◌, arith}
 use Rattle.charge.specs.declared.Bill.{Bill}
-use Rattle.ledger.specs.Lists.{cons_if}
+use Rattle.calls.proofs.Theorems.Lists.{cons_if}
 use Rattle.calls.specs.Rules.{Credit}
 use Rattle.calls.specs.Decision.{Call, Decision, accepted, paid_out, handed_over, refused, decided, joining_answer, answer_to}
 use Rattle.calls.specs.declared.courses.Joining.{Joining}
 use Rattle.calls.specs.declared.courses.Joining.TheVariants.{NotAsked, Ended, Small, Pays}
-use Rattle.history.specs.AnswersJoined.{IsJoined, AnswersJoined}
+use Rattle.history.specs.Laws.{IsJoined, AnswersJoined}
 use Rattle.history.specs.History.{Entering, History, account_of, enterings_of, credited_to, books_in, billed_in, joined_in, opener, opened_in, recorded, with_call, answer_by}
 
 opener_credits : (e : ℕ) (t : Bool) (bill : Bill) (scheme entry : ℕ) (c : List Entering) →

@@ -2,16 +2,16 @@
 use Rattle.std.specs.Prelude.{ℕ, ◌+◌, ◌≤◌, ◌<◌, ◌≡◌, refl, List, [], ◌∷◌, ◌++◌, map, Bool, true, false, cond, length, eqb}
 use Rattle.std.proofs.Common.{sym, ap, ap₂, ◌∙◌, subst, true≢false, add-one, arith, eqb-true, eq-eqb, ne_eqb}
 use Rattle.charge.specs.declared.Bill.{Bill}
-use Rattle.ledger.specs.Lists.{cons_if, oldest_first, numbered_from, All, nil, more, at_start}
+use Rattle.ledger.specs.Lists.{oldest_first, numbered_from, All, nil, more, at_start}
 use Rattle.ledger.specs.Records.{new_ledger}
 use Rattle.ledger.specs.Books.{scheme_particulars, entry_particulars}
 use Rattle.ledger.specs.Updates.{with_person, with_credited, with_paid_out, with_fees, with_entries, with_schemes}
 use Rattle.ledger.specs.declared.records.Scheme.{Scheme}
 use Rattle.ledger.specs.declared.records.Party.{Party}
 use Rattle.calls.specs.Rules.{credit_to}
-use Rattle.calls.specs.Carried.{books_on, schemes_on, entries_on, with_table, new_party, new_scheme, takes_fee, is_credited, joined, opened, is_paid, is_handed}
+use Rattle.calls.specs.Carried.{books_on, schemes_on, entries_on, new_party, new_scheme, takes_fee, is_credited, joined, opened, is_paid, is_handed}
 use Rattle.calls.specs.Calls.{state_of}
-use Rattle.calls.proofs.Theorems.Lists.{all_map, all_any, all_keep, all_in_order, map_same}
+use Rattle.calls.proofs.Theorems.Lists.{all_map, all_any, all_filter, all_in_order, map_same, cons_if}
 use Rattle.calls.proofs.Theorems.ByPlace.{length_at_start}
 use Rattle.kept_sound.proofs.Theorems.AtStart.{take_at_start, at_start_again}
 use Rattle.calls.specs.declared.courses.Joining.TheVariants.{Pays}
@@ -95,7 +95,7 @@ party_new next_scheme e h sound new uncredited = λ i. record {
   put_in = e.put_in;
   credited = sym uncredited i;
   paid_out =
-      (sym (unpaid h.next_entry (all_keep (λ p. eqb p.scheme e.scheme) sound.paid_made))
+      (sym (unpaid h.next_entry (all_filter (λ p. eqb p.scheme e.scheme) sound.paid_made))
       ∙ ap (λ (n : ℕ). paid_to n (payments_of e.scheme h.paid)) (sym new)) i;
 }
 
@@ -154,7 +154,7 @@ module _ (start : List Party) (h : History) (sound : SoundHistory h) (joining : 
   joiner_new =
       ap (credited_to h.next_entry) (own_entering j h.entered)
       ∙ joiner_uncredited j (enterings_of s h.entered) is.joins (sound.accounts s).chain
-      (all_keep (λ e. eqb e.scheme s) (all_below h.next_entry h.entered (numbered h sound)))
+      (all_filter (λ e. eqb e.scheme s) (all_below h.next_entry h.entered (numbered h sound)))
 
   fee_taken : (o : Entering) → takes_fee s joining.paid.fee o.scheme (scheme_in h o) ≡ scheme_in after_joining o
   fee_taken o =
@@ -217,7 +217,7 @@ module _ (start : List Party) (bill : Bill) (h : History) (sound : SoundHistory 
       shown_more (scheme_in after_opening) o (openings h.entered) (schemes_on (state_in start h)) (new_scheme bill)
       (schemes_on_lem start h
       ∙ map_same (scheme_in h) (scheme_in after_opening)
-      (all_in_order (all_keep (λ e. e.opens)
+      (all_in_order (all_filter (λ e. e.opens)
       (all_map
       (λ (e : Entering) (below : e.scheme < h.next_scheme). ap (λ (c : List Entering). with_fees (fees c) (scheme_in h e)) (not_theirs e below))
       sound.numbers.schemes_made))))
@@ -279,7 +279,7 @@ shows_changed start h after change sound kept same =
 
 module _ (start : List Party) (h : History) (sound : SoundHistory h) where
   pub shows_paid : (p : Payment) → All (λ e. eqb p.entry e.entry ≡ true → p.scheme ≡ e.scheme) h.entered →
-      with_table (numbered_from 1 (is_paid p.entry p.amount) (entries_on (state_in start h))) (state_in start h) ≡ state_in start (paid_in p h)
+      record (state_in start h) { table = at_start (numbered_from 1 (is_paid p.entry p.amount) (entries_on (state_in start h))) (state_in start h).table } ≡ state_in start (paid_in p h)
   shows_paid p known =
       ap (state_of (ledger_in h))
       (shows_changed start h (paid_in p h) (is_paid p.entry p.amount) sound refl
@@ -292,7 +292,7 @@ module _ (start : List Party) (h : History) (sound : SoundHistory h) where
       known))
 
   pub shows_handed : (x : HandOver) →
-      with_table (numbered_from 1 (is_handed x.entry x.person) (entries_on (state_in start h))) (state_in start h) ≡ state_in start (handed_in x h)
+      record (state_in start h) { table = at_start (numbered_from 1 (is_handed x.entry x.person) (entries_on (state_in start h))) (state_in start h).table } ≡ state_in start (handed_in x h)
   shows_handed x =
       ap (state_of (ledger_in h))
       (shows_changed start h (handed_in x h) (is_handed x.entry x.person) sound refl

@@ -1,8 +1,8 @@
 -- One scheme's account: what is promised of it, and what each kind of change to it keeps. No other scheme is in sight.
-use Rattle.std.specs.Prelude.{ℕ, ◌+◌, ◌≤◌, ◌≡◌, refl, List, [], ◌∷◌, cond, length, eqb}
+use Rattle.std.specs.Prelude.{ℕ, ◌+◌, ◌≤◌, ◌≡◌, refl, List, [], ◌∷◌, cond, length, eqb, filter}
 use Rattle.std.proofs.Common.{sym, ap, ◌∙◌, zero-add, arith, eqb-true}
-use Rattle.ledger.specs.Lists.{keep, sum_by, All, nil, more}
-use Rattle.calls.proofs.Theorems.Lists.{by_cond, all_map, all_both, sum_by_plus, sum_by_le, sum_by_keep}
+use Rattle.ledger.specs.Lists.{sum_by, All, nil, more}
+use Rattle.calls.proofs.Theorems.Lists.{by_cond, all_map, all_both, sum_by_plus, sum_by_le, sum_by_filter}
 use Rattle.history.specs.History.{Entering, Payment, Account, credited, paid_of, credited_to, paid_to}
 use Rattle.history.specs.DemandThree.{Balanced, PartyHolds}
 use Rattle.history.specs.SoundHistory.{Opens, Joins, Chain, SoundAccount}
@@ -60,13 +60,13 @@ pub sound_account_opened : (e : Entering) → Opens e → SoundAccount (account 
 sound_account_opened e o = record { chain = o; paid_whole = refl; paid_within = more {x = e} (omega arith) nil }
 
 -- ---- a pay-out to one of its parties
-pub sound_account_paid : (p : Payment) (a : Account) (x : Entering) → keep (λ e. eqb p.entry e.entry) a.entered ≡ x ∷ [] →
+pub sound_account_paid : (p : Payment) (a : Account) (x : Entering) → filter (λ e. eqb p.entry e.entry) a.entered ≡ x ∷ [] →
     paid_to p.entry a.paid + p.amount ≤ credited_to p.entry a.entered → SoundAccount a → SoundAccount (account a.entered (p ∷ a.paid))
 sound_account_paid p a x one enough stands = record {
   chain = stands.chain;
   paid_whole =
       let once : sum_by (λ (e : Entering). cond (eqb p.entry e.entry) p.amount 0) a.entered ≡ p.amount =
-      sym (sum_by_keep (λ (e : Entering). p.amount) (λ (e : Entering). eqb p.entry e.entry) a.entered)
+      sym (sum_by_filter (λ (e : Entering). p.amount) (λ (e : Entering). eqb p.entry e.entry) a.entered)
       ∙ ap (sum_by (λ (e : Entering). p.amount)) one ∙ zero-add p.amount in
       omega (
         arith,

@@ -1,11 +1,11 @@
 -- Each change of a history keeps it sound: a change touches one scheme's account, and gives the next numbers.
-use Rattle.std.specs.Prelude.{ℕ, ◌+◌, ◌≤◌, ◌<◌, ◌≡◌, refl, List, [], ◌∷◌, Bool, true, false, cond, length, eqb}
+use Rattle.std.specs.Prelude.{ℕ, ◌+◌, ◌≤◌, ◌<◌, ◌≡◌, refl, List, [], ◌∷◌, Bool, true, false, cond, length, eqb, filter}
 use Rattle.std.proofs.Common.{sym, ap, subst, ◌∙◌, arith, eqb-true, ne_eqb}
 use Rattle.charge.specs.BillLimits.{BillWithin}
 use Rattle.charge.specs.declared.Bill.{Bill}
-use Rattle.ledger.specs.Lists.{cons_if, keep, sum_by, All, nil, more}
+use Rattle.ledger.specs.Lists.{sum_by, All, nil, more}
 use Rattle.calls.specs.Rules.{Credit}
-use Rattle.calls.proofs.Theorems.Lists.{all_any, all_by_key, all_map, all_keep, keep_none, keep_swap, sum_by_keep, sum_by_none}
+use Rattle.calls.proofs.Theorems.Lists.{all_any, all_by_key, all_map, all_filter, filter_none, filter_swap, sum_by_filter, sum_by_none, cons_if}
 use Rattle.calls.proofs.Theorems.Rules.{where_other}
 use Rattle.calls.specs.declared.courses.Contribution.{Contribution}
 use Rattle.history.specs.History.{Entering, Payment, HandOver, History, account_of, enterings_of, payments_of, fee, credited_to, paid_to, openings, times, billed_in, enters_in, joiner, opener, paid_in, handed_in, no_history}
@@ -39,23 +39,23 @@ counted_numbered (e ∷ older) counted = (omega (arith, counted.0), rw (← coun
 pub numbered : (h : History) → SoundHistory h → Numbered h.next_entry h.entered
 numbered h sound = rw (← sound.numbers.next_entry_is) at (counted_numbered h.entered sound.numbers.entries_counted)
 
-numbered_keep : (test : Entering → Bool) (next : ℕ) (c : List Entering) → Numbered next c → Numbered next (keep test c)
-numbered_keep test next [] n = tt
-numbered_keep test next (e ∷ older) n =
-    let kept : Numbered e.entry (keep test older) = numbered_keep test e.entry older n.1 in
-    by_cons_if (Numbered next) (test e) e (keep test older) (λ here. (n.0, kept))
-    (numbered_up e.entry next (keep test older) (omega (arith, n.0)) kept)
+numbered_filter : (test : Entering → Bool) (next : ℕ) (c : List Entering) → Numbered next c → Numbered next (filter test c)
+numbered_filter test next [] n = tt
+numbered_filter test next (e ∷ older) n =
+    let kept : Numbered e.entry (filter test older) = numbered_filter test e.entry older n.1 in
+    by_cons_if (Numbered next) (test e) e (filter test older) (λ here. (n.0, kept))
+    (numbered_up e.entry next (filter test older) (omega (arith, n.0)) kept)
 
 pub numbered_in : (h : History) → SoundHistory h → (s : ℕ) → Numbered h.next_entry (account_of s h).entered
-numbered_in h sound s = numbered_keep (λ e. eqb e.scheme s) h.next_entry h.entered (numbered h sound)
+numbered_in h sound s = numbered_filter (λ e. eqb e.scheme s) h.next_entry h.entered (numbered h sound)
 
 -- ---- the scheme of every entry was opened
 opened_times : (s : ℕ) (c : List Entering) →
     times (λ e. e.scheme) s (openings c) ≡ sum_by (λ e. cond e.opens 1 0) (enterings_of s c)
 opened_times s c =
-    sym (sum_by_keep (λ (e : Entering). 1) (λ (e : Entering). eqb e.scheme s) (openings c))
-    ∙ ap (sum_by (λ (e : Entering). 1)) (keep_swap (λ (e : Entering). eqb e.scheme s) (λ (e : Entering). e.opens) c)
-    ∙ sum_by_keep (λ (e : Entering). 1) (λ (e : Entering). e.opens) (enterings_of s c)
+    sym (sum_by_filter (λ (e : Entering). 1) (λ (e : Entering). eqb e.scheme s) (openings c))
+    ∙ ap (sum_by (λ (e : Entering). 1)) (filter_swap (λ (e : Entering). eqb e.scheme s) (λ (e : Entering). e.opens) c)
+    ∙ sum_by_filter (λ (e : Entering). 1) (λ (e : Entering). e.opens) (enterings_of s c)
 
 pub schemes_opened : (h : History) → SoundHistory h →
     All (λ e. times (λ o. o.scheme) e.scheme (openings h.entered) ≡ 1) h.entered
@@ -156,16 +156,16 @@ sound_joined h joining is sound =
       next_scheme_is = sound.numbers.next_scheme_is;
       stands =
           sound_account_joined (joiner_in h joining) (account_of s h) is.some_entering is.joins
-          (unpaid h.next_entry (all_keep (λ p. eqb p.scheme s) sound.paid_made)) (sound.accounts s);
+          (unpaid h.next_entry (all_filter (λ p. eqb p.scheme s) sound.paid_made)) (sound.accounts s);
     })
     sound
 
 -- ---- an opening
 
 -- a number not given yet stands nowhere
-none_with : {A : Type 0} (number : A → ℕ) (next : ℕ) {xs : List A} → All (λ x. number x < next) xs → keep (λ x. eqb (number x) next) xs ≡ []
+none_with : {A : Type 0} (number : A → ℕ) (next : ℕ) {xs : List A} → All (λ x. number x < next) xs → filter (λ x. eqb (number x) next) xs ≡ []
 none_with {A} number next below =
-    keep_none (all_map (λ (x : A) (b : number x < next). ne_eqb (number x) next (λ same. omega (arith, same, b))) below)
+    filter_none (all_map (λ (x : A) (b : number x < next). ne_eqb (number x) next (λ same. omega (arith, same, b))) below)
 
 pub no_enterings : (h : History) → SoundHistory h → enterings_of h.next_scheme h.entered ≡ []
 no_enterings h sound = none_with (λ (e : Entering). e.scheme) h.next_scheme sound.numbers.schemes_made
@@ -192,7 +192,7 @@ sound_opened bill h fit sound =
 
 -- ---- a pay-out, a hand-over
 pub sound_paid : (p : Payment) (h : History) (x : Entering) →
-    keep (λ e. eqb p.entry e.entry) (enterings_of p.scheme h.entered) ≡ x ∷ [] → p.entry < h.next_entry → p.scheme < h.next_scheme →
+    filter (λ e. eqb p.entry e.entry) (enterings_of p.scheme h.entered) ≡ x ∷ [] → p.entry < h.next_entry → p.scheme < h.next_scheme →
     paid_to p.entry (payments_of p.scheme h.paid) + p.amount ≤ credited_to p.entry (enterings_of p.scheme h.entered) →
     SoundHistory h → SoundHistory (paid_in p h)
 sound_paid p h x one made of_made enough sound =

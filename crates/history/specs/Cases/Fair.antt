@@ -1,8 +1,8 @@
 -- What narrower bounds would come to, by two histories from bytes: one of a few cents, and M7's. Of both the bounds of `Fair` hold, and less would not: one
 -- cent and the fee for each joining above is too little, so is the fee once, and so is no cent below; and a party can be credited more than it put in, so
 -- that the bounds have no difference. That the bounds are the least isn't said.
-use Rattle.std.specs.Prelude.{ℕ, ◌+◌, ◌*◌, ◌<◌, ◌≡◌, List, [], ◌∷◌, eqb}
-use Rattle.ledger.specs.Lists.{keep, sum_by}
+use Rattle.std.specs.Prelude.{ℕ, ◌+◌, ◌*◌, ◌<◌, ◌≡◌, List, [], ◌∷◌, eqb, filter}
+use Rattle.ledger.specs.Lists.{sum_by}
 use Rattle.calls.specs.Decision.{Call, accept}
 use Rattle.history.specs.History.{Entering, Account, account_of, cost, fee, joinings, capacity, credited_to, history_of}
 use Rattle.history.specs.Fair.{BoundFigures, Fair}
@@ -20,7 +20,7 @@ cents_calls =
 
 -- a figure of the party with this entry
 abbrev of_party : ℕ → (Entering → ℕ) → List Entering → ℕ
-of_party number figure entered = sum_by figure (keep (λ e. eqb e.entry number) entered)
+of_party number figure entered = sum_by figure (filter (λ e. eqb e.entry number) entered)
 
 abbrev pub figures_of : ℕ → Account → BoundFigures
 figures_of number account =

@@ -1,10 +1,9 @@
 -- What holds of every decision on some books, by its kind, with what the books showed when it was made.
-use Rattle.std.specs.Prelude.{ℕ, ◌+◌, ◌≤◌, ◌≡◌, refl, List, leb, Err, Ok}
+use Rattle.std.specs.Prelude.{ℕ, ◌+◌, ◌≤◌, ◌≡◌, refl, List, leb, Err, Ok, None, Some, Option}
 use Rattle.std.proofs.Common.{leb-true}
 use Rattle.tagged.specs.declared.file.Refusal.{Refusal}
 use Rattle.charge.specs.Price.{price_of, Pricing}
 use Rattle.charge.specs.declared.Bill.{Bill}
-use Rattle.ledger.specs.Lists.{Found, none, found}
 use Rattle.ledger.specs.Books.{EntryParticulars, Books, entry_at}
 use Rattle.calls.specs.Verdict.{verdict, Verdict}
 use Rattle.calls.specs.Decision.{Call, accept, pay_out, hand_over, Decision, accepted, paid_out, handed_over, refused, credits_by, decided_by, accept_by, pay_out_by, hand_over_by, decided}
@@ -17,9 +16,9 @@ pub record EachDecision (Known : Call → Type 0) (books : Books) (P : Decision 
   pub refuses : (r : Refusal) → P (refused r)
   pub accepts : (book request : List ℕ) → Known (accept book request) → (bill : Bill) → price_of book request ≡ Ok bill → (course : Course) →
       CourseConditions books bill course → P (accepted bill course (credits_by books bill course.joining))
-  pub pays_out : (e amount : ℕ) (row : EntryParticulars) → entry_at books e ≡ found row → row.paid_out + amount ≤ row.credited →
+  pub pays_out : (e amount : ℕ) (row : EntryParticulars) → entry_at books e ≡ Some row → row.paid_out + amount ≤ row.credited →
       P (paid_out row.scheme row.number amount)
-  pub hands_over : (e person : ℕ) → Known (hand_over e person) → (row : EntryParticulars) → entry_at books e ≡ found row → P (handed_over row.number person)
+  pub hands_over : (e person : ℕ) → Known (hand_over e person) → (row : EntryParticulars) → entry_at books e ≡ Some row → P (handed_over row.number person)
 
 pub by_decision : {Known : Call → Type 0} {books : Books} {P : Decision → Type 0} → EachDecision Known books P → (call : Call) → Known call →
     P (decided books call)
@@ -34,13 +33,13 @@ by_decision {books} {P} each (accept book request) known = priced (price_of book
     priced (Err r) is = each.refuses r
 by_decision {books} {P} each (pay_out e amount) known = at_entry (entry_at books e) refl
   where
-    at_entry : (at : Found EntryParticulars) → entry_at books e ≡ at → P (pay_out_by at amount)
-    at_entry none is = each.refuses _
-    at_entry (found row) is =
+    at_entry : (at : Option EntryParticulars) → entry_at books e ≡ at → P (pay_out_by at amount)
+    at_entry None is = each.refuses _
+    at_entry (Some row) is =
         by_cond P (leb (row.paid_out + amount) row.credited) _ _ (λ enough. each.pays_out e amount row is (leb-true _ _ enough))
         (λ above. each.refuses _)
 by_decision {books} {P} each (hand_over e person) known = at_entry (entry_at books e) refl
   where
-    at_entry : (at : Found EntryParticulars) → entry_at books e ≡ at → P (hand_over_by at person)
-    at_entry none is = each.refuses _
-    at_entry (found row) is = each.hands_over e person known row is
+    at_entry : (at : Option EntryParticulars) → entry_at books e ≡ at → P (hand_over_by at person)
+    at_entry None is = each.refuses _
+    at_entry (Some row) is = each.hands_over e person known row is

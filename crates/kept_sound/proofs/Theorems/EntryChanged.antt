@@ -2,14 +2,14 @@
 use Rattle.std.specs.Prelude.{ℕ, ◌+◌, ◌-◌, ◌<◌, ◌≤◌, ◌≡◌, refl, List, cond, ◌⊎◌, length, take, get_or, set, eqb}
 use Rattle.std.proofs.Common.{sym, subst, inl, inr, arith, length-set, get_or-set_same, get_or-set_other, get_or-take}
 use Rattle.std.proofs.Math.Seq.{map-set_same, take-set-lt}
-use Rattle.ledger.specs.Lists.{numbered_from}
+use Rattle.ledger.specs.Lists.{numbered_from, at_start}
 use Rattle.ledger.specs.Records.{no_party}
 use Rattle.ledger.specs.Updates.{with_person, with_paid_out}
-use Rattle.ledger.specs.Lookup.{Placed}
+use Rattle.ledger.specs.EntryPlace.{Placed}
 use Rattle.ledger.specs.Columns.{scheme_column, put_in_column, credited_column, ones_column}
 use Rattle.ledger.specs.SoundConditions.{SoundParty}
 use Rattle.ledger.specs.declared.records.Party.{Party}
-use Rattle.calls.specs.Carried.{State, entries_on, with_table}
+use Rattle.calls.specs.Carried.{State, entries_on}
 use Rattle.calls.proofs.Theorems.ByPlace.{change_at_start}
 use Rattle.kept_sound.specs.SoundState.{SoundState}
 use Rattle.kept_sound.proofs.Theorems.Entering.{same_or_other, SameFigures, same_account}
@@ -101,7 +101,7 @@ module _ (state : State) (place : ℕ) (party : Party) (there : place < state.le
 -- the entry with number e changed
 pub changed_keeps_sound : (state : State) (change : Party → Party) (e k : ℕ) → Placed state.ledger.entries e k →
     Alike state.ledger.count (get_or state.table k no_party) (change (get_or state.table k no_party)) → SoundState state →
-    SoundState (with_table (numbered_from 1 (λ i party. cond (eqb e i) (change party) party) (entries_on state)) state)
+    SoundState (record state { table = at_start (numbered_from 1 (λ i party. cond (eqb e i) (change party) party) (entries_on state)) state.table })
 changed_keeps_sound state change e k placed alike h =
     let place : e - 1 ≡ k = omega (arith, placed.next) in
     let told = change_at_start change e state.ledger.entries state.table no_party placed.numbered placed.kept h.in_table in

@@ -18,7 +18,7 @@ use Rattle.calls.specs.Decision.{Call, accepted, credits_by, decided}
 use Rattle.calls.specs.Calls.{leaves, Fits}
 use Rattle.calls.proofs.Theorems.ByPlace.{length_numbered, length_at_start}
 use Rattle.calls.specs.Rules.{Credit}
-use Rattle.calls.specs.Carried.{State, books_on, carried_out, entries_on, schemes_on, with_table, entered, with_ledger, new_party, booked, takes_fee, is_credited, fee_taken, joined, new_scheme, opened, is_paid, is_handed}
+use Rattle.calls.specs.Carried.{State, books_on, carried_out, entries_on, schemes_on, entered, new_party, booked, takes_fee, is_credited, fee_taken, joined, new_scheme, opened, is_paid, is_handed}
 use Rattle.calls.specs.declared.courses.Joining.{Joining}
 use Rattle.calls.specs.declared.courses.Joining.TheVariants.{NotAsked, Ended, Small, Pays}
 use Rattle.calls.specs.declared.courses.Course.{Course}
@@ -85,13 +85,13 @@ module _ {start : List Party} {state : State} (kept : Kept start state) where
       (all_append fit (more fits nil))
 
   changed_kept : (each : ℕ → Party → Party) → ((number : ℕ) (party : Party) → PersonFits party → PersonFits (each number party)) →
-      Kept start (with_table (numbered_from 1 each (entries_on state)) state)
+      Kept start (record state { table = at_start (numbered_from 1 each (entries_on state)) state.table })
   changed_kept each fits =
       put_kept (numbered_from 1 each (entries_on state)) state.ledger.entries (length_numbered 1 each (entries_on state) ∙ entries_many) (omega arith)
       kept.in_table (all_changed each fits 1 kept.persons)
 
   schemes_kept : (count : ℕ) (schemes : List Scheme) → count ≤ most_schemes → length schemes ≤ most_schemes → All TermFits schemes →
-      Kept start (with_ledger (with_schemes count (at_start schemes state.ledger.schemes) state.ledger) state)
+      Kept start (record state { ledger = with_schemes count (at_start schemes state.ledger.schemes) state.ledger })
   schemes_kept count schemes few some fit =
       record {
         places = length_at_start schemes state.ledger.schemes (omega (arith, kept.places)) ∙ kept.places;

@@ -7,11 +7,10 @@ use Rattle.charge.specs.BillLimits.{BillWithin}
 use Rattle.charge.proofs.Theorems.Bill.{priced_within}
 use Rattle.charge.specs.declared.Bill.{Bill}
 use Rattle.ledger.specs.Limits.{most_schemes}
-use Rattle.ledger.specs.Lists.{found}
 use Rattle.ledger.specs.Records.{no_party}
 use Rattle.ledger.specs.Updates.{with_person, with_paid_out}
 use Rattle.ledger.specs.Books.{EntryParticulars, entry_particulars, entry_at}
-use Rattle.ledger.specs.Lookup.{entry_place}
+use Rattle.ledger.specs.EntryPlace.{entry_place}
 use Rattle.ledger.proofs.Theorems.Lookup.{by_number}
 use Rattle.ledger.specs.Sound.{sound}
 use Rattle.ledger.proofs.Theorems.Sound.{sound_means, means_sound}
@@ -68,11 +67,11 @@ module _ (state : State) (whole : WholeState state) (bill : Bill) (course : Cour
       same_credits Small = refl
       same_credits (Pays paid) = refl
 
-entry_placed : (state : State) (e : ℕ) (row : EntryParticulars) → state.ledger.entries ≤ length state.table → entry_at (books_on state) e ≡ found row →
+entry_placed : (state : State) (e : ℕ) (row : EntryParticulars) → state.ledger.entries ≤ length state.table → entry_at (books_on state) e ≡ Some row →
     EntryPlaced state e row
 unfolding entry_place
 entry_placed state e row in_table is =
-    by_number None Some state.ledger.entries e (λ at. entry_found state.table at ≡ found row → EntryPlaced state e row)
+    by_number None Some state.ledger.entries e (λ at. entry_found state.table at ≡ Some row → EntryPlaced state e row)
     (λ k placed at.
     let number : 1 + k ≡ e = omega (arith, placed.next) in
     let shown : entry_particulars (1 + k) (get_or state.table k no_party) ≡ row = cc in

@@ -6,9 +6,11 @@ use Rattle.charge.specs.declared.Bill.{Bill}
 use Rattle.ledger.specs.Limits.{most_schemes, most_connections}
 use Rattle.ledger.specs.Records.{no_scheme}
 use Rattle.ledger.specs.Updates.{with_fees}
-use Rattle.ledger.specs.Columns.{scheme_column, capacity_column}
+use Rattle.ledger.specs.Columns.{scheme_column}
+use Rattle.ledger.specs.CapacityColumns.{capacity_column}
 use Rattle.ledger.proofs.Theorems.Columns.{sum_none}
-use Rattle.ledger.specs.Lookup.{scheme_place, Placed}
+use Rattle.ledger.specs.Lookup.{scheme_place}
+use Rattle.ledger.specs.EntryPlace.{Placed}
 use Rattle.ledger.proofs.Theorems.Lookup.{scheme_placed, placed_scheme}
 use Rattle.ledger.proofs.Theorems.Table.{credit_none}
 use Rattle.ledger.specs.SoundConditions.{SoundScheme}

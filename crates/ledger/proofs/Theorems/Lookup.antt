@@ -3,7 +3,8 @@ use Rattle.std.specs.Prelude.{ℕ, ◌-◌, ◌≤◌, ◌≡◌, cond, ltb, Non
 use Rattle.std.proofs.Common.{arith, ltb-true, ltb-false, le-ltb}
 use Rattle.tagged.proofs.Theorems.Impossible.{impossible}
 use Rattle.tagged.proofs.Theorems.Walk.{by_test}
-use Rattle.ledger.specs.Lookup.{scheme_place, entry_place, Placed}
+use Rattle.ledger.specs.Lookup.{scheme_place}
+use Rattle.ledger.specs.EntryPlace.{entry_place, Placed}
 
 -- ---- for schemes and entries alike
 module _ {A : Type 0} (none : A) (place : ℕ → A) (count n : ℕ) where

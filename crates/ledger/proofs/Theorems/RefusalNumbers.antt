@@ -5,7 +5,8 @@ use Rattle.std.proofs.lemmas.Bool.{false≢true, eqb-false}
 use mathlib.Mathlib.Data.Bool.Basic.{dichotomy}
 use Rattle.ledger.specs.Sound.{all_hold}
 use Rattle.ledger.proofs.Theorems.Sound.{both_true}
-use Rattle.ledger.specs.RefusalNumbers.{one_of, Among, one_to}
+use Rattle.ledger.specs.RefusalNumbers.{one_of, one_to}
+use Rattle.ledger.specs.NumberLists.{Among}
 
 pub one_of_more : (numbers more : List ℕ) (n : ℕ) → Among numbers more → one_of numbers n ≡ true → one_of more n ≡ true
 one_of_more [] more n among h = absurd (false≢true h)

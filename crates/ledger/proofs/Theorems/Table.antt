@@ -5,7 +5,8 @@ use Rattle.std.proofs.lemmas.List.{map-append, length-map, length-replicate, get
 use Rattle.std.proofs.Math.ListN.{get_or-append}
 use Rattle.ledger.specs.Limits.{most_entries}
 use Rattle.ledger.specs.Records.{no_party, no_parties}
-use Rattle.ledger.specs.Columns.{scheme_column, capacity_column, put_in_column, credited_column, ones_column, sum_over, entries_of, first_put_in}
+use Rattle.ledger.specs.Columns.{scheme_column, put_in_column, credited_column, ones_column, sum_over, entries_of, first_put_in}
+use Rattle.ledger.specs.CapacityColumns.{capacity_column}
 use Rattle.ledger.proofs.Theorems.Columns.{ones_again, of_own, of_other, sum_more, first_kept, first_new, add_each, sum_add_each, length_add_each}
 use Rattle.ledger.specs.Table.{credited_more, credit_each}
 use Rattle.ledger.specs.declared.records.Party.{Party}

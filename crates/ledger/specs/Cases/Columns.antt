@@ -1,7 +1,8 @@
 -- Columns of a few entries, and what the entries of a scheme come to.
 use Rattle.std.specs.Prelude.{◌≡◌, refl, List, [], ◌∷◌, map}
 use Rattle.ledger.specs.Records.{party_of}
-use Rattle.ledger.specs.Columns.{scheme_column, capacity_column, put_in_column, credited_column, sum_of, sum_over, capacity_of, entries_of, first_put_in}
+use Rattle.ledger.specs.Columns.{scheme_column, put_in_column, credited_column, sum_over, entries_of, first_put_in}
+use Rattle.ledger.specs.CapacityColumns.{capacity_column, sum_of, capacity_of}
 use Rattle.ledger.specs.declared.records.Party.{Party}
 
 abbrev parties : List Party

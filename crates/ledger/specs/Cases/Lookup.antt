@@ -1,6 +1,7 @@
 -- Places of schemes and entries by number: 0, the first, the last and one past it.
 use Rattle.std.specs.Prelude.{◌≡◌, refl, [], ◌∷◌, map, None, Some}
-use Rattle.ledger.specs.Lookup.{scheme_place, entry_place}
+use Rattle.ledger.specs.Lookup.{scheme_place}
+use Rattle.ledger.specs.EntryPlace.{entry_place}
 
 -- where two stand: the numbers 0 to 3
 pub place_cases_hold :

@@ -6,7 +6,8 @@ use mathlib.Core.List.{List, [], ◌∷◌, ◌++◌, append_assoc, foldl, foldl
 use Rattle.std.proofs.Math.Nat.{pow-zero, one-le-pow}
 use Rattle.std.proofs.Math.Arith.{lt-one, digits_lt, digits_div, digits_mod}
 use Rattle.std.proofs.lemmas.List.{set_split}
-use Rattle.numbers.specs.BigEndian.{Bytes, number, number_at, bytes_of, written}
+use Rattle.numbers.specs.BigEndian.{Bytes, number, number_at, bytes_of}
+use Rattle.numbers.specs.Written.{written}
 
 pub Bytes-append : (s t : List ℕ) → Bytes s → Bytes t → Bytes (s ++ t)
 Bytes-append [] t hs ht k = ht k

@@ -15,7 +15,8 @@ use Rattle.numbers.specs.BigEndian.{Bytes}
 use Rattle.charge.proofs.Theorems.Bill.{priced_within}
 use Rattle.charge.specs.declared.Bill.{Bill}
 use Rattle.page_text.specs.AmountGrammar.{amount_read}
-use Rattle.page_text.specs.Page.{amount_text, label_text, right_aligned, line, page_lines, page_of, page_size, Lines, page_written, page_output, PageWritten}
+use Rattle.page_text.specs.Page.{amount_text, label_text, right_aligned, line, page_lines, page_of, page_size, page_written, page_output, PageWritten}
+use Rattle.page_text.specs.PageShape.{Lines}
 use Rattle.page_text.specs.PageColumns.{names, amounts_of, line_of, label_columns, amount_columns, AmountsFit}
 use Rattle.page_text.proofs.Theorems.Page.{amount_short}
 use Rattle.page_text.proofs.Theorems.ReadBack.{columns_written, written_read, amount_no_end}

@@ -3,7 +3,8 @@ use Rattle.std.specs.Prelude.{ℕ, ◌≤◌, ◌≡◌, List, pos, nat_abs, get
 use Rattle.std.proofs.Math.Path.{refl, ap}
 use Rattle.std.proofs.Common.{sym, ◌∙◌, ⊎_elim, arith}
 use Rattle.std.proofs.Math.Logic.{inl, inr}
-use Rattle.tagged.specs.Ending.{Ending, number_is_0}
+use Rattle.tagged.specs.Ending.{Ending}
+use Rattle.tagged.specs.EndingTests.{number_is_0}
 use Rattle.tagged.specs.Refusals.{value_not_listed, low_above_high}
 use Rattle.tagged.proofs.Theorems.Ending.{refused_by_number, refused_not_done, refusal_by_ending}
 use Rattle.tagged.proofs.Theorems.Impossible.{impossible}

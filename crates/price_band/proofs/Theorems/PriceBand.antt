@@ -11,7 +11,7 @@ use Rattle.field_values.specs.Limits.{highest_revenue}
 use Rattle.book_zones.specs.Zones.{zone_rates}
 use Rattle.rate_book.proofs.Theorems.BookLimits.{book_within_limits, rates_within_limits}
 use Rattle.request.proofs.Theorems.RequestLimits.{request_within_limits}
-use Rattle.reconciliation.specs.FigureLimits.{CostsWithin}
+use Rattle.reconciliation.specs.CostLimits.{CostsWithin}
 use Rattle.charge.specs.Price.{tiers_of, incremental_revenue_of, bill_of, price_of, Pricing}
 use Rattle.charge.specs.BillLimits.{BillWithin}
 use Rattle.charge.proofs.Theorems.Price.{bill_in_zone}

@@ -3,7 +3,9 @@ use Prim.Native.Nat.{ℕ, zero, suc, ◌+◌, ◌*◌, ◌-◌, ◌≤◌}
 use Rattle.std.specs.Prelude.{◌≡◌, refl, List, [], ◌∷◌, Bool, true, false, cond, ltb, leb, eqb, length, get_or, take, drop, Err, Ok, Some, None}
 use Rattle.std.proofs.Common.{sym, subst, arith, length-take, length-drop, ltb-false, leb-true}
 use Rattle.numbers.specs.BigEndian.{number}
-use Rattle.field_walk.specs.Walk.{Due, least_of, tag_of, permitted_by, length_at, field_of, front_of, all_had, due_from, FieldAt, Walk, fields, stops, and_then, on_front, walk_from, first_form, second_form, neither_form, row_in, rows_in, walk_by, by_forms, walk, FieldsWalk, EndsWithin}
+use Rattle.field_walk.specs.Walk.{Due, least_of, tag_of, permitted_by, length_at, field_of, front_of, all_had, due_from, FieldAt, Walk, fields, stops, and_then, on_front, walk_from, first_form, second_form, neither_form, row_in, rows_in, walk_by, by_forms, walk}
+use Rattle.field_walk.specs.WalkSteps.{EndsWithin}
+use Rattle.field_walk.specs.Walked.{FieldsWalk}
 use Rattle.field_walk.specs.declared.walk.Front.{Front}
 use Rattle.field_walk.specs.declared.walk.Front.TheVariants.{End, Field, CannotStand}
 use Rattle.tagged.specs.Refusals.{file_does_not_walk, check_differs}
@@ -19,7 +21,8 @@ use Rattle.field_values.specs.Factors.{factor_limits}
 use Rattle.field_values.specs.Reading.{reading_of}
 use Rattle.book_zones.specs.BookRows.{book_rows}
 use Rattle.book_zones.specs.Cases.BookRows.{book_rows_rise}
-use Rattle.book_zones.specs.Zones.{number_width, zone_starts, first_zone, zones_apart, zone_number, rate_row, row_judgements, judge_row, judge_zones_from}
+use Rattle.book_zones.specs.Zones.{number_width, zone_starts, zone_number, rate_row, row_judgements, judge_row, judge_zones_from}
+use Rattle.book_zones.specs.ZoneScans.{first_zone, zones_apart}
 use Rattle.book_zones.proofs.Theorems.ZoneFields.{every, zones_stand}
 use Rattle.rate_book.specs.Fields.{rate_limits, sums_in, sum_judgements, terms_in, term_judgements, charged_limits}
 use Rattle.rate_book.specs.Book.{book_letters, book_judgements, judge_book, book_values, book_of}

@@ -19,10 +19,10 @@ use Rattle.charge.specs.Price.{zone_found, tiers_of, if_allowed, in_zone, if_sta
 use Rattle.charge.proofs.Theorems.PriceRefusals.{pricing_refusal_numbers}
 use Rattle.charge.specs.declared.Bill.{Bill}
 use Rattle.slip_text.specs.Slip.{slip_of}
-use Rattle.ledger.specs.Lists.{Found, none, found}
 use Rattle.ledger.specs.Books.{EntryParticulars, Books, entry_at}
 use Rattle.ledger.specs.Records.{no_parties, new_ledger}
-use Rattle.ledger.specs.RefusalNumbers.{one_of, Among, one_to}
+use Rattle.ledger.specs.RefusalNumbers.{one_of, one_to}
+use Rattle.ledger.specs.NumberLists.{Among}
 use Rattle.ledger.proofs.Theorems.RefusalNumbers.{one_of_more, one_to_within}
 use Rattle.ledger.specs.Sound.{sound}
 use Rattle.ledger.specs.declared.records.Party.{Party}
@@ -34,10 +34,12 @@ use Rattle.calls.specs.Carried.{State, books_on}
 use Rattle.calls.specs.Calls.{state_of, answered, leaves}
 use Rattle.stored.specs.StoredRows.{stored_rows}
 use Rattle.stored.specs.Form.{letters, stored_entries, stored_ledger, stored_form}
-use Rattle.stored.specs.Reading.{in_turn, letters_answer, table_answer, read_answer, reading_numbers}
+use Rattle.stored.specs.Reading.{in_turn, letters_answer, table_answer, read_answer}
+use Rattle.stored.specs.StoredNumbers.{reading_numbers}
 use Rattle.stored.specs.Writing.{write_of}
 use Rattle.stored_calls.specs.StoredCalls.{StoredCallAnswer, not_read, not_made, made_accepted, made_done, stored_read, written_answer, end_by, once_read, new_stored_of, stored_call_of, check_by}
-use Rattle.stored_calls.specs.StoredRefusals.{StoredRefuses, stored_numbers}
+use Rattle.stored_calls.specs.StoredRefusals.{stored_numbers}
+use Rattle.stored_calls.specs.StoredRefuses.{StoredRefuses}
 use Rattle.stored_calls.proofs.Theorems.StoredCalls.{answer_of_read, stored_refusal_numbers, check_refusal_numbers, StoredCheckRefuses}
 use Rattle.stored_calls.proofs.Theorems.StoredCallsRefusals.{new_refusal_numbers}
 use Rattle.stored.specs.Writing as writing
@@ -132,15 +134,15 @@ module _ (size : ℕ) (five : 5 ≤ size) (books : Books) where
   by_pricing (Ok bill) h = by_verdict bill (verdict books bill) (no_file bill)
   by_pricing (Err r) h = h
 
-  pay_out_placed : (at : Found EntryParticulars) (amount : ℕ) → AnswerBy size (answer_to books (pay_out_by at amount))
-  pay_out_placed none amount = (omega arith, omega arith)
-  pay_out_placed (found row) amount =
+  pay_out_placed : (at : Option EntryParticulars) (amount : ℕ) → AnswerBy size (answer_to books (pay_out_by at amount))
+  pay_out_placed None amount = (omega arith, omega arith)
+  pay_out_placed (Some row) amount =
       by_test (λ decision. AnswerBy size (answer_to books decision)) (leb (row.paid_out + amount) row.credited) _ _ (λ _. tt)
       (λ _. let here : PlacedBy size (refusal pay_out_above_credit 0 0) = (omega arith, omega arith) in here)
 
-  hand_over_placed : (at : Found EntryParticulars) (person : ℕ) → AnswerBy size (answer_to books (hand_over_by at person))
-  hand_over_placed none person = (omega arith, omega arith)
-  hand_over_placed (found row) person = tt
+  hand_over_placed : (at : Option EntryParticulars) (person : ℕ) → AnswerBy size (answer_to books (hand_over_by at person))
+  hand_over_placed None person = (omega arith, omega arith)
+  hand_over_placed (Some row) person = tt
 
   decided_placed : (call : Call) → CallFiles size call → AnswerBy size (answer_to books (decided books call))
   decided_placed (accept book request) h = by_pricing (price_of book request) (price_placed size five book request h.0 h.1)

@@ -8,13 +8,15 @@ use Rattle.tagged.specs.declared.file.Refusal.{Refusal}
 use Rattle.charge.specs.Price.{price_of, Pricing}
 use Rattle.charge.proofs.Theorems.PriceRefusals.{pricing_refusal_numbers}
 use Rattle.charge.specs.declared.Bill.{Bill}
-use Rattle.ledger.specs.RefusalNumbers.{one_of, Among, one_to}
+use Rattle.ledger.specs.RefusalNumbers.{one_of, one_to}
+use Rattle.ledger.specs.NumberLists.{Among}
 use Rattle.ledger.proofs.Theorems.RefusalNumbers.{one_of_more, within_one_to, one_to_within}
 use Rattle.slip_text.specs.Slip.{slip_of}
-use Rattle.stored.specs.Reading.{reading_numbers}
+use Rattle.stored.specs.StoredNumbers.{reading_numbers}
 use Rattle.calls.specs.Decision.{Call, accept, pay_out, hand_over}
 use Rattle.stored_calls.specs.StoredCalls.{StoredCheck, StoredCallAnswer, not_read, not_made, made_accepted, made_done, new_stored_of, stored_call_of, check_stored_of}
-use Rattle.stored_calls.specs.StoredRefusals.{is_made, stored_numbers, StoredRefuses}
+use Rattle.stored_calls.specs.StoredRefusals.{is_made, stored_numbers}
+use Rattle.stored_calls.specs.StoredRefuses.{StoredRefuses}
 use Rattle.stored_calls.proofs.Theorems.StoredCalls.{StoredCheckRefuses, stored_refusal_numbers, check_refusal_numbers}
 use Rattle.stored_calls.proofs.Theorems.StoredCallsRefusals.{new_refusal_numbers}
 use Rattle.stored_calls.specs.declared.StoredCounts.{StoredCounts}

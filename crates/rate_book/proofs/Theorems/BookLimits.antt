@@ -3,11 +3,11 @@ use Rattle.std.specs.Prelude.{ℕ, ◌+◌, ◌-◌, ◌<◌, ◌≤◌, ◌≡�
 use Rattle.std.proofs.Common.{sym, subst, arith, ltb-true, leb-true}
 use Rattle.numbers.specs.BigEndian.{Bytes, number_at}
 use Rattle.numbers.proofs.Theorems.BigEndian.{Bytes-take, number_at_below}
-use Rattle.field_walk.specs.Walk.{FieldsWalk}
+use Rattle.field_walk.specs.Walked.{FieldsWalk}
 use Rattle.tagged.specs.Find.{first_place, field_value, field_start}
 use Rattle.tagged.proofs.Theorems.FoundFields.{Bytes-part}
 use Rattle.tagged.specs.File.{fields_part, answer_of}
-use Rattle.field_values.specs.Limits.{sums_below}
+use Rattle.field_values.specs.SumLimits.{sums_below}
 use Rattle.field_values.proofs.Theorems.Judged.{judge_passes, first_failure_passes, judged_within}
 use Rattle.field_values.proofs.Theorems.Factors.{factors_within}
 use Rattle.book_zones.specs.BookRows.{book_rows}

@@ -1,7 +1,8 @@
 -- A book that walks has values of these lengths.
 use Rattle.std.specs.Prelude.{ℕ, ◌<◌, ◌≤◌, List, [], length, get_or}
 use Rattle.std.proofs.Common.{arith}
-use Rattle.field_walk.specs.Walk.{least_of, neither_form, row_in, FieldsWalk}
+use Rattle.field_walk.specs.Walk.{least_of, neither_form, row_in}
+use Rattle.field_walk.specs.Walked.{FieldsWalk}
 use Rattle.tagged.specs.FoundFields.{Sized}
 use Rattle.tagged.proofs.Theorems.FoundFields.{walk_sized}
 use Rattle.book_zones.specs.BookRows.{book_rows}

@@ -6,7 +6,8 @@ use Rattle.field_values.specs.Limits.{highest_share}
 use Rattle.revenue.specs.RevenueLimits.{highest_incremental_revenue}
 use Rattle.reconciliation.specs.Percent.{nearest, rounded, rounded_up, quotient_of, percent_of}
 use Rattle.reconciliation.specs.Reconciliation.{ic_of, used_of, cc_of, not_charged_of, nic_of, nc_of, entered_of, borne_of, reconciliation_of}
-use Rattle.reconciliation.specs.FigureLimits.{highest_divisor, CostsWithin, PercentWithin, RemainderWithin, FiguresWithin}
+use Rattle.reconciliation.specs.FigureLimits.{highest_divisor, PercentWithin, RemainderWithin, FiguresWithin}
+use Rattle.reconciliation.specs.CostLimits.{CostsWithin}
 use Rattle.reconciliation.proofs.Theorems.ExactPercent.{divided}
 use Rattle.reconciliation.specs.declared.Costs.{Costs}
 

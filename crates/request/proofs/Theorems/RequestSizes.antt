@@ -1,7 +1,8 @@
 -- A request that walks has values of these lengths.
 use Rattle.std.specs.Prelude.{ℕ, ◌<◌, ◌≤◌, List, [], ◌≡◌, refl, length, get_or, Ok}
 use Rattle.std.proofs.Common.{sym, subst, ⊎_elim, arith, lit<, lit≤}
-use Rattle.field_walk.specs.Walk.{least_of, first_form, second_form, neither_form, row_in, rows_in, walk_by, Walk, fields, stops, walk, walked, FieldsWalk}
+use Rattle.field_walk.specs.Walk.{least_of, first_form, second_form, neither_form, row_in, rows_in, walk_by, Walk, fields, stops, walk}
+use Rattle.field_walk.specs.Walked.{walked, FieldsWalk}
 use Rattle.tagged.specs.Find.{first_place}
 use Rattle.tagged.specs.FoundFields.{Sized}
 use Rattle.tagged.proofs.Theorems.Walk.{walk_by_form}

@@ -7,8 +7,9 @@ use Rattle.field_values.specs.FactorLimits.{FactorsWithin}
 use Rattle.field_values.specs.Limits.{special_pricing, highest_factor}
 use Rattle.discount.specs.DiscountLimits.{highest_discount}
 use Rattle.discount.proofs.Theorems.Discount.{discount_at_most}
-use Rattle.revenue.specs.RevenueLimits.{highest_opex_factor, longest_life, highest_year_revenue, highest_incremental_revenue}
-use Rattle.revenue.specs.Revenue.{opex_factor, transmission_opex_factor, distribution_opex_factor, factor_of, scaled, year_revenue, stream_year, incremental_revenue, StreamWithin}
+use Rattle.revenue.specs.RevenueLimits.{highest_year_revenue, highest_incremental_revenue}
+use Rattle.revenue.specs.StreamLimits.{highest_opex_factor, longest_life, StreamWithin}
+use Rattle.revenue.specs.Revenue.{opex_factor, transmission_opex_factor, distribution_opex_factor, factor_of, scaled, year_revenue, stream_year, incremental_revenue}
 use Rattle.revenue.specs.declared.Stream.{Stream}
 
 pub opex_factor_at_most : (opex revenue : ℕ) → opex_factor opex revenue ≤ highest_opex_factor

@@ -11,7 +11,8 @@ use Rattle.tagged.specs.declared.file.Refusal.{Refusal}
 use Rattle.reconciliation.specs.Percent.{Percent}
 use Rattle.charge.specs.Price.{price_of, Pricing}
 use Rattle.charge.specs.Cases.MarkedFigures.{slip_book, slip_request, slip_priced}
-use Rattle.slip_text.specs.Slip.{decimal_from, decimal, signed_decimal, percent_text, exact_text, slip_of, slip_written, slip_buffer, room}
+use Rattle.slip_text.specs.Slip.{decimal_from, decimal, signed_decimal, percent_text, exact_text, slip_of, slip_written, slip_buffer}
+use Rattle.slip_text.specs.SlipRoom.{room}
 use Rattle.slip_text.specs.SlipReading.{read_decimal, read_signed, ascii}
 
 digits_end : (most n : ℕ) → n < 10 → decimal_from (suc most) n ≡ (48 + n) ∷ []

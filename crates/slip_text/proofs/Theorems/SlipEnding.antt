@@ -1,7 +1,8 @@
 -- The ending tells the answer: written or refused by the number, and two different answers never end alike.
 use Rattle.std.specs.Prelude.{ℕ, ◌≡◌, refl, List, Bool, true, false, cond, ltb, pos, nat_abs, length, get_or, Err, Ok}
 use Rattle.std.proofs.Common.{sym, ap, ◌∙◌}
-use Rattle.tagged.specs.Ending.{Ending, number_is_0}
+use Rattle.tagged.specs.Ending.{Ending}
+use Rattle.tagged.specs.EndingTests.{number_is_0}
 use Rattle.tagged.proofs.Theorems.Ending.{refusal_in}
 use Rattle.tagged.specs.File.{refusal}
 use Rattle.tagged.specs.Refusals.{output_too_short}

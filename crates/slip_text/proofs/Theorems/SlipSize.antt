@@ -10,7 +10,8 @@ use Rattle.reconciliation.specs.declared.Costs.{Costs}
 use Rattle.charge.specs.Price.{price_of, Pricing}
 use Rattle.charge.proofs.Theorems.Bill.{priced_by, priced_within}
 use Rattle.charge.specs.declared.Bill.{Bill}
-use Rattle.slip_text.specs.Slip.{decimal, signed_decimal, percent_text, exact_text, reconciliation_lines, slip_of, longest_slip}
+use Rattle.slip_text.specs.Slip.{decimal, signed_decimal, percent_text, exact_text, reconciliation_lines, slip_of}
+use Rattle.slip_text.specs.SlipRoom.{longest_slip}
 use Rattle.slip_text.proofs.Theorems.Slip.{decimal_short, decimal_within}
 
 signed_within : (most : ℕ) (z : ℤ) → nat_abs z < 10 ^ suc most → nat_abs z < 10 ^ 20 → length (signed_decimal z) ≤ suc (suc most)

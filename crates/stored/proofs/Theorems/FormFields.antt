@@ -10,9 +10,9 @@ use Rattle.field_walk.specs.Walk.{tag_of, permitted_by, fields, walk}
 use Rattle.tagged.specs.Find.{fields_of, first_with, part_of, field_value}
 use Rattle.tagged.specs.File.{fields_part, file_answer}
 use Rattle.tagged.specs.WalkRelations.{Stand, end}
-use Rattle.tagged.specs.Encoded.{encoded_parts, parts_of}
+use Rattle.tagged.specs.Encoded.{encoded_parts}
+use Rattle.tagged.specs.WalkEncoded.{parts_of, places_from}
 use Rattle.tagged.proofs.Theorems.FoundFields.{walk_fields_of}
-use Rattle.tagged.specs.WalkEncoded.{places_from}
 use Rattle.tagged.proofs.Theorems.WalkEncoded.{Stand-parts, Stand-short, walk_in_form, walk_of_encoded, walk_parts_of_encoded}
 use Rattle.tagged.proofs.Theorems.ClosedFiles.{fields_of_closed, closed_stands}
 use Rattle.ledger.specs.Limits.{most_schemes, most_entries}
@@ -21,7 +21,8 @@ use Rattle.ledger.specs.declared.records.Party.{Party}
 use Rattle.ledger.specs.declared.records.Ledger.{Ledger}
 use Rattle.stored.specs.StoredRows.{stored_rows}
 use Rattle.stored.specs.Cases.StoredRows.{stored_rows_rise}
-use Rattle.stored.specs.Layout.{head_values, scheme_widths, scheme_values, scheme_from, party_widths, party_values, party_from, Fit}
+use Rattle.stored.specs.Layout.{head_values, scheme_widths, scheme_values, scheme_from, party_widths, party_values, party_from}
+use Rattle.stored.specs.Fit.{Fit}
 use Rattle.stored.proofs.Theorems.Layout.{values_of_record}
 use Rattle.stored.specs.Form.{letters, letters_part, head_part, scheme_part, party_part, scheme_parts, party_parts, stored_parts, stored_form, scheme_of_bytes, party_of_bytes, stored_schemes, stored_entries}
 use Rattle.stored.proofs.Theorems.PartsWith.{Reads, reads_past, reads_mine, reads_none_of, reads_all_of}

@@ -4,10 +4,12 @@ use Rattle.std.proofs.Common.{sym, ap, ap₂, ◌∙◌, append_assoc, append-ni
 use Rattle.std.proofs.Math.Nat.{suc_inj}
 use Rattle.std.proofs.Math.Seq.{take-append_seam, drop-append_seam, set-append_seam}
 use Rattle.ledger.specs.Lists.{at_start}
-use Rattle.ledger.specs.Columns.{sum_of}
-use Rattle.numbers.specs.BigEndian.{Bytes, number, bytes_of, written}
+use Rattle.ledger.specs.CapacityColumns.{sum_of}
+use Rattle.numbers.specs.BigEndian.{Bytes, number, bytes_of}
+use Rattle.numbers.specs.Written.{written}
 use Rattle.numbers.proofs.Theorems.BigEndian.{Bytes-append, Bytes-take, Bytes-drop, length_bytes_of, bytes_of_bytes, bytes_of_number, number_of_bytes_of, length_written, written_written}
-use Rattle.stored.specs.Layout.{record_bytes, values_at, record_values, Fit}
+use Rattle.stored.specs.Layout.{record_bytes, values_at, record_values}
+use Rattle.stored.specs.Fit.{Fit}
 
 pub length_record_bytes : (widths values : List ℕ) → length values ≡ length widths → length (record_bytes widths values) ≡ sum_of widths
 unfolding record_bytes

@@ -7,7 +7,7 @@ use Rattle.std.proofs.Math.ListN.{length}
 use Rattle.field_walk.specs.Walk.{FieldAt, value_of}
 use Rattle.tagged.specs.Find.{fields_with}
 use Rattle.tagged.proofs.Theorems.FieldsWith.{with_this, with_past}
-use Rattle.tagged.specs.Encoded.{parts_of}
+use Rattle.tagged.specs.WalkEncoded.{parts_of}
 use Rattle.stored.specs.Form.{each_with}
 
 module _ {A : Type 0} (read : List ℕ → A) (tag : ℕ) (s : List ℕ) where

@@ -18,7 +18,9 @@ use Rattle.ledger.specs.declared.records.Ledger.{Ledger}
 use Rattle.stored.specs.StoredRows.{stored_rows}
 use Rattle.stored.proofs.Theorems.Layout.{take_at_start}
 use Rattle.stored.specs.Form.{letters, stored_entries, stored_ledger}
-use Rattle.stored.specs.Reading.{in_turn, letters_answer, table_answer, fields_answer, read_answer, table_by, read_of, reading_numbers, ReadRefuses}
+use Rattle.stored.specs.Reading.{in_turn, letters_answer, table_answer, fields_answer, read_answer, table_by, read_of}
+use Rattle.stored.specs.StoredNumbers.{reading_numbers}
+use Rattle.stored.specs.RefusedWith.{ReadRefuses}
 
 -- entries in the first places of any table are as sound as they are alone
 pub sound_placed : (s : List ℕ) (others : List Party) (room : ℕ) →

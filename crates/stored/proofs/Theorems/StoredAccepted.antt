@@ -11,11 +11,13 @@ use borrow.Author.Tests.{leb-true, leb-false, eq-eqb, ne_eqb}
 use Rattle.tagged.proofs.Theorems.Impossible.{impossible}
 use Rattle.numbers.specs.BigEndian.{Bytes}
 use Rattle.numbers.proofs.Theorems.BigEndian.{Bytes-take, Bytes-drop}
-use Rattle.field_walk.specs.Walk.{FieldAt, value_of, FieldsWalk}
+use Rattle.field_walk.specs.Walk.{FieldAt, value_of}
+use Rattle.field_walk.specs.Walked.{FieldsWalk}
 use Rattle.tagged.specs.Find.{place_at, fields_of, first_with, first_place, part_of, field_start, field_value}
 use Rattle.tagged.specs.File.{fields_part, FileAnswer}
 use Rattle.tagged.proofs.Theorems.File.{stands_means}
-use Rattle.tagged.specs.Encoded.{closed, parts_of}
+use Rattle.tagged.specs.Encoded.{closed}
+use Rattle.tagged.specs.WalkEncoded.{parts_of}
 use Rattle.tagged.proofs.Theorems.FoundFields.{walk_inside, walk_fields_of, Bytes-part}
 use Rattle.tagged.proofs.Theorems.ClosedFiles.{stands_closed}
 use Rattle.tagged.specs.declared.file.Refusal.{Refusal}

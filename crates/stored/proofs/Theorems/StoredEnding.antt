@@ -1,15 +1,19 @@
 -- The endings tell the answers: done or refused by the number, and two different answers never end alike.
 use Rattle.std.specs.Prelude.{ℕ, ◌≤◌, ◌≡◌, refl, List, cond, pos, nat_abs, get_or, Err, Ok}
 use Rattle.std.proofs.Common.{sym, ap, ◌∙◌}
-use Rattle.tagged.specs.Ending.{Ending, file_ending, number_is_0, stands, Numbered}
+use Rattle.tagged.specs.Ending.{Ending}
+use Rattle.tagged.specs.EndingTests.{number_is_0, stands, Numbered}
+use Rattle.tagged.specs.FileEnding.{file_ending}
 use Rattle.tagged.proofs.Theorems.Ending.{refusal_in, refused_by_number, file_answer_by_number}
 use Rattle.tagged.specs.File.{FileAnswer}
 use Rattle.ledger.proofs.Theorems.RefusalNumbers.{one_of_positive}
 use Rattle.ledger.specs.declared.records.Party.{Party}
 use Rattle.ledger.specs.declared.records.Ledger.{Ledger}
-use Rattle.stored.specs.Reading.{read_answer, reading_numbers, ReadRefuses}
+use Rattle.stored.specs.Reading.{read_answer}
+use Rattle.stored.specs.StoredNumbers.{reading_numbers}
+use Rattle.stored.specs.RefusedWith.{ReadRefuses, writing_numbers, WriteRefuses}
 use Rattle.stored.proofs.Theorems.Reading.{read_refusal_numbers}
-use Rattle.stored.specs.Writing.{written_answer, writing_numbers, WriteRefuses, Written}
+use Rattle.stored.specs.Writing.{written_answer, Written}
 use Rattle.stored.proofs.Theorems.Writing.{write_refusal_numbers}
 use Rattle.stored.specs.StoredEnding.{written_ending, is_written}
 

@@ -3,7 +3,8 @@ use Rattle.std.specs.Prelude.{ℕ, ◌<◌, ◌≤◌, ◌≡◌, refl, length, 
 use Rattle.std.proofs.Common.{ap, subst, ◌∙◌, ⊎_elim, arith}
 use mathlib.Core.List.{List, [], ◌∷◌, ◌++◌, append-nil, Memᴰ}
 use Rattle.std.proofs.lemmas.List.{length-map}
-use Rattle.field_walk.specs.Walk.{FieldAt, FieldsWalk, lowest_of, highest_of}
+use Rattle.field_walk.specs.Walk.{FieldAt, lowest_of, highest_of}
+use Rattle.field_walk.specs.Walked.{FieldsWalk}
 use Rattle.tagged.specs.Find.{fields_of, fields_with, field_value}
 use Rattle.tagged.proofs.Theorems.FieldsWith.{with_past, with_append, with_all, with_none, with_among}
 use Rattle.tagged.specs.WalkRelations.{OfRow}

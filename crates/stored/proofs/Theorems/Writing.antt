@@ -15,7 +15,8 @@ use Rattle.ledger.specs.Sound.{sound}
 use Rattle.ledger.specs.declared.records.Party.{Party}
 use Rattle.ledger.specs.declared.records.Ledger.{Ledger}
 use Rattle.stored.specs.Form.{stored_form}
-use Rattle.stored.specs.Writing.{form_answer, written_answer, output_by, written_output, write_of, WriteRefuses}
+use Rattle.stored.specs.Writing.{form_answer, written_answer, output_by, written_output, write_of}
+use Rattle.stored.specs.RefusedWith.{WriteRefuses}
 
 -- without the soundness test
 module _ (ledger : Ledger) (parties : List Party) (out : List ℕ) where

@@ -16,7 +16,8 @@ use Rattle.ledger.specs.declared.records.Party.{Party}
 use Rattle.ledger.specs.declared.records.Ledger.{Ledger}
 use Rattle.stored.specs.Layout.{record_bytes, values_at}
 use Rattle.stored.specs.Form.{scheme_parts, party_parts, stored_form, stored_schemes, stored_entries, no_schemes, stored_ledger}
-use Rattle.stored.specs.Writing.{written_answer, form_end, write_of}
+use Rattle.stored.specs.Writing.{written_answer, write_of}
+use Rattle.stored.specs.FormOutput.{form_end}
 use Rattle.stored.specs.Reading.{table_answer, read_answer, read_back, read_of}
 
 -- a ledger of one scheme and its first entry

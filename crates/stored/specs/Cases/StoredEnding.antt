@@ -1,6 +1,6 @@
 -- How reading and writing end, in literals.
 use Rattle.std.specs.Prelude.{◌≡◌, refl, [], ◌∷◌, pos, Err, Ok}
-use Rattle.tagged.specs.Ending.{file_ending}
+use Rattle.tagged.specs.FileEnding.{file_ending}
 use Rattle.tagged.specs.File.{refusal}
 use Rattle.stored.specs.StoredEnding.{written_ending}
 

@@ -15,7 +15,8 @@ use Rattle.ledger.specs.declared.records.Scheme.{Scheme}
 use Rattle.ledger.specs.declared.records.Party.{Party}
 use Rattle.calls.proofs.Theorems.Lists.{all_append}
 use Rattle.calls.specs.Carried.{State, entries_on}
-use Rattle.stored.specs.Layout.{scheme_widths, scheme_values, party_widths, party_values, Fit}
+use Rattle.stored.specs.Layout.{scheme_widths, scheme_values, party_widths, party_values}
+use Rattle.stored.specs.Fit.{Fit}
 use Rattle.stored.specs.FormFields.{FormFits}
 use Rattle.kept_sound.specs.Kept.{Kept}
 use Rattle.kept_sound.proofs.Theorems.KeptByCalls.{all_drop, all_take}

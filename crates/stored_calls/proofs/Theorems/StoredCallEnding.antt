@@ -1,16 +1,19 @@
 -- The endings tell the answers: done or refused by the number, and two different answers never end alike.
 use Rattle.std.specs.Prelude.{ℕ, ◌≡◌, refl, List, Bool, true, false, cond, pos, nat_abs, get_or, drop, length, Err, Ok}
 use Rattle.std.proofs.Common.{sym, ap, ◌∙◌}
-use Rattle.tagged.specs.Ending.{Ending, number_is_0}
+use Rattle.tagged.specs.Ending.{Ending}
+use Rattle.tagged.specs.EndingTests.{number_is_0}
 use Rattle.tagged.proofs.Theorems.Ending.{refusal_in, refused_by_number}
 use Rattle.tagged.specs.File.{FileAnswer}
 use Rattle.ledger.specs.Records.{no_parties, new_ledger}
 use Rattle.ledger.proofs.Theorems.RefusalNumbers.{one_of_positive}
 use Rattle.calls.specs.Decision.{Call, CallAnswer, is_accepted, is_done, is_refused}
 use Rattle.calls.specs.Calls.{state_of, answered, leaves}
-use Rattle.calls.specs.CallEnding.{call_ending, Numbered}
+use Rattle.calls.specs.CallEnding.{call_ending}
+use Rattle.calls.specs.CallEndingTests.{Numbered}
 use Rattle.calls.proofs.Theorems.CallEnding.{answered_numbered, answer_by_ending}
-use Rattle.stored.specs.Reading.{reading_numbers, ReadRefuses}
+use Rattle.stored.specs.StoredNumbers.{reading_numbers}
+use Rattle.stored.specs.RefusedWith.{ReadRefuses}
 use Rattle.stored.proofs.Theorems.StoredEnding.{read_numbered, write_numbered, WriteNumbered}
 use Rattle.stored.specs.Writing.{WriteEnd, write_of, Written}
 use Rattle.stored_calls.specs.StoredCalls.{StoredCheck, StoredCallAnswer, not_read, not_made, made_accepted, made_done, stored_read, written_answer, end_by, once_read, stored_call_of, new_stored_of, check_stored_of}

@@ -4,7 +4,8 @@ use Rattle.std.proofs.Common.{sym, subst, ◌∙◌, true≢false}
 use Rattle.tagged.specs.File.{FileAnswer}
 use Rattle.ledger.specs.Limits.{most_entries}
 use Rattle.ledger.specs.Records.{no_parties, new_ledger}
-use Rattle.ledger.specs.RefusalNumbers.{one_of, Among}
+use Rattle.ledger.specs.RefusalNumbers.{one_of}
+use Rattle.ledger.specs.NumberLists.{Among}
 use Rattle.ledger.proofs.Theorems.RefusalNumbers.{one_of_more}
 use Rattle.ledger.proofs.Theorems.Table.{length_no_parties}
 use Rattle.ledger.specs.declared.records.Party.{Party}
@@ -17,13 +18,16 @@ use Rattle.calls.proofs.Theorems.Calls.{refusal_numbers}
 use Rattle.calls_on_records.proofs.Theorems.OnRecords.{records_length}
 use Rattle.stored.specs.Form.{stored_form}
 use Rattle.stored.proofs.Theorems.ReadLedger.{read_answer_lem, read_length}
-use Rattle.stored.specs.Reading.{reading_numbers, ReadRefuses, read_answer}
+use Rattle.stored.specs.Reading.{read_answer}
+use Rattle.stored.specs.StoredNumbers.{reading_numbers}
+use Rattle.stored.specs.RefusedWith.{ReadRefuses, writing_numbers, WriteRefuses}
 use Rattle.stored.proofs.Theorems.Reading.{read_refusal_numbers}
-use Rattle.stored.specs.Writing.{output_by, write_of, writing_numbers, WriteRefuses, Written}
+use Rattle.stored.specs.Writing.{output_by, write_of, Written}
 use Rattle.stored.proofs.Theorems.Writing.{write_refusal_numbers}
 use Rattle.stored.specs.Writing as writing
 use Rattle.stored_calls.specs.StoredCalls.{StoredCheck, StoredCallAnswer, made_accepted, made_done, stored_read, written_answer, written_end, end_by, once_read, stored_call_of, new_stored_of, check_by, check_stored_of}
-use Rattle.stored_calls.specs.StoredRefusals.{is_made, stored_numbers, StoredRefuses}
+use Rattle.stored_calls.specs.StoredRefusals.{is_made, stored_numbers}
+use Rattle.stored_calls.specs.StoredRefuses.{StoredRefuses}
 
 -- ---- the table has as many records as there is room for, and 512 at most
 pub length_room : (room : ℕ) → length (take room no_parties) ≡ min room most_entries

@@ -36,7 +36,7 @@ use Rattle.stored.specs.Writing.{write_of, Written}
 use Rattle.stored.proofs.Theorems.Writing.{write_refused_14, write_done}
 use Rattle.stored_calls.specs.StoredCalls.{StoredCallAnswer, not_read, not_made, made_accepted, made_done, stored_read, written_answer, end_by, once_read, stored_call_of, new_stored_of, check_by, check_stored_of}
 use Rattle.stored_calls.proofs.Theorems.StoredCalls.{length_room, table_length, answer_of_read}
-use Rattle.stored_calls.specs.StoredRefusals.{StoredRefuses}
+use Rattle.stored_calls.specs.StoredRefuses.{StoredRefuses}
 use Rattle.stored_calls.specs.StoredCallsRefusals.{EntryNeeded}
 
 -- a sound ledger's

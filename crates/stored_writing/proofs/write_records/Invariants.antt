@@ -1,6 +1,6 @@
 -- The loop keeps that the fields of the records passed are written; a turn writes the next where they end (one_record_more).
 use Rattle.std.proofs.Common.{length, map, take, ◌≡◌}
-use Rattle.numbers.specs.BigEndian.{written}
+use Rattle.numbers.specs.Written.{written}
 use Rattle.tagged.specs.Encoded.{encoded_parts}
 use Rattle.stored_writing.proofs.write_records.Given as goal
 

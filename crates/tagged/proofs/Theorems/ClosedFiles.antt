@@ -7,10 +7,12 @@ use Rattle.numbers.proofs.Theorems.BigEndian.{Bytes-take, Bytes-drop, length_byt
 use Rattle.numbers.specs.Check.{check}
 use Rattle.numbers.proofs.Theorems.Check.{check_below}
 use Rattle.field_walk.specs.Walk.{FieldAt, fields, walk}
-use Rattle.tagged.specs.Encoded.{encoded_parts, closed, parts_of}
+use Rattle.tagged.specs.Encoded.{encoded_parts, closed}
+use Rattle.tagged.specs.WalkEncoded.{parts_of}
 use Rattle.tagged.proofs.Theorems.FoundFields.{walk_tiles}
 use Rattle.tagged.proofs.Theorems.Walk.{by_test}
-use Rattle.tagged.specs.File.{tail_stands, check_stands, fields_part, of_walk, file_answer, FileStands}
+use Rattle.tagged.specs.File.{tail_stands, check_stands, fields_part, of_walk, file_answer}
+use Rattle.tagged.specs.FileStands.{FileStands}
 use Rattle.tagged.proofs.Theorems.File.{walk_decides}
 
 -- what the check of a closed file is over

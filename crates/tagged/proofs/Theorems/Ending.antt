@@ -3,7 +3,9 @@ use Rattle.std.specs.Prelude.{ℕ, ◌≤◌, ◌≡◌, refl, List, [], false, 
 use Rattle.std.proofs.Common.{sym, ap, arith, ne_eqb}
 use Rattle.tagged.specs.File.{refusal, FileAnswer}
 use Rattle.tagged.proofs.Theorems.File.{RefusesTo}
-use Rattle.tagged.specs.Ending.{Ending, ends_refused, ends_done, file_ending, number_is_0, stands, Numbered}
+use Rattle.tagged.specs.Ending.{Ending, ends_refused, ends_done}
+use Rattle.tagged.specs.EndingTests.{number_is_0, stands, Numbered}
+use Rattle.tagged.specs.FileEnding.{file_ending}
 use Rattle.tagged.specs.declared.file.Refusal.{Refusal}
 
 -- the refusal that it tells, where its number isn't 0

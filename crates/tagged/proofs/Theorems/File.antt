@@ -4,7 +4,8 @@ use Rattle.std.proofs.Common.{sym, ap, ◌∙◌, true≢false, ⊎_elim, arith,
 use mathlib.Mathlib.Data.Bool.Basic.{dichotomy}
 use Rattle.tagged.proofs.Theorems.Impossible.{impossible}
 use Rattle.field_walk.specs.Walk.{Walk, fields, stops, walk}
-use Rattle.tagged.specs.File.{tail_stands, check_stands, fields_part, refusal, of_walk, file_answer, FileStands, RefusalTo, FileAnswer}
+use Rattle.tagged.specs.File.{tail_stands, check_stands, fields_part, refusal, of_walk, file_answer, FileAnswer}
+use Rattle.tagged.specs.FileStands.{FileStands, RefusalTo}
 use Rattle.tagged.specs.Refusals.{file_does_not_walk, check_differs}
 use Rattle.tagged.specs.declared.file.Refusal.{Refusal}
 

@@ -7,10 +7,13 @@ use Rattle.std.proofs.lemmas.Bool.{false≢true}
 use Rattle.std.proofs.lemmas.List.{length-map}
 use Rattle.numbers.specs.BigEndian.{Bytes, number, bytes_of}
 use Rattle.numbers.proofs.Theorems.BigEndian.{Bytes-take, Bytes-drop, bytes_of_number}
-use Rattle.field_walk.specs.Walk.{tag_of, lowest_of, step_of, least_of, most_of, permitted_by, length_at, FieldAt, value_of, fields, first_form, second_form, neither_form, row_in, rows_in, walk_by, walk, FieldsWalk}
+use Rattle.field_walk.specs.Walk.{tag_of, lowest_of, step_of, least_of, most_of, permitted_by, length_at, FieldAt, value_of, fields, first_form, second_form, neither_form, row_in, rows_in, walk_by, walk}
+use Rattle.field_walk.specs.Walked.{FieldsWalk}
 use Rattle.field_walk.proofs.Theorems.Forms.{same_in, row_in_lem, of_both}
-use Rattle.tagged.specs.Find.{place_at, whole_field, fields_from, fields_of, first_with, first_place, value_place, rest_place, part_of, start_of, field_value, field_start}
-use Rattle.tagged.specs.Encoded.{encoded, encoded_parts, parts_of}
+use Rattle.tagged.specs.Find.{place_at, whole_field, fields_from, fields_of, first_with, first_place, part_of, start_of, field_value, field_start}
+use Rattle.tagged.specs.Parts.{value_place, rest_place}
+use Rattle.tagged.specs.Encoded.{encoded, encoded_parts}
+use Rattle.tagged.specs.WalkEncoded.{parts_of}
 use Rattle.tagged.specs.RisingTags.{tags_above, rising_tags}
 use Rattle.tagged.specs.WalkRelations.{Stand, end, next_row, field, StandsAt, Fields, none, first}
 use Rattle.tagged.proofs.Theorems.Walk.{walk_by_stands, walk_by_fields, walk_by_form, walk_fields, both_hold, rest_tag, rest_length, permitted_length}

@@ -12,10 +12,10 @@ use Rattle.numbers.proofs.Theorems.BigEndian.{length_bytes_of, number_of_bytes_o
 use Rattle.field_walk.specs.Walk.{tag_of, least_of, most_of, highest_of, due_from, all_had, permitted_by, front_of, FieldAt, Walk, fields, stops, walk_from, first_form, second_form, neither_form, rows_in, walk_by, by_forms, walk}
 use Rattle.tagged.specs.WalkRelations.{Stand, end, next_row, field, StandsAt, Fields, none, first}
 use Rattle.tagged.proofs.Theorems.Walk.{permitted_length, both_hold, rest_tag}
-use Rattle.tagged.specs.Encoded.{encoded_parts, parts_of}
+use Rattle.tagged.specs.Encoded.{encoded_parts}
+use Rattle.tagged.specs.WalkEncoded.{parts_of, Short, places_from}
 use Rattle.tagged.specs.RisingTags.{tags_above, rising_tags}
 use Rattle.tagged.proofs.Theorems.FoundFields.{walk_seen, walk_by_fields_of, rising_rest}
-use Rattle.tagged.specs.WalkEncoded.{Short, places_from}
 
 -- a field that stands by rows above a tag is above it
 Stand-above : {rows : List (List ℕ)} {n : ℕ} {f : FieldAt} {fs : List FieldAt} → Stand rows n (f ∷ fs) → (tag : ℕ) → tags_above tag rows ≡ true → tag < f.tag

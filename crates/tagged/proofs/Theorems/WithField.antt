@@ -12,14 +12,17 @@ use Rattle.std.proofs.Math.ListN.{length, drop, get_or-append}
 use Rattle.std.proofs.Math.Seq.{take_at, take-take, drop-drop}
 use Rattle.std.proofs.lemmas.List.{take-append-le, drop-append-le}
 use Rattle.std.proofs.Math.Dec.{eqb}
-use Rattle.numbers.specs.BigEndian.{Bytes, number, bytes_of, written}
+use Rattle.numbers.specs.BigEndian.{Bytes, number, bytes_of}
+use Rattle.numbers.specs.Written.{written}
 use Rattle.numbers.proofs.Theorems.BigEndian.{Bytes-append, Bytes-take, Bytes-drop, bytes_of_bytes, length_bytes_of, length_written, drop_written, number_at_one}
 use Rattle.numbers.specs.Check.{check}
 use Rattle.numbers.proofs.Theorems.Check.{check_below}
 use Rattle.field_walk.specs.Walk.{FieldAt, fields, first_form, second_form, rows_in, walk}
 use Rattle.tagged.specs.DiffersInField.{DiffersInField}
-use Rattle.tagged.specs.Encoded.{encoded_parts, closed, parts_of}
-use Rattle.tagged.specs.File.{fields_part, file_answer, FileStands}
+use Rattle.tagged.specs.Encoded.{encoded_parts, closed}
+use Rattle.tagged.specs.WalkEncoded.{parts_of}
+use Rattle.tagged.specs.File.{fields_part, file_answer}
+use Rattle.tagged.specs.FileStands.{FileStands}
 use Rattle.tagged.specs.declared.find.Place.{Place}
 use Rattle.tagged.specs.Find.{place_at, first_with, first_place, part_of, start_of, field_start, field_value}
 use Rattle.tagged.specs.RisingTags.{rising_tags}

@@ -1,7 +1,8 @@
 -- Small fields, and what is found by tag.
 use Rattle.std.specs.Prelude.{ℕ, ◌≡◌, refl, List, [], ◌∷◌, map}
 use Rattle.numbers.specs.BigEndian.{number}
-use Rattle.tagged.specs.Find.{fields_from, fields_of, first_with, value_place, rest_place, part_of, field_value, field_start}
+use Rattle.tagged.specs.Find.{fields_from, fields_of, first_with, part_of, field_value, field_start}
+use Rattle.tagged.specs.Parts.{value_place, rest_place}
 
 -- fields 1, 2, 2 and 3
 abbrev small_fields : List ℕ
