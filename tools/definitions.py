@@ -3,34 +3,29 @@
 specs/X.antt has definitions alone, specs/Cases/ computed tables, specs/Theorems/ theorems, each with what only they need; theorems, and the proofs of cases, may
 stand in proofs/Theorems/ and proofs/Cases/ instead. specs/Laws.antt has the statements that functions without code have as their contracts. Checked:
 
-- no definition file has a theorem, and none cites a case or a theorem; Laws may cite definitions that stand beside its own crate's theorems;
+- no definition file has a theorem, and none cites a case or a theorem;
 - a contract cites definition files alone; that of a function without parameters and code also cites statements of its own crate's cases;
 - no definition file and no contract imports a proof, but for `Option` and `sets`, definitions that std has among its proofs; an impl's ghost members may, since
   they prove the laws of its trait;
 - of proofs, a file of Cases or Theorems imports std's, another crate's Theorems and Cases, and in proofs/ also its own crate's; a crate's theorems stand in one folder;
-- every top-level name is used somewhere or stands in docs/RULES.md or docs/PROMISES.md, and every import is used.
+- every top-level name is used somewhere or stands in docs/RULES.md or docs/PROMISES.md, and every import is used;
+- the public calls and the laws come to a file of definitions as a whole or not at all (tools/believed.py), and every statement of Laws is a law's.
 
 Prints what fails and ends with 1. docs/ARCHITECTURE.md has the lists that --list prints, with their lines without imports: the definition files that the public
-calls and the demands come to, in reading order, the laws, and then the other definition files.
+calls and the demands come to, in reading order; the laws' statements, the definitions that these come to besides, and their tables of cases; and then the other
+definition files.
 """
-import pathlib
 import re
 import sys
 
-root = pathlib.Path(__file__).resolve().parent.parent
-ROOTS = "numbers/Check reconciliation/ExactPercent charge/Price price_band/PriceBand price_band/BandPromises slip_text/Slip slip_text/ExactReading " \
-    "page_text/Page page_text/AmountGrammar page_text/PageColumns calls/Calls " \
-    "accept_rules/AcceptAnswers stored/Reading stored/Writing stored_calls/StoredCalls " \
-    "quoting_unit/Unit fikrem_c/BandResult fikrem_c/FileResult fikrem_c/Version history/DemandThree " \
-    "stored_history/StoredDemandThree"
-MOST_LINES = 4000
-# the laws' statements, beside those
-MOST_LAW_LINES = 190
-WORD = re.compile(r"[^\s(){}\[\],;:.&«»⌜⌝λ]+")
+from believed import DECLARED, IMPORT, SPECS, WORD, believed, crates, is_comment, root
+
+# at most so many lines: of the definitions that calls and demands come to, of the laws' statements, and of the definitions that only these come to
+MOST_LINES = {"believed": 3400, "laws": 360, "beyond": 360}
+# definitions of a file that calls and laws come to and that neither comes to, as file and names, each with why they stand there all the same
+BESIDE = {}
 # in code a word also ends at the brackets of a type's parameters, and at what stands before a value
 CODE_WORD = re.compile(r"[^\s(){}\[\],;:.&«»⌜⌝λ<>!*|?]+")
-DECLARED = re.compile(r"(\s*)((?:(?:abbrev|unfoldable|pub) )*)(record |data )?«?([^\s«»]+)»?( :| where| \(| \{|$)")
-IMPORT = re.compile(r"\s*(?:ghost |pub )*use ([^{;]+?)(?:(?:\.|::)\{(.*)\})?(?: as (\S+?))?;?$")
 # the prover's own questions: it uses what a file of this name declares with such a type
 ANSWERED = ("Answers.antt", "Invariants.antt")
 GOAL = re.compile(r"\s*(?:(?:pub|abbrev) )*(\S+) : goal\.\S+$")
@@ -43,15 +38,6 @@ PROOFS = re.compile(r"Rattle\.(\w+)\.proofs\.(\w+).*")
 LAW = re.compile(r"^pub fn \w+\(\)\n((?:    ensures .*\n)+)\{\}$", re.MULTILINE)
 # a ghost member of an impl
 MEMBER = re.compile(r"\s+ghost \w+ = \{")
-SPECS = re.compile(r"Rattle\.(\w+)\.specs\.((?:Cases\.|Theorems\.)?\w+)")
-
-
-def crates():
-    return [line.split(":")[0].split()[0] for line in (root / "crates.txt").read_text().splitlines() if line and not line.startswith("#")]
-
-
-def is_comment(line):
-    return line.lstrip().startswith(("--", "//"))
 
 
 def code(path):
@@ -117,7 +103,7 @@ def may_cite(path, module, names, definitions):
         return True
     own = path.relative_to(root / "crates").parts[0] == found[1] and set(names) <= statements(found[1], found[2])
     if path in definitions.values():
-        return own and path.name == "Laws.antt" and found[2].startswith("Theorems.")
+        return False
     text = "\n".join(code(path)[0])
     clauses = "".join(LAW.findall(text))
     return own and found[2].startswith("Cases.") and all(WORD.findall(text).count(name) == WORD.findall(clauses).count(name) for name in names)
@@ -167,19 +153,18 @@ def check_uses(failures):
             failures.append(f"{path.relative_to(root)}: nothing cites {name}")
 
 
-def reached(definitions):
-    """The definition files that the roots come to, by their imports."""
-    found, open_files = set(), ROOTS.split()
-    while open_files:
-        name = open_files.pop()
-        if name in found:
-            continue
-        found.add(name)
-        for module, _, _ in code(definitions[name])[1]:
-            cited = SPECS.fullmatch(module)
-            if cited and f"{cited[1]}/{cited[2]}" in definitions:
-                open_files.append(f"{cited[1]}/{cited[2]}")
-    return found
+def check_believed(failures, found, texts):
+    """Calls and laws come to a file of definitions as a whole or not at all, every law's statement is held, and no law cites what stands beside theorems."""
+    for module in {module for module, _ in found}:
+        others = {name for name in texts[module].blocks if (module, name) not in found}
+        file = "/".join(module)
+        if module[1] == "Laws":
+            failures += [f"{file}: no function has {name} as its contract" for name in sorted(others)]
+        elif "." not in module[1]:
+            failures += [f"{file}: no call and no law comes to {name}" for name in sorted(others - BESIDE.get(file, set()))]
+            failures += [f"{file}: a call or a law comes to {name}, which is no exception" for name in sorted(BESIDE.get(file, set()) - others)]
+        elif module[1].startswith("Theorems."):
+            failures += [f"{file}: a law cites {name}" for name in texts[module].blocks if (module, name) in found]
 
 
 def in_reading_order(names, definitions):
@@ -200,38 +185,46 @@ def in_reading_order(names, definitions):
     return order
 
 
-def listing(definitions):
-    """The three lists as lines of Markdown, a line for each crate, and how many lines of definitions each comes to."""
-    believed, lines = reached(definitions), []
+def listing(definitions, found, of_laws_alone, texts):
+    """The lists as lines of Markdown, a line for each crate, and how many lines each comes to; of cases those that the laws hold."""
+    come_to = {"/".join(module) for module, _ in found} & set(definitions)
     laws = {name for name in definitions if name.endswith("/Laws")}
-    total = {}
-    for title, names in (("believed", believed - laws), ("laws", laws), ("inner", set(definitions) - believed - laws)):
-        length = {name: sum(not IMPORT.fullmatch(line) or is_comment(line) for line in definitions[name].read_text().splitlines()) for name in names}
+    beyond = come_to - laws - {"/".join(module) for module, _ in set(found) - of_laws_alone}
+    cases = {}
+    for module, name in found:
+        if module[1].startswith("Cases."):
+            key = "/".join(module).replace("Cases.", "")
+            cases[key] = cases.get(key, 0) + len(texts[module].blocks[name])
+    lines, total = [], {}
+    for title, names in (("believed", come_to - laws - beyond), ("laws", laws), ("beyond", beyond), ("cases", cases), ("inner", set(definitions) - come_to - laws)):
+        length = {name: sum(not IMPORT.fullmatch(line) or is_comment(line) for line in definitions[name].read_text().splitlines()) for name in names if title != "cases"} or cases
         total[title] = sum(length.values())
         by_crate = {}
-        for name in in_reading_order(names, definitions):
+        for name in in_reading_order(names, definitions) if title != "cases" else cases:
             by_crate.setdefault(name.split("/")[0], []).append(f"{name.split('/')[1]} {length[name]}")
         lines.append((title, [f"| `{crate}` | {', '.join(files)} |" for crate, files in sorted(by_crate.items(), key=lambda row: crates().index(row[0]))]))
     return lines, total
 
 
 def main():
-    definitions, failures = dict(definition_files()), []
-    lists, total = listing(definitions)
+    definitions = dict(definition_files())
+    found, of_laws_alone, texts, failures = believed()
+    lists, total = listing(definitions, found, of_laws_alone, texts)
     if "--list" in sys.argv:
         for title, rows in lists:
             print(f"{title}: {total[title]} lines", *rows, sep="\n")
         return
     check_shape(failures, definitions)
     check_uses(failures)
+    check_believed(failures, found, texts)
     page = (root / "docs/ARCHITECTURE.md").read_text()
     for title, rows in lists:
         failures += [f"docs/ARCHITECTURE.md has no line {row}" for row in rows if row not in page]
-    for title, what, most in (("believed", "definitions", MOST_LINES), ("laws", "laws", MOST_LAW_LINES)):
+    for title, most in MOST_LINES.items():
         if f"{total[title]:,} lines" not in page or total[title] > most:
-            failures.append(f"docs/ARCHITECTURE.md: the {what} have {total[title]:,} lines, at most {most:,} are meant")
+            failures.append(f"docs/ARCHITECTURE.md: {title} has {total[title]:,} lines, at most {most:,} are meant")
     print(*failures, sep="\n")
-    print(f"definitions: {len(definitions)} files, {total['believed']} lines to believe and {total['laws']} of laws, {len(failures)} failures")
+    print(f"definitions: {len(definitions)} files, {total['believed']} lines to believe, {total['laws']} of laws and {total['beyond']} beyond, {len(failures)} failures")
     sys.exit(1 if failures else 0)
 
 

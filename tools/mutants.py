@@ -11,7 +11,7 @@ that counts for one class alone.
 Of each mutant the copies of what rests on the altered file stand in a folder of their own, so that one `rt check` judges many. Where a case of its own crate
 holds no more, the mutant is refused; where the prover can't read it (a type or a name is wrong), it is unreadable; where the check comes to a limit of the prover, it is
 told so. What survives its own crate's cases goes to those of every crate above. What survives those too is explained (a line of tools/mutants_explained.txt says why it
-says the same), or is of a file that only proofs use (the second table of docs/ARCHITECTURE.md, 'The other definition files'), or is a survivor: it wants a case.
+says the same), or is of a file that only proofs use (the last table of docs/ARCHITECTURE.md, 'The other definition files'), or is a survivor: it wants a case.
 Not altered are propositions: records, data and definitions of a type, which no case computes.
 
 Results stand in target/mutants/CRATE.json. With --resume a mutant is tried again only where what was read of it has changed: its definitions, for one that was
@@ -907,7 +907,7 @@ def explained(name, found):
 
 
 def files_of_proofs():
-    """The files of the second table of docs/ARCHITECTURE.md."""
+    """The files of the last table of docs/ARCHITECTURE.md."""
     table = (root / "docs/ARCHITECTURE.md").read_text().split("The other definition files")[1].split("## ")[0]
     return {(crate, name) for crate, row in re.findall(r"^\| `(\w+)` \| (.*) \|$", table, re.M) for name in re.findall(r"(\w+) \d+", row)}
 
