@@ -8,7 +8,7 @@ stand in proofs/Theorems/ and proofs/Cases/ instead. specs/Laws.antt has the sta
 - no definition file and no contract imports a proof, but for `Option` and `sets`, definitions that std has among its proofs; an impl's ghost members may, since
   they prove the laws of its trait;
 - of proofs, a file of Cases or Theorems imports std's, another crate's Theorems and Cases, and in proofs/ also its own crate's; a crate's theorems stand in one folder;
-- every top-level name is used somewhere or stands in docs/RULES.md or docs/PROMISES.md, and every import is used;
+- every top-level name is used somewhere or stands in docs/RULES.md or docs/PROMISES.md, and every import stands where it says and is used;
 - the public calls and the laws come to a file of definitions as a whole or not at all (tools/believed.py), and every statement of Laws is a law's.
 
 Prints what fails and ends with 1. docs/ARCHITECTURE.md has the lists that --list prints, with their lines without imports: the definition files that the public
@@ -18,7 +18,7 @@ definition files.
 import re
 import sys
 
-from believed import DECLARED, IMPORT, SPECS, WORD, believed, crates, is_comment, root
+from believed import DECLARED, IMPORT, SPECS, WORD, Text, believed, crates, is_comment, root
 
 # at most so many lines: of the definitions that calls and demands come to, of the laws' statements, and of the definitions that only these come to
 MOST_LINES = {"believed": 3400, "laws": 360, "beyond": 360}
@@ -127,8 +127,8 @@ def check_shape(failures, definitions):
                     failures.append(f"{path.relative_to(root)} imports {module}")
 
 
-def check_uses(failures):
-    """Every import of a file is used in it, and every top-level name of a hand-written file somewhere."""
+def check_uses(failures, texts):
+    """Every import of a file stands where it says and is used in it, and every top-level name of a hand-written file somewhere."""
     used, named = {}, {}
     for path in sorted((root / "crates").rglob("*")):
         if path.suffix not in (".antt", ".rt") or "out" in path.parts:
@@ -136,6 +136,8 @@ def check_uses(failures):
         lines, imports = code(path)
         text = "\n".join(lines)
         words = set((CODE_WORD if path.suffix == ".rt" else WORD).findall(text))
+        failures += [f"{path.relative_to(root)}: {'/'.join(module)} has no {name}" for module, name in Text(path).imports.values()
+                     if module in texts and name not in texts[module].owner]
         for module, names, passed_on in imports:
             failures += [f"{path.relative_to(root)} imports {name} and doesn't use it" for name in names
                          if not passed_on and module not in TRAITS and name != "*" and not stands_in(name, words, text)]
@@ -215,7 +217,7 @@ def main():
             print(f"{title}: {total[title]} lines", *rows, sep="\n")
         return
     check_shape(failures, definitions)
-    check_uses(failures)
+    check_uses(failures, texts)
     check_believed(failures, found, texts)
     page = (root / "docs/ARCHITECTURE.md").read_text()
     for title, rows in lists:

@@ -12,7 +12,6 @@ use reconciliation::signed;
 // How many places a band has: IR, CC and NC, each lowest then highest.
 const BAND: usize = 6;
 
-// Six numbers by place, since they cross to C.
 fn band_places(band: Band) -> [i64; BAND]
     requires { BandFits band }
     ensures { result ≡ band_values band }
@@ -53,7 +52,6 @@ pub extern "C" fn fikrem_price_band(
         transmission_low,
         transmission_high,
     };
-    // The 0 stands by itself: the figures are written before it.
     match price_band::price_band(book, request, bands) {
         Ok(band) => {
             figures[..BAND].copy_from_slice(&band_places(band));

@@ -11,8 +11,6 @@ use quoting_unit::outcomes::{ANSWER, slip_outcome, write_answer};
 use quoting_unit::results::{TOO_SHORT, result_of, result_of_answer};
 
 /// The reconciliation, into the figures. Short figures are 14 before anything else.
-// Here and below all arguments stand side by side, as C has numbers and lent buffers alone. The 0 stands by itself here: the figures are
-// written before it.
 #[unsafe(no_mangle)]
 pub extern "C" fn fikrem_price(book: &[u8], request: &[u8], figures: &mut [i64]) -> u64
     ensures { let end = unit_call (price book.now request.now) (lent_figures figures.old) in

@@ -13,7 +13,6 @@ use quoting_unit::outcomes::{
 use quoting_unit::results::TOO_SHORT;
 
 /// The stored form of a new ledger, into the lent output; its length in bytes in the answer's last place.
-// Here and below: room for the answer, then one call; a closure for the call would hold the lent output, and be no plainer.
 #[unsafe(no_mangle)]
 pub extern "C" fn fikrem_new_ledger(out: &mut [u8], answer: &mut [u64]) -> u64
     ensures { let end = unit_call new_ledger (lent_output out.old answer.old) in
@@ -55,7 +54,6 @@ pub extern "C" fn fikrem_accept(
 }
 
 /// Pay-out of an amount in cents on a stored ledger: the new stored form into the lent output.
-// This and hand-over are two functions, as C has a name for each.
 #[unsafe(no_mangle)]
 pub extern "C" fn fikrem_pay_out(
     stored: &[u8],

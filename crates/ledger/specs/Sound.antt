@@ -25,13 +25,15 @@ counts_within ledger in_table = leb ledger.count most_schemes ∷ leb ledger.ent
 abbrev pub counts_sound : Ledger → ℕ → Bool
 counts_sound ledger room = all_hold (counts_within ledger (leb ledger.entries room))
 
-abbrev pub sums_sound : Ledger → Bool
-sums_sound ledger =
-    all_hold
-    (leb ledger.connections most_connections ∷
+abbrev pub sums_within : Ledger → List Bool
+sums_within ledger =
+    leb ledger.connections most_connections ∷
     leb ledger.charged (highest_sum * ledger.connections) ∷
     leb ledger.borne (highest_sum * ledger.connections) ∷
-    [])
+    []
+
+abbrev pub sums_sound : Ledger → Bool
+sums_sound ledger = all_hold (sums_within ledger)
 
 -- an entry's capacity and amounts
 abbrev pub figures_within : Party → List Bool
@@ -62,10 +64,9 @@ tally_of s parties =
     }
 
 -- a scheme's terms and accounts; no subtraction, since a party's credited can exceed what it put in
-abbrev pub accounts_sound : ℕ → Scheme → Tally → Bool
-accounts_sound month scheme tally =
-    all_hold
-    (leb scheme.fee scheme.minimum ∷
+abbrev pub accounts_hold : ℕ → Scheme → Tally → List Bool
+accounts_hold month scheme tally =
+    leb scheme.fee scheme.minimum ∷
     leb scheme.minimum highest_minimum ∷
     leb lowest_term scheme.term ∷
     leb scheme.opening month ∷
@@ -73,7 +74,10 @@ accounts_sound month scheme tally =
     eqb tally.first scheme.cost ∷
     eqb scheme.fees (scheme.fee * (tally.entries - 1)) ∷
     eqb (scheme.cost + scheme.fees + tally.credited) tally.put_in ∷
-    [])
+    []
+
+abbrev pub accounts_sound : ℕ → Scheme → Tally → Bool
+accounts_sound month scheme tally = all_hold (accounts_hold month scheme tally)
 
 abbrev pub scheme_sound : ℕ → List Party → ℕ → Scheme → Bool
 scheme_sound month parties s scheme = accounts_sound month scheme (tally_of s parties)
@@ -83,16 +87,18 @@ unfoldable pub schemes_sound : ℕ → List Party → ℕ → List Scheme → Bo
 schemes_sound month parties s [] = true
 schemes_sound month parties s (scheme ∷ schemes) = cond (scheme_sound month parties s scheme) (schemes_sound month parties (suc s) schemes) false
 
-abbrev pub is_zero : Scheme → Bool
-is_zero scheme =
-    all_hold
-    (eqb scheme.cost 0 ∷
+abbrev pub zeros : Scheme → List Bool
+zeros scheme =
+    eqb scheme.cost 0 ∷
     eqb scheme.fee 0 ∷
     eqb scheme.minimum 0 ∷
     eqb scheme.opening 0 ∷
     eqb scheme.term 0 ∷
     eqb scheme.fees 0 ∷
-    [])
+    []
+
+abbrev pub is_zero : Scheme → Bool
+is_zero scheme = all_hold (zeros scheme)
 
 unfoldable pub all_zero : List Scheme → Bool
 all_zero [] = true

@@ -11,7 +11,6 @@ use reconciliation::{Percent, Reconciliation, signed};
 pub const FIGURES: usize = 27;
 
 // A percentage in four places: whether it is there, rounded, and the exact figure's quotient and remainder.
-// All four are numbers, since they cross to C.
 #[derive(Clone, Copy, Default)]
 struct PercentPlaces {
     is_there: i64,

@@ -15,8 +15,6 @@ use tagged::file::Refusal;
 pub const ANSWER: usize = 5;
 
 /// How a call ends.
-// C and the promise go by the result alone: of a refusal whose result were 0 a Result would leave the answer as it was, so the result
-// stands beside what is told.
 #[derive(Clone, Copy, Debug, PartialEq, Eq)]
 pub struct Outcome {
     /// 0 where the call is done, otherwise its refusal
@@ -61,8 +59,7 @@ fn written_places(length: usize) -> [u64; ANSWER]
 }
 
 /// Of the slip: the text's length, or 14.
-// By name and no From, here and below: each name says what is told; and a refusal is the files' here, the stored ledger's in a check,
-// and either one's in a call.
+// A refusal is the files' here, the stored ledger's where that is judged, and either one's in a call.
 pub fn slip_outcome(written: SlipWritten) -> Outcome
     ensures { result ≡ outcome_of (unit_slip_ending written) }
 {
@@ -93,8 +90,7 @@ pub fn call_outcome(answer: Result<usize, StoredRefusal>) -> Outcome
 }
 
 // What accept tells: the joining's kind, 0 where none is asked for, 1 joined, 2 small, 3 ended; the joiner's entry and G; the scheme
-// that opened; the new form's length.
-// The kind is a number and no scheme is 0, since both cross to C.
+// that opened, 0 where none did; the new form's length.
 fn acceptance_places(joining: JoiningAnswer, opening: Option<u16>, length: usize) -> [u64; ANSWER]
     ensures { result ≡ acceptance_places joining opening length }
 {

@@ -29,7 +29,7 @@ fn place_in_result(place: usize) -> u64
 
 /// A refusal in one number: its number in the lowest five bits, its file in the next two, whether it is of the stored ledger itself (0 or 1) in
 /// the next one, and its place from bit 8 on; a place above 2^56 − 1 is told as that. Never 0 where the number is 1 to 31.
-// The remainders take nothing from any refusal; by them every sum fits. The flag is a number too, since a bool would take fewer values.
+// The remainders take nothing from any refusal; by them every sum fits.
 pub fn result_of(refusal: Refusal, of_ledger: u8) -> u64
     ensures { result ≡ result_of refusal of_ledger }
 {

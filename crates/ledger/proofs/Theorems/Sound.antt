@@ -1,6 +1,6 @@
 -- A sound ledger has every condition, and back; a new ledger is sound.
 use Prim.Native.Nat.{ℕ, zero, suc, ◌+◌, ◌*◌, ◌-◌, ◌<◌, ◌≤◌, min, zero-le}
-use Rattle.std.specs.Prelude.{◌≡◌, Bool, false, cond, drop, eqb, leb, is_some, None, Some}
+use Rattle.std.specs.Prelude.{◌≡◌, Bool, false, cond, drop, leb, is_some, None, Some}
 use Rattle.std.proofs.Math.Path.{refl, subst}
 use Rattle.std.proofs.Common.{sym, ◌∙◌, not-suc-le-zero, mul-le-mul, mul-le-mul_left}
 use mathlib.Core.List.{List, [], ◌∷◌, map}
@@ -12,8 +12,8 @@ use Rattle.std.proofs.lemmas.List.{length-map}
 use Rattle.std.proofs.Math.Seq.{get_or-take, get_or-drop}
 use borrow.Author.Tests.{leb-true, eqb-true, le-leb, eq-eqb}
 use Rattle.tagged.proofs.Theorems.Impossible.{impossible}
-use Rattle.field_values.specs.Limits.{highest_minimum, lowest_term, highest_capacity}
-use Rattle.ledger.specs.Limits.{most_entries, most_connections, highest_put_in, highest_sum}
+use Rattle.field_values.specs.Limits.{highest_minimum, highest_capacity}
+use Rattle.ledger.specs.Limits.{most_entries, highest_put_in}
 use Rattle.ledger.specs.Records.{scheme_of, no_scheme, no_party, new_ledger}
 use Rattle.ledger.specs.Columns.{scheme_column, put_in_column, ones_column, sum_over, entries_of}
 use Rattle.ledger.specs.CapacityColumns.{capacity_column, capacity_of}
@@ -21,7 +21,7 @@ use Rattle.ledger.proofs.Theorems.Columns.{column_at, sum_le, sum_at_most, first
 use Rattle.ledger.specs.Lookup.{scheme_place}
 use Rattle.ledger.specs.EntryPlace.{Placed}
 use Rattle.ledger.proofs.Theorems.Lookup.{by_number, scheme_placed, placed_scheme}
-use Rattle.ledger.specs.Sound.{all_hold, counts_within, counts_sound, figures_within, tally_of, records_sound, party_sound, parties_sound, scheme_sound, schemes_sound, is_zero, all_zero, sound}
+use Rattle.ledger.specs.Sound.{all_hold, counts_within, counts_sound, sums_within, figures_within, tally_of, accounts_hold, zeros, records_sound, party_sound, parties_sound, scheme_sound, schemes_sound, is_zero, all_zero, sound}
 use Rattle.ledger.specs.SoundConditions.{SoundParty, SoundScheme, SoundLedger}
 use Rattle.ledger.specs.declared.records.Scheme.{Scheme}
 use Rattle.ledger.specs.declared.records.Party.{Party}
@@ -82,11 +82,7 @@ means_party count party h =
 
 scheme_means : (month : ℕ) (parties : List Party) (s : ℕ) (scheme : Scheme) → scheme_sound month parties s scheme ≡ true → SoundScheme month parties s scheme
 scheme_means month parties s scheme h =
-    let tally = tally_of s parties in
-    let each =
-    held
-    (leb scheme.fee scheme.minimum ∷ leb scheme.minimum highest_minimum ∷ leb lowest_term scheme.term ∷ leb scheme.opening month ∷ leb 1 tally.entries ∷
-    eqb tally.first scheme.cost ∷ eqb scheme.fees (scheme.fee * (tally.entries - 1)) ∷ eqb (scheme.cost + scheme.fees + tally.credited) tally.put_in ∷ []) h in
+    let each = held (accounts_hold month scheme (tally_of s parties)) h in
     record {
       fee = leb-true _ _ (each 0);
       minimum = leb-true _ _ (each 1);
@@ -113,9 +109,7 @@ means_scheme month parties s scheme h =
 
 zero_means : (scheme : Scheme) → is_zero scheme ≡ true → scheme ≡ no_scheme
 zero_means scheme h =
-    let each =
-    held
-    (eqb scheme.cost 0 ∷ eqb scheme.fee 0 ∷ eqb scheme.minimum 0 ∷ eqb scheme.opening 0 ∷ eqb scheme.term 0 ∷ eqb scheme.fees 0 ∷ []) h in
+    let each = held (zeros scheme) h in
     assembled (eqb-true _ _ (each 0)) (eqb-true _ _ (each 1)) (eqb-true _ _ (each 2)) (eqb-true _ _ (each 3)) (eqb-true _ _ (each 4))
     (eqb-true _ _ (each 5))
   where
@@ -187,10 +181,7 @@ module _ (ledger : Ledger) (parties : List Party) (room : ℕ) where
       let both = both_true (counts_sound ledger room) _ h in
       let counts = held (counts_within ledger (leb ledger.entries room)) both.0 in
       let each = held (records_sound ledger kept) both.1 in
-      let sums =
-      held
-      (leb ledger.connections most_connections ∷ leb ledger.charged (highest_sum * ledger.connections) ∷ leb ledger.borne (highest_sum * ledger.connections) ∷ [])
-      (each 0) in
+      let sums = held (sums_within ledger) (each 0) in
       record {
         schemes = leb-true _ _ (counts 0);
         entries = leb-true _ _ (counts 1);

@@ -1,6 +1,5 @@
 -- The books of a ledger and its table, and a scheme's and an entry's particulars by number.
-use Rattle.std.specs.Prelude.{ℕ, ◌≡◌, refl, [], ◌∷◌, map}
-use Rattle.ledger.specs.Lists.{none, found}
+use Rattle.std.specs.Prelude.{ℕ, ◌≡◌, refl, [], ◌∷◌, map, None, Some}
 use Rattle.ledger.specs.Records.{scheme_of, party_of, ledger_of}
 use Rattle.ledger.specs.Books.{SchemeParticulars, EntryParticulars, Books, scheme_at, entry_at, of_scheme, books_of}
 
@@ -46,8 +45,8 @@ pub full_shown :
 full_shown = refl
 
 pub by_number :
-    (map (scheme_at shown) (0 ∷ 1 ∷ 2 ∷ 3 ∷ []) ≡ none ∷ found (scheme_row 1 31 32 33 34 35) ∷ found (scheme_row 2 41 42 43 44 45) ∷ none ∷ [])
-    × (map (entry_at shown) (0 ∷ 1 ∷ 3 ∷ 4 ∷ []) ≡ none ∷ found (entry_row 1 2 62 64 65) ∷ found (entry_row 3 2 82 84 85) ∷ none ∷ [])
+    (map (scheme_at shown) (0 ∷ 1 ∷ 2 ∷ 3 ∷ []) ≡ None ∷ Some (scheme_row 1 31 32 33 34 35) ∷ Some (scheme_row 2 41 42 43 44 45) ∷ None ∷ [])
+    × (map (entry_at shown) (0 ∷ 1 ∷ 3 ∷ 4 ∷ []) ≡ None ∷ Some (entry_row 1 2 62 64 65) ∷ Some (entry_row 3 2 82 84 85) ∷ None ∷ [])
     × (of_scheme 2 shown.entries ≡ entry_row 1 2 62 64 65 ∷ entry_row 3 2 82 84 85 ∷ [])
     × (of_scheme 1 shown.entries ≡ entry_row 2 1 72 74 75 ∷ [])
 by_number = (refl, refl, refl, refl)

@@ -1,12 +1,6 @@
--- Short lists restricted, numbered, put at the start of others, turned round and summed.
-use Rattle.std.specs.Prelude.{ℕ, ◌≡◌, refl, List, [], ◌∷◌, leb}
-use Rattle.ledger.specs.Lists.{keep, numbered_from, at_start, oldest_first, sum_by, none, found, first}
-
-abbrev from_two : List ℕ → List ℕ
-from_two = keep (λ n. leb 2 n)
-
-pub kept : (from_two [] ≡ []) × (from_two (1 ∷ 2 ∷ 3 ∷ 0 ∷ 5 ∷ 1 ∷ []) ≡ 2 ∷ 3 ∷ 5 ∷ []) × (from_two (4 ∷ 1 ∷ []) ≡ 4 ∷ [])
-kept = (refl, refl, refl)
+-- Short lists numbered, put at the start of others, turned round and summed.
+use Rattle.std.specs.Prelude.{ℕ, ◌≡◌, refl, List, [], ◌∷◌}
+use Rattle.ledger.specs.Lists.{numbered_from, at_start, oldest_first, sum_by}
 
 abbrev pairs : ℕ → List ℕ → List (ℕ × ℕ)
 pairs number = numbered_from number (λ n x. (n, x))
@@ -26,6 +20,3 @@ turned_round = (refl, refl)
 
 pub summed : (sum_by (λ n. n) [] ≡ 0) × (sum_by (λ n. n) (5000000000 ∷ 70000 ∷ 3 ∷ []) ≡ 5000070003)
 summed = (refl, refl)
-
-pub first_found : (first {A = ℕ} [] ≡ none) × (first {A = ℕ} (7 ∷ 8 ∷ []) ≡ found 7)
-first_found = (refl, refl)

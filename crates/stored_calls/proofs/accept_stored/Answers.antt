@@ -3,10 +3,10 @@ use Rattle.std.proofs.Common.{ap, rules, ◌∙◌}
 use Rattle.stored_calls.proofs.Ends.{counts_kept, call_ends}
 use Rattle.stored_calls.proofs.accept_stored.Goals as goal
 
-pub write_accepted-requires : goal.write_accepted-requires
-write_accepted-requires c = counts_kept c.args.file.now c.accept_sound-answer.ensures (search rules) ((λ k. (c.type_inv.book k).fits), (λ k. (c.type_inv.request k).fits))
-
 pub returns : goal.returns
 returns c =
     let end = call_ends c.args.file.now c.accept_sound-answer.ensures (search rules) ((λ k. (c.type_inv.book k).fits), (λ k. (c.type_inv.request k).fits)) c.args.out.now in
     record { result_value = c.write_accepted.ensures.result_value ∙ ap (λ e. e.answer) end; out_after = c.write_accepted.ensures.out_after ∙ ap (λ e. e.output) end }
+
+pub write_accepted-requires : goal.write_accepted-requires
+write_accepted-requires c = counts_kept c.args.file.now c.accept_sound-answer.ensures (search rules) ((λ k. (c.type_inv.book k).fits), (λ k. (c.type_inv.request k).fits))
