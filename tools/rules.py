@@ -2,8 +2,9 @@
 
 A reference of RULES is `path: name, name`, where a path starts in crates/ or is rust/..; a cell is a dash or references with commas between them, and the
 edits have a column of their own. Of PROMISES are checked: `name` in `path`, with names before it; paths that start with crates/; `crate::module::function`;
-and any other name with a dash or an underscore: a theorem's, a function's, a crate's or an edit's, in any file. Every must-fail edit stands in one of the two pages, and so does every public theorem that nothing
-else uses, since it is there for the reader alone. A heading that a comment or a page cites as document 01's (`Document 01, 'Accept'`, document 01's
+and any other name with a dash or an underscore: a theorem's, a function's, a crate's or an edit's, in any file. Every must-fail edit stands in one of the two pages
+with its crate, and so does every public theorem that nothing else uses, since it is there for the reader alone. A theorem that PROMISES names with its file is held by a contract: a function
+without code has it in `using(..)` or in its Answers. PROMISES lists every public function with a `requires`, and no other. A heading that a comment or a page cites as document 01's (`Document 01, 'Accept'`, document 01's
 'The slip') is one of RULES, and words that are quoted from document 01 come with theirs. Prints what is missing and ends with 1.
 
 With --gaps it prints the rules that have no theorem or row, and those that have no edit.
@@ -22,6 +23,14 @@ NAMED_IN = re.compile(r"((?:`[^`]+`(?: \([^()]*\))?(?:, and |, | and )?)+) in `(
 MODIFIERS = ("abbrev", "unfoldable", "pub")
 CITED = re.compile(r"[Dd]ocument 01(?:,|'s(?: \w+)?) ('[^']+'(?:(?:,| and) '[^']+')*)")
 QUOTED = re.compile(r'[Dd]ocument 01: "')
+SECTION = "## Functions with a `requires`"
+# a function without parameters and code, with what its proof is to use
+LAW = re.compile(r"^(?:#\[tactic\(auto, using\(([^()]*)\)\)\]\n)?pub fn (\w+)\(\)\n(?:    ensures .*\n)+\{\}$", re.MULTILINE)
+THEOREMS = re.compile(r"use Rattle\.(\w+)\.((?:specs|proofs)\.Theorems\.\w+)\.\{(.*)\}")
+# crates with theorems in PROMISES that no contract holds yet
+NOT_YET_HELD = set(
+    "ledger calls history party_table acceptance entry_calls calls_on_records stored stored_calls quoting_unit".split()
+)
 CITING = (".antt", ".rt", ".edit", ".rs", ".h", ".md")
 
 
@@ -86,7 +95,7 @@ def check_rules(failures, cited):
     for at, _, cells in found:
         for column, references in zip(COLUMNS[1:], cells):
             for path, name in references:
-                cited.add(name)
+                cited.add((path.split("/")[0], name) if path.endswith("/must-fail") else name)
                 if path.endswith("/must-fail") != (column == "Edit"):
                     failures.append(f"docs/RULES.md:{at}: {path} is not for the column {column}")
                 elif not located(path).exists():
@@ -113,6 +122,8 @@ def check_promises(failures, cited, everywhere):
     for names, path in NAMED_IN.findall(text):
         for name in re.findall(rf"`({WORD})`", names):
             checked += 1
+            if path.endswith("/must-fail"):
+                cited.add((path.split("/")[1], name))
             if (root / path).exists() and not defines(root / path, name):
                 failures.append(f"docs/PROMISES.md: {path} has no {name}")
     for span in re.findall(r"`([^`]+)`", text):
@@ -124,6 +135,65 @@ def check_promises(failures, cited, everywhere):
         elif re.fullmatch(r"[A-Za-z][a-z0-9]*(?:[-_][\w\']+)+", span) and span not in everywhere:
             failures.append(f"docs/PROMISES.md: no file has {span}")
     return checked
+
+
+def held_theorems():
+    """Each theorem that is the contract of a function without code, as its file and name."""
+    held = set()
+    for source in sorted((root / "crates").glob("*/src/*.rt")):
+        crate = source.parts[-3]
+        for using, function in LAW.findall(source.read_text()):
+            for *path, name in (lemma.strip().split("::") for lemma in using.split(",") if lemma.strip()):
+                held.add((f"crates/{'/'.join([crate if path[0] == 'crate' else path[0], *path[1:]])}.antt", name))
+            answers = source.parent.parent / "proofs" / function / "Answers.antt"
+            for owner, module, names in THEOREMS.findall(answers.read_text()) if answers.is_file() else []:
+                held |= {(f"crates/{owner}/{module.replace('.', '/')}.antt", name) for name in names.split(", ")}
+    return held
+
+
+def check_held(failures):
+    """Holds each theorem that PROMISES names with its file against the contracts of functions without code; how many it names."""
+    text = re.sub(r"\s+", " ", (root / "docs/PROMISES.md").read_text())
+    held, named, lacking = held_theorems(), set(), set()
+    for names, path in NAMED_IN.findall(text):
+        if "/Theorems/" in path and (root / path).is_file():
+            theorems = {name for name, theorem in definitions((root / path).read_text()) if theorem}
+            named |= {(path, name) for name in re.findall(rf"`({WORD})`", names) if name in theorems}
+    for path, name in sorted(named - held):
+        crate = path.split("/")[1]
+        lacking.add(crate)
+        if crate not in NOT_YET_HELD:
+            failures.append(f"docs/PROMISES.md: no contract holds {name} of {path}")
+    failures += [f"tools/rules.py: contracts hold every theorem of {crate} by now" for crate in sorted(NOT_YET_HELD - lacking)]
+    return len(named)
+
+
+def requiring(source):
+    """The public functions of an .rt file that have a `requires`, those of a public trait among them."""
+    lines, trait = source.read_text().splitlines(), False
+    for at, line in enumerate(lines):
+        trait = line.startswith("pub trait ") or (trait and not line.startswith("}"))
+        found = re.match(r"( *)(pub )?(?:const )?fn (\w+)", line)
+        if found and (found[2] or trait):
+            end = next(to for to in range(at, len(lines)) if lines[to] in (found[1] + "{", found[1] + "{}") or lines[to].endswith((" {", " {}", ";")))
+            if any(clause.lstrip().startswith("requires ") for clause in lines[at:end]):
+                yield found[3]
+
+
+def check_requires(failures):
+    """Holds PROMISES' list of functions with a `requires` to the code."""
+    section = (root / "docs/PROMISES.md").read_text().split(SECTION)[1]
+    listed = set()
+    for cell in re.findall(r"(?m)^\| (`.*?) \| ", section):
+        placed = re.match(r"(.*) in `(crates/\S+)`", cell)
+        crate = None
+        for span in re.findall(r"`([^`]+)`", placed[1] if placed else cell):
+            parts = span.split("::")
+            crate = placed[2].split("/")[1] if placed else parts[0] if parts[1:] else crate
+            listed.add((crate, parts[-1]))
+    there = {(source.parts[-3], name) for source in (root / "crates").glob("*/src/*.rt") for name in requiring(source)}
+    failures += [f"docs/PROMISES.md doesn't list {name} of {crate}, which has a `requires`" for crate, name in sorted(there - listed)]
+    failures += [f"docs/PROMISES.md lists {name} of {crate}, which has no `requires`" for crate, name in sorted(listed - there)]
 
 
 def sources():
@@ -182,9 +252,11 @@ def main():
     everywhere |= {path.name for path in (root / "crates").iterdir()} | {edit.stem for edit in (root / "crates").glob("*/must-fail/*.edit")}
     found = check_rules(failures, cited)
     promised = check_promises(failures, cited, everywhere)
+    theorems = check_held(failures)
+    check_requires(failures)
     headings = check_headings(failures)
     edits = sorted((root / "crates").glob("*/must-fail/*.edit"))
-    failures += [f"{edit.relative_to(root)}: on neither page" for edit in edits if edit.stem not in cited]
+    failures += [f"{edit.relative_to(root)}: on neither page" for edit in edits if (edit.parts[-3], edit.stem) not in cited]
     failures += [f"{file}: {name} is used nowhere and on neither page" for file, name in theorems_for_readers(texts) if name not in cited]
     if "--gaps" in sys.argv[1:]:
         print_gaps(found)
@@ -192,7 +264,7 @@ def main():
         print(failure)
     if failures or not found:
         sys.exit(1)
-    print(f"docs/RULES.md: {len(found)} rules; docs/PROMISES.md: {promised} names with their files; {len(edits)} edits; {headings} headings of document 01 cited")
+    print(f"docs/RULES.md: {len(found)} rules; docs/PROMISES.md: {promised} names with their files, {theorems} theorems of them; {len(edits)} edits; {headings} headings of document 01 cited")
 
 
 main()

@@ -1,4 +1,3 @@
 pub mod ZoneFields
 pub mod Zones
 pub mod ZoneLimits
-pub mod OlderBooks

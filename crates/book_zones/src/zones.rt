@@ -8,7 +8,8 @@ ghost use Rattle.book_zones.specs.BookRows.{book_rows};
 ghost use Rattle.book_zones.specs.Zones.{zone_numbers, zone_rates, rates_from, judge_zones};
 ghost use Rattle.book_zones.specs.ZoneScans.{zone_layout, judge_rows, judge_rise, lower};
 ghost use Rattle.field_walk.specs.Walk.{walk};
-ghost use Rattle.field_walk.specs.Walked.{FieldsWalk, walked};
+ghost use Rattle.field_walk.specs.Walked.{walked};
+ghost use Rattle.field_walk.specs.FieldsWalk.{FieldsWalk};
 
 use field_values::judged::Judged;
 use field_values::limits::{HIGHEST_RATE, MOST_ZONES, Rates, TIERS};

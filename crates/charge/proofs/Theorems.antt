@@ -2,4 +2,3 @@ pub mod PriceRefusals
 pub mod PriceEnding
 pub mod Price
 pub mod Bill
-pub mod ZoneForms

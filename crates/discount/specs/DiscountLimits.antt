@@ -1,14 +1,10 @@
--- How high a discount factor is, and the last year that has one.
+-- How high a discount factor is, and a list of the factors of the years.
 use Rattle.std.specs.Prelude.{ℕ, ◌≤◌, ◌≡◌, List, get_or}
 use Rattle.discount.specs.Discount.{discount}
 
 -- F(0); every later factor is at most the one before
 abbrev pub highest_discount : ℕ
 highest_discount = 100000000
-
--- "years 0 to 30"
-abbrev pub last_year : ℕ
-last_year = 30
 
 -- a list with the factors of the years 0 to life, each at its year's place
 pub record FactorsUntil (b life : ℕ) (factors : List ℕ) : Type 0 where

@@ -1,3 +1,4 @@
 pub mod DiscountLimits
+pub mod DiscountYears
 pub mod Discount
 pub mod Cases

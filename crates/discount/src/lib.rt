@@ -2,7 +2,8 @@
 #![tactic(auto)]
 
 ghost use Rattle.std.specs.Prelude.{◌≡◌, suc, ◌≤◌};
-ghost use Rattle.discount.specs.DiscountLimits.{highest_discount, last_year, FactorsUntil};
+ghost use Rattle.discount.specs.DiscountLimits.{highest_discount, FactorsUntil};
+ghost use Rattle.discount.specs.DiscountYears.{last_year};
 ghost use Rattle.discount.specs.Discount.{discount};
 
 // The last year that has a discount factor: that of the longest life.

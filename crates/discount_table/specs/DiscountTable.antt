@@ -1,6 +1,6 @@
 -- Document 02, E7: the rule of F over the whole table of discount factors, as a test that is computed.
 use Rattle.std.specs.Prelude.{ℕ, ◌+◌, ◌*◌, ◌/◌, Bool, true, false, ◌&&◌, List, [], ◌∷◌, eqb, length}
-use Rattle.discount.specs.DiscountLimits.{last_year}
+use Rattle.discount.specs.DiscountYears.{last_year}
 
 -- "rates from 3.00% to 6.00% in steps of 0.25%", the first in the first row
 abbrev pub lowest_table_rate : ℕ

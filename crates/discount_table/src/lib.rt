@@ -5,7 +5,8 @@
 mod table;
 
 ghost use Rattle.std.specs.Prelude.{◌≡◌, true, ◌≤◌, length};
-ghost use Rattle.discount.specs.DiscountLimits.{last_year, FactorsUntil};
+ghost use Rattle.discount.specs.DiscountLimits.{FactorsUntil};
+ghost use Rattle.discount.specs.DiscountYears.{last_year};
 ghost use Rattle.discount_table.specs.DiscountTable.{lowest_table_rate, table_follows};
 
 use discount::DiscountFactors;

@@ -1,4 +1,5 @@
 pub mod Walk
 pub mod WalkSteps
 pub mod Walked
+pub mod FieldsWalk
 pub mod Cases

@@ -1,4 +1,3 @@
-pub mod Amounts
 pub mod Page
 pub mod Pages
 pub mod PageEnding

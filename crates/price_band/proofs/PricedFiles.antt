@@ -1,7 +1,7 @@
 -- Book and request of a request that is priced: their fields walk, the values read are within their limits, and with the bill's costs they make the band.
 use Rattle.std.proofs.Common.{ℕ, List, ◌≡◌, Ok, subst, ap₂, ◌∙◌}
 use Rattle.numbers.specs.BigEndian.{Bytes}
-use Rattle.field_walk.specs.Walked.{FieldsWalk}
+use Rattle.field_walk.specs.FieldsWalk.{FieldsWalk}
 use Rattle.tagged.specs.File.{fields_part}
 use Rattle.book_zones.specs.BookRows.{book_rows}
 use Rattle.rate_book.specs.Book.{book_values}

@@ -1,6 +1,6 @@
 -- The amounts of a band fit 64 bits with a sign.
 use Rattle.std.specs.Prelude.{◌<◌}
-use Rattle.reconciliation.specs.CostLimits.{signed_below}
+use Rattle.reconciliation.specs.SignedLimit.{signed_below}
 use Rattle.price_band.specs.declared.Band.{Band}
 
 pub record BandFits (band : Band) : Type 0 where

@@ -1,9 +1,11 @@
 // Printing the page of two files, for the programs.
 #![tactic(auto)]
 
-ghost use Rattle.std.specs.Prelude.{◌≡◌};
+ghost use Rattle.std.specs.Prelude.{◌≡◌, Err, Ok};
 ghost use Rattle.charge.specs.Price.{price_of};
-ghost use Rattle.page_text.specs.Page.{page_written, page_output};
+ghost use Rattle.slip_text.specs.Slip.{slip_written, slip_buffer};
+ghost use Rattle.page_text.specs.Page.{page_size, page_written, page_output};
+ghost use Rattle.print_page.specs.PageOrLine.{page_or_line};
 ghost use Rattle.print_slip.specs.Counted.{counted};
 
 use page_text::{PAGE, PageWritten};
@@ -21,11 +23,17 @@ fn files_page(book: &[u8], request: &[u8], out: &mut [u8]) -> PageWritten
 }
 
 // The page, or the line `REFUSED n file place` as a slip has it, at the start of a lent buffer.
-fn page_or_refusal(book: &[u8], request: &[u8], text: &mut [u8]) -> SlipWritten {
-    let written = files_page(book, request, text);
-    written
-        .map(|()| PAGE)
-        .or_else(|refusal| slip_text::slip_text(Err(refusal), text))
+#[tactic(auto, unfolding(page_text::specs::Page::page_written, page_text::specs::Page::page_output))]
+fn page_or_refusal(book: &[u8], request: &[u8], text: &mut [u8]) -> SlipWritten
+    ensures value { let pricing = price_of (counted book.now) (counted request.now) in
+        result ≡ page_or_line (page_written pricing text.old) (Ok page_size) (λ r. slip_written (Err r) text.old) }
+    ensures text_after { let pricing = price_of (counted book.now) (counted request.now) in
+        text.new ≡ page_or_line (page_written pricing text.old) (page_output pricing text.old) (λ r. slip_buffer (Err r) text.old) }
+{
+    match files_page(book, request, text) {
+        Ok(()) => Ok(PAGE),
+        Err(refusal) => slip_text::slip_text(Err(refusal), text),
+    }
 }
 
 // Prints the page of a rate book and a request, each by its file's name, or the line of the refusal.

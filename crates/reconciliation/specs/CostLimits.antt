@@ -1,12 +1,8 @@
--- What an accepted book and request give of the costs, and what fits 64 bits.
+-- What an accepted book and request give of the costs, and numerators whose percentage fits 64 bits.
 use Rattle.std.specs.Prelude.{ℕ, ◌≤◌}
 use Rattle.field_values.specs.Limits.{highest_amount}
 use Rattle.capacity.specs.CapacityLimits.{highest_capacity_cost}
 use Rattle.reconciliation.specs.declared.Costs.{Costs}
-
--- 2⁶³: an amount below it fits 64 bits with a sign
-abbrev pub signed_below : ℕ
-signed_below = 9223372036854775808
 
 -- 200 times an amount below it, and another one, fit 64 bits
 abbrev pub percent_below : ℕ

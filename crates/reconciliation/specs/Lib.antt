@@ -1,6 +1,7 @@
 pub mod ExactPercent
 pub mod FigureLimits
 pub mod CostLimits
+pub mod SignedLimit
 pub mod Figures
 pub mod Percent
 pub mod Reconciliation

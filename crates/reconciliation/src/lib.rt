@@ -6,7 +6,8 @@ ghost use Rattle.reconciliation.specs.Percent.{nearest, percent_of};
 ghost use Rattle.reconciliation.specs.Reconciliation.{credit_of, reconciliation_of};
 ghost use Rattle.field_values.specs.Limits.{highest_share};
 ghost use Rattle.revenue.specs.RevenueLimits.{highest_incremental_revenue};
-ghost use Rattle.reconciliation.specs.CostLimits.{signed_below, percent_below, CostsWithin};
+ghost use Rattle.reconciliation.specs.CostLimits.{percent_below, CostsWithin};
+ghost use Rattle.reconciliation.specs.SignedLimit.{signed_below};
 
 // A whole number of percent: the nearest; and beside it the one rounded down, with what that leaves of 100 times the numerator.
 #[derive(Clone, Copy)]

@@ -2,4 +2,3 @@ pub mod Request
 pub mod RequestSizes
 pub mod WithRevenues
 pub mod RequestLimits
-pub mod OlderRequests

@@ -1,6 +1,6 @@
 // The values of a request, or its refusal.
 ghost use Rattle.std.specs.Prelude.{◌≡◌};
-ghost use Rattle.field_walk.specs.Walked.{FieldsWalk};
+ghost use Rattle.field_walk.specs.FieldsWalk.{FieldsWalk};
 ghost use Rattle.request.specs.RequestRows.{request_rows};
 ghost use Rattle.field_values.specs.Judged.{judge_field};
 ghost use Rattle.request.specs.Fields.{amount_limits};

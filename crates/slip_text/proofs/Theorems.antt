@@ -1,5 +1,5 @@
 pub mod AlteredFiles
 pub mod SlipEnding
 pub mod Slip
-pub mod ExactReading
+pub mod ExactLines
 pub mod SlipSize

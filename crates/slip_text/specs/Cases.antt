@@ -1,3 +1,3 @@
-pub mod ExactReading
+pub mod ExactLines
 pub mod SlipEnding
 pub mod Slip

@@ -1,6 +1,7 @@
 pub mod Slip
 pub mod SlipRoom
+pub mod FigureRoom
 pub mod SlipReading
-pub mod ExactReading
+pub mod ExactLines
 pub mod SlipEnding
 pub mod Cases

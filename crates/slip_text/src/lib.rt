@@ -4,7 +4,8 @@
 ghost use Rattle.std.specs.Prelude.{◌≡◌, ◌+◌, ◌<◌, ◌≤◌, nat_abs, length};
 ghost use mathlib.Core.List.{[], ◌∷◌, ◌++◌, flatten};
 ghost use Rattle.slip_text.specs.Slip.{decimal, signed_decimal, line, reconciliation_lines, refusal_text, slip_of, slip_written, slip_buffer};
-ghost use Rattle.slip_text.specs.SlipRoom.{room, figure_text, figure_room};
+ghost use Rattle.slip_text.specs.SlipRoom.{room};
+ghost use Rattle.slip_text.specs.FigureRoom.{figure_text, figure_room};
 
 use charge::Pricing;
 use reconciliation::{Percent, Reconciliation};

@@ -8,7 +8,7 @@ use Rattle.std.specs.Prelude.{true, false}
 use Rattle.std.specs.Borrow.{Bor}
 use mathlib.Core.Bool.{true≢false}
 use Rattle.field_walk.specs.Walk.{FieldAt, value_of}
-use Rattle.field_walk.specs.Walked.{FieldsWalk}
+use Rattle.field_walk.specs.FieldsWalk.{FieldsWalk}
 use Rattle.tagged.specs.Find.{fields_of, fields_with, whole_field, part_of}
 use Rattle.tagged.specs.Parts.{value_place, rest_place, NextField}
 use Rattle.tagged.specs.declared.find.Field.{Field}

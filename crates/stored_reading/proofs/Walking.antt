@@ -2,7 +2,8 @@
 use Rattle.std.specs.Prelude.{ℕ, List, Ok, length, ◌≡◌, ◌≤◌}
 use Rattle.std.proofs.Math.Path.{refl}
 use Rattle.field_walk.specs.Walk.{Walk, fields, stops, walk}
-use Rattle.field_walk.specs.Walked.{FieldsWalk, walked}
+use Rattle.field_walk.specs.Walked.{walked}
+use Rattle.field_walk.specs.FieldsWalk.{FieldsWalk}
 use Rattle.tagged.specs.Find.{field_value, fields_of}
 use Rattle.ledger.specs.Limits.{most_entries}
 use Rattle.stored.specs.StoredRows.{stored_rows}

@@ -4,7 +4,8 @@
 ghost use Rattle.std.specs.Prelude.{◌≡◌, ◌≤◌, ℕ, List, length, Ok};
 ghost use mathlib.Core.List.{Memᴰ};
 ghost use Rattle.field_walk.specs.Walk.{FieldAt, walk};
-ghost use Rattle.field_walk.specs.Walked.{FieldsWalk, walked};
+ghost use Rattle.field_walk.specs.Walked.{walked};
+ghost use Rattle.field_walk.specs.FieldsWalk.{FieldsWalk};
 ghost use Rattle.tagged.specs.Find.{fields_of};
 ghost use Rattle.ledger.specs.Lists.{at_start};
 ghost use Rattle.ledger.specs.Limits.{most_schemes, most_entries};

@@ -1,7 +1,7 @@
--- Fields of a file that lie in it, one after the other, and the parts that a search finds.
-use Rattle.std.specs.Prelude.{ℕ, ◌+◌, ◌-◌, ◌%◌, ◌≤◌, ◌≡◌, List, true, length, get_or, drop}
-use Rattle.field_walk.specs.Walk.{tag_of, lowest_of, highest_of, step_of, permitted_by, length_at, FieldAt, value_of}
-use Rattle.tagged.specs.Find.{place_at, whole_field, first_place, part_of, field_value, field_start}
+-- Fields of a file that lie in it, one after the other, and what a reader sees of them.
+use Rattle.std.specs.Prelude.{ℕ, ◌+◌, ◌-◌, ◌≤◌, ◌≡◌, List, true, length, get_or, drop}
+use Rattle.field_walk.specs.Walk.{tag_of, permitted_by, length_at, FieldAt, value_of}
+use Rattle.tagged.specs.Find.{place_at, whole_field, first_place, part_of}
 use Rattle.tagged.specs.Parts.{value_place, rest_place}
 use Rattle.tagged.specs.WalkRelations.{StandsAt, Fields}
 
@@ -29,10 +29,3 @@ pub record Found (row : List ℕ) (s : List ℕ) : Type 0 where
   pub found : first_place (tag_of row) s ≡ place_at start len
   pub permitted : permitted_by row len ≡ true
   pub within : start + len ≤ length s
-
--- The value that the search finds for such a row has a length that the row permits, and lies inside the file.
-pub record Sized (row s : List ℕ) : Type 0 where
-  pub lowest : lowest_of row ≤ length (field_value (tag_of row) s)
-  pub highest : length (field_value (tag_of row) s) ≤ highest_of row
-  pub step : (length (field_value (tag_of row) s) - lowest_of row) % step_of row ≡ 0
-  pub within : field_start (tag_of row) s + length (field_value (tag_of row) s) ≤ length s

@@ -1,6 +1,6 @@
 -- What a walk by any rows says of its fields: they stand by the rows (`Stand`), and they are the file, one after the other (`Fields`).
 use Rattle.std.specs.Prelude.{ℕ, ◌+◌, ◌<◌, ◌≤◌, ◌≡◌, true, length, get_or}
-use mathlib.Core.List.{List, [], ◌∷◌, ◌++◌, Memᴰ}
+use mathlib.Core.List.{List, [], ◌∷◌}
 use Rattle.numbers.specs.BigEndian.{number_at}
 use Rattle.field_walk.specs.Walk.{tag_of, least_of, most_of, permitted_by, FieldAt}
 
@@ -22,26 +22,3 @@ pub record StandsAt (s : List ℕ) (at : ℕ) (f : FieldAt) : Type 0 where
 pub data Fields (s : List ℕ) : ℕ → List FieldAt → Type 0 where
   none : {at : ℕ} → length s ≤ at → Fields s at []
   first : {at : ℕ} {f : FieldAt} {fs : List FieldAt} → StandsAt s at f → Fields s (at + (f.len + 3)) fs → Fields s at (f ∷ fs)
-
--- a field that counts to a row: its tag, and a length that the row permits
-pub record OfRow (row : List ℕ) (f : FieldAt) : Type 0 where
-  pub tag : f.tag ≡ tag_of row
-  pub permitted : permitted_by row f.len ≡ true
-
--- "Every field listed occurs once": the one field of the row, and those after it
-pub record Once (row : List ℕ) (rows : List (List ℕ)) (fs : List FieldAt) : Type 0 where
-  pub f : FieldAt
-  pub others : List FieldAt
-  pub are : fs ≡ f ∷ others
-  pub of_row : OfRow row f
-  pub rest : Stand rows 0 others
-
--- "except where a count is given": the fields of the row, where n of it have come before them, and those after it
-pub record Repeated (row : List ℕ) (rows : List (List ℕ)) (n : ℕ) (fs : List FieldAt) : Type 0 where
-  pub mine : List FieldAt
-  pub others : List FieldAt
-  pub are : fs ≡ mine ++ others
-  pub least : least_of row ≤ n + length mine
-  pub most : n + length mine ≤ most_of row
-  pub of_row : (f : FieldAt) → Memᴰ f mine → OfRow row f
-  pub rest : Stand rows 0 others

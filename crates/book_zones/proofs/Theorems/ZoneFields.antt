@@ -6,7 +6,8 @@ use mathlib.Core.List.{List, [], ◌∷◌, ◌++◌, map, Memᴰ}
 use Rattle.std.proofs.lemmas.Bool.{false≢true, eqb-false}
 use Rattle.std.proofs.lemmas.List.{length-map}
 use Rattle.field_walk.specs.Walk.{tag_of, least_of, most_of, permitted_by, first_form, second_form, rows_in, walk_by, FieldAt, fields, Walk, stops, walk}
-use Rattle.field_walk.specs.Walked.{FieldsWalk, walked}
+use Rattle.field_walk.specs.Walked.{walked}
+use Rattle.field_walk.specs.FieldsWalk.{FieldsWalk}
 use Rattle.tagged.specs.Find.{place_at, fields_of, fields_with, first_with, first_place, start_of}
 use Rattle.tagged.specs.declared.find.Place.{Place}
 use Rattle.tagged.proofs.Theorems.FieldsWith.{with_past, with_all}

@@ -3,7 +3,8 @@ use Rattle.std.specs.Prelude.{ℕ, zero, suc, ◌+◌, ◌*◌, ◌/◌, ◌<◌
 use Rattle.std.proofs.lemmas.Bool.{false≢true}
 use Rattle.std.proofs.Common.{not-suc-le-zero, le_of_suc-le-suc, arith, eqb-true}
 use Rattle.discount.specs.Discount.{discount}
-use Rattle.discount.specs.DiscountLimits.{FactorsUntil, last_year}
+use Rattle.discount.specs.DiscountLimits.{FactorsUntil}
+use Rattle.discount.specs.DiscountYears.{last_year}
 use Rattle.discount_table.specs.DiscountTable.{lowest_table_rate, table_rate_step, follows_from, row_follows, table_follows}
 
 both : (s t : Bool) → (s && t) ≡ true → (s ≡ true) × (t ≡ true)

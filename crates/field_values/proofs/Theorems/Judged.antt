@@ -1,6 +1,6 @@
 -- What holds of values that pass.
 use Rattle.std.specs.Prelude.{ℕ, zero, suc, ◌+◌, ◌*◌, ◌<◌, ◌≤◌, ◌≡◌, refl, List, [], ◌∷◌, Bool, true, false, cond, length, get_or, drop, replicate, ltb, eqb, Err, Ok}
-use Rattle.std.proofs.Common.{zero-le, ap₂, ◌∙◌, add-one, arith, length-drop, drop-drop, ltb-false, leb-true, le-ltb, eqb-true, eq-eqb}
+use Rattle.std.proofs.Common.{zero-le, ap₂, add-one, arith, length-drop, drop-drop, ltb-false, leb-true, le-ltb, eqb-true, eq-eqb}
 use Rattle.std.proofs.lemmas.Bool.{false≢true}
 use Rattle.std.proofs.lemmas.List.{get_or-replicate}
 use Rattle.numbers.specs.BigEndian.{number, number_at}
@@ -18,10 +18,6 @@ judge_passes false at e = absurd (fails_not_passes e)
 pub in_order_end : (judged : Judged) → in_order judged (Ok tt) ≡ judged
 in_order_end (Ok _) = refl
 in_order_end (Err at) = refl
-
-pub in_order_same : {judged first second first' second' : Judged} → judged ≡ in_order first second → first ≡ first' → second ≡ second' →
-    judged ≡ in_order first' second'
-in_order_same e f g = e ∙ ap₂ in_order f g
 
 pub in_order_passes : (first second : Judged) → in_order first second ≡ Ok tt → (first ≡ Ok tt) × (second ≡ Ok tt)
 in_order_passes (Ok _) second e = (refl, e)

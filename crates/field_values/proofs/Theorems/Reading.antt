@@ -1,6 +1,6 @@
--- How a reading is answered, and how far a field's value reaches.
-use Rattle.std.specs.Prelude.{ℕ, ◌≤◌, ◌≡◌, refl, List, T, leb, length, Err, Ok}
-use Rattle.std.proofs.Common.{ap, arith, lit≤}
+-- How a reading is answered.
+use Rattle.std.specs.Prelude.{ℕ, ◌≡◌, refl, List, Err, Ok}
+use Rattle.std.proofs.Common.{arith}
 use Rattle.tagged.specs.Refusals.{check_differs, value_not_listed}
 use Rattle.tagged.specs.File.{file_answer, answer_of, FileAnswer}
 use Rattle.tagged.proofs.Theorems.File.{RefusesTo, file_refusal_numbers}
@@ -24,7 +24,3 @@ module _ {Values : Type 0} (number : ℕ) where
       by (Ok _) (Ok _) h = tt
       by (Ok _) (Err at) h = (omega arith, omega arith, refl)
       by (Err r) judged h = (h.0, omega arith, h.2)
-
--- a part that is a field's value reaches as far as the value's length says
-pub reaches : {found value : List ℕ} {k n : ℕ} → found ≡ value → length value ≡ n → T (leb k n) → k ≤ length found
-reaches e long h = rw (ap length e, long) (lit≤ h)

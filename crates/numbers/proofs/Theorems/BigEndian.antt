@@ -1,7 +1,7 @@
 -- Laws of big-endian numbers, over the width: a number and its bytes, both ways round; two numbers
 -- side by side; and the same at a place of a list.
 use Rattle.std.specs.Prelude.{ℕ, zero, suc, ◌+◌, ◌*◌, ◌/◌, ◌%◌, ◌^◌, ◌<◌, ◌≤◌, ◌≡◌, refl, length, get_or, take, drop, set}
-use Rattle.std.proofs.Common.{sym, ap, ap₂, ◌∙◌, add_assoc, pow-suc, mod-lt, div-one, div-lt_iff_lt-mul, div-add-mod', one-add, add-one, arith, length-append, length-take, length-drop, take-append-drop, pow-add, length-take-le, take_at, drop_at, drop-drop, get_or-drop, take-add, drop-cons}
+use Rattle.std.proofs.Common.{sym, ap, ap₂, ◌∙◌, add_assoc, pow-suc, mod-lt, div-one, div-lt_iff_lt-mul, div-add-mod', one-add, add-one, arith, length-append, length-take, length-drop, pow-add, length-take-le, take_at, drop_at, drop-drop, get_or-drop, take-add, drop-cons}
 use mathlib.Core.List.{List, [], ◌∷◌, ◌++◌, append_assoc, foldl, foldl-append}
 use Rattle.std.proofs.Math.Nat.{pow-zero, one-le-pow}
 use Rattle.std.proofs.Math.Arith.{lt-one, digits_lt, digits_div, digits_mod}
@@ -77,18 +77,6 @@ bytes_of_number (b ∷ s) h =
     let below : number s < 256 ^ length s = number_below s (λ k. h (suc k)) in
     rw (number_cons, digits_div b below, digits_mod b below, bytes_of_number s (λ k. h (suc k)))
 
--- the bytes of a number are those of its high part, and then those of its low part
-pub bytes_of_add : (m n v : ℕ) → v < 256 ^ (m + n) → bytes_of (m + n) v ≡ bytes_of m (v / 256 ^ n) ++ bytes_of n (v % 256 ^ n)
-bytes_of_add m n v h =
-    let high : v / 256 ^ n < 256 ^ m = div_pow_below m n v h in
-    let low : v % 256 ^ n < 256 ^ n = mod-lt v (pow256_pos n) in
-    let x = bytes_of m (v / 256 ^ n) in
-    let y = bytes_of n (v % 256 ^ n) in
-    let long : length (x ++ y) ≡ m + n = simp (length-append, length_bytes_of) in
-    let spells : number (x ++ y) ≡ v = rw (number_append, length_bytes_of, number_of_bytes_of m _ high, number_of_bytes_of n _ low) (div-add-mod' v (256 ^ n)) in
-    let bytes : Bytes (x ++ y) = Bytes-append x y (bytes_of_bytes m _ high) (bytes_of_bytes n _ low) in
-    ap₂ bytes_of (sym long) (sym spells) ∙ bytes_of_number (x ++ y) bytes
-
 -- ---- at a place of a list
 length_take_drop : (s : List ℕ) (at width : ℕ) → at + width ≤ length s → length (take width (drop at s)) ≡ width
 length_take_drop s at width h = length-take-le width (drop at s) (simp length-drop (omega arith))
@@ -136,36 +124,10 @@ written_written out at x y h =
     let rest : drop (i + length y) w ≡ drop (i + length y) out = rw (← drop-drop (length y) i w, after, drop-drop) in
     rw (before, rest) (simp (append_assoc, length-append, add_assoc))
 
--- a number that was written at a place is the number there
-pub number_at_written : (out : List ℕ) (at width n : ℕ) → n < 256 ^ width → at + width ≤ length out
-    → number_at (written out at (bytes_of width n)) at width ≡ n
-unfolding written
-number_at_written out at width n below h =
-    let before : length (take at out) ≡ at = length-take-le at out (omega arith) in
-    rw (drop_at (take at out) _ at before, take_at (bytes_of width n) _ width (length_bytes_of width n)) (number_of_bytes_of width n below)
-
--- to write the number that is at a place changes nothing
-pub written_number_at : (out : List ℕ) (at width : ℕ) → Bytes out → at + width ≤ length out
-    → written out at (bytes_of width (number_at out at width)) ≡ out
-unfolding written
-written_number_at out at width bytes h =
-    let here = take width (drop at out) in
-    let long : length here ≡ width = length_take_drop out at width h in
-    let same : bytes_of width (number here) ≡ here = rw long at (bytes_of_number here (Bytes-take width (drop at out) (Bytes-drop at out bytes))) in
-    rw (same, long, ← drop-drop, take-append-drop, take-append-drop)
-
 -- to write a number as one byte is to store it
 pub written_one : (out : List ℕ) (at n : ℕ) → at < length out → written out at (bytes_of 1 n) ≡ set out at n
 unfolding written bytes_of
 written_one out at n h = rw (div-one, add-one, set_split out at n)
-
--- a number's high part written at a place, and its low part after that, is the number written there
-pub written_add : (out : List ℕ) (at m n v : ℕ) → v < 256 ^ (m + n) → at + (m + n) ≤ length out
-    → written (written out at (bytes_of m (v / 256 ^ n))) (at + m) (bytes_of n (v % 256 ^ n)) ≡ written out at (bytes_of (m + n) v)
-written_add out at m n v below h =
-    let x = bytes_of m (v / 256 ^ n) in
-    let y = bytes_of n (v % 256 ^ n) in
-    rw (bytes_of_add m n v below) (rw length_bytes_of at (written_written out at x y (simp length_bytes_of (omega arith))))
 
 pub number_at_below : (s : List ℕ) (at width : ℕ) → Bytes s → at + width ≤ length s → number_at s at width < 256 ^ width
 number_at_below s at width bytes h =

@@ -1,8 +1,7 @@
--- The page's lines: each has 64 bytes, the listed label and byte 0A at its end alone, and its amount is read back as the charge's.
+-- The page's lines: each has 64 bytes, the listed label and byte 0A at its end alone, and its amount can be read in one way only, as the charge's.
 use Rattle.std.specs.Prelude.{ℕ, zero, suc, ◌+◌, ◌*◌, ◌-◌, ◌/◌, ◌%◌, ◌^◌, ◌<◌, ◌≤◌, ◌≡◌, refl, Bool, true, false, cond, ltb, eqb, ℤ, pos, nat_abs, length, get_or, take, drop, Err, Ok}
-use Rattle.std.proofs.Common.{ap, sym, ◌∙◌, arith, eq-eqb, le-ltb, ltb-true, ltb-false, length-append, length-drop, get_or-append-add, take_at, drop_at}
+use Rattle.std.proofs.Common.{ap, sym, ◌∙◌, subst, arith, eq-eqb, le-ltb, ltb-true, ltb-false, length-append, length-drop, get_or-append-add, take_at, drop_at}
 use mathlib.Core.List.{List, [], ◌∷◌, ◌++◌, flatten}
-use Rattle.std.proofs.Math.Option.{some}
 use Rattle.std.proofs.lemmas.List.{length-replicate, take-append-le, drop-append-le}
 use Rattle.std.proofs.Math.ListN.{get_or-append}
 use Rattle.std.proofs.Math.Seq.{drop-append-add}
@@ -14,12 +13,12 @@ use Rattle.charge.specs.Price.{price_of, Pricing}
 use Rattle.numbers.specs.BigEndian.{Bytes}
 use Rattle.charge.proofs.Theorems.Bill.{priced_within}
 use Rattle.charge.specs.declared.Bill.{Bill}
-use Rattle.page_text.specs.AmountGrammar.{amount_read}
+use Rattle.page_text.specs.AmountGrammar.{AmountColumns, OnlyAmount}
 use Rattle.page_text.specs.Page.{amount_text, label_text, right_aligned, line, page_lines, page_of, page_size, page_written, page_output, PageWritten}
 use Rattle.page_text.specs.PageShape.{Lines}
 use Rattle.page_text.specs.PageColumns.{names, amounts_of, line_of, label_columns, amount_columns, AmountsFit}
 use Rattle.page_text.proofs.Theorems.Page.{amount_short}
-use Rattle.page_text.proofs.Theorems.ReadBack.{columns_written, written_read, amount_no_end}
+use Rattle.page_text.proofs.Theorems.ReadBack.{columns_written, only_amount, amount_no_end}
 
 -- ---- lines of 64 bytes, one behind the other
 lines_first : (n : ℕ) (l : List ℕ) (ls : List (List ℕ)) → Lines (suc n) (l ∷ ls) → (length l ≡ 64) × Lines n ls
@@ -168,9 +167,10 @@ module _ (r : Reconciliation) where
       ∙ ap (take 31) (drop_at (label_text (get_or names i [])) (right_aligned (amount_text amount) ++ (10 ∷ [])) 32 (label_size (get_or names i []) (name_fits i h).0))
       ∙ take_at (right_aligned (amount_text amount)) (10 ∷ []) 31 (aligned_size amount)
 
-  -- "the amount can be read off the page in one way only, and it is that of the charge", for any amounts of 64 bits
-  pub amount_read_back : (i : ℕ) → i < 12 → nat_abs (get_or (amounts_of r) i (pos 0)) < 2 ^ 64 → amount_read (amount_columns (line_of i (page_of r))) ≡ some (get_or (amounts_of r) i (pos 0))
-  amount_read_back i h below = ap amount_read (amount_is i h) ∙ written_read (get_or (amounts_of r) i (pos 0)) below
+  amount_stands : (i : ℕ) → i < 12 → nat_abs (get_or (amounts_of r) i (pos 0)) < 2 ^ 64 → AmountColumns (amount_columns (line_of i (page_of r))) (get_or (amounts_of r) i (pos 0))
+  amount_stands i h below =
+      let amount = get_or (amounts_of r) i (pos 0) in
+      subst (λ columns. AmountColumns columns amount) (sym (amount_is i h)) (columns_written amount below)
 
   -- "byte 0A last on each"
   pub line_ends : (i : ℕ) → i < 12 → get_or (line_of i (page_of r)) 63 0 ≡ 10
@@ -249,14 +249,14 @@ line_in_output page rest i long h =
     rw (drop-append-le (64 * i) page rest start) (take-append-le 64 (drop (64 * i) page) rest whole)
 
 -- "For each line, the amount can be read off the page in one way only, and it is that of the charge."
-pub page_read_back : (book_file request_file out : List ℕ) (bill : Bill) → Bytes book_file → Bytes request_file → price_of book_file request_file ≡ Ok bill → page_size ≤ length out →
+pub page_one_way : (book_file request_file out : List ℕ) (bill : Bill) → Bytes book_file → Bytes request_file → price_of book_file request_file ≡ Ok bill → page_size ≤ length out →
     (i : ℕ) → i < 12 →
-    amount_read (amount_columns (line_of i (page_output (price_of book_file request_file) out))) ≡ some (get_or (amounts_of bill.reconciliation) i (pos 0))
+    OnlyAmount (amount_columns (line_of i (page_output (price_of book_file request_file) out))) (get_or (amounts_of bill.reconciliation) i (pos 0))
 unfolding page_output
-page_read_back book_file request_file out bill bytes bytes' priced enough i h =
+page_one_way book_file request_file out bill bytes bytes' priced enough i h =
     let r = bill.reconciliation in
     rw (priced, le-ltb (length out) page_size enough, line_in_output (page_of r) (drop page_size out) i (page_size_lem r) h)
-    (amount_read_back r i h (charge_fits book_file request_file bill bytes bytes' priced i h))
+    (only_amount (amount_stands r i h (charge_fits book_file request_file bill bytes bytes' priced i h)))
 
 -- a refused page leaves the output as it was
 pub refused_page_changes_nothing : (pricing : Pricing) (out : List ℕ) (refused : Refusal) → page_written pricing out ≡ Err refused → page_output pricing out ≡ out

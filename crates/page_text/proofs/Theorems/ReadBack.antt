@@ -1,10 +1,68 @@
 -- An amount is read off its columns in one way: what is written for it is in the grammar, and whatever is in the grammar has the value that the reader finds.
-use Rattle.std.specs.Prelude.{ℕ, zero, suc, ◌+◌, ◌*◌, ◌-◌, ◌/◌, ◌%◌, ◌^◌, ◌<◌, ◌≤◌, ◌≡◌, refl, List, [], ◌∷◌, ◌++◌, Bool, true, false, cond, ◌&&◌, ltb, ℤ, pos, negsuc, nat_abs, length, get_or, replicate}
-use Rattle.std.proofs.Common.{ap, ap₂, subst, ◌∙◌, pow-suc, arith, lt-ltb, le-leb, ne_eqb, ltb-true, ltb-false}
-use Rattle.std.proofs.Math.Option.{some}
-use Rattle.page_text.specs.AmountGrammar.{GroupsAfter, point, comma, UnsignedAmount, lone_zero, one_digit, two_digits, three_digits, AmountColumns, not_negative, negative, blank, is_digit, groups_read, first_group_read, unsigned_read, positive, below_zero, amount_read}
+use Rattle.std.specs.Prelude.{ℕ, zero, suc, ◌+◌, ◌*◌, ◌-◌, ◌/◌, ◌%◌, ◌^◌, ◌<◌, ◌≤◌, ◌≡◌, refl, List, [], ◌∷◌, ◌++◌, map, Bool, true, false, cond, ◌&&◌, ltb, leb, eqb, ℤ, pos, negsuc, nat_abs, length, get_or, drop, replicate}
+use Rattle.std.proofs.Common.{ap, ap₂, sym, subst, ◌∙◌, ⊎_elim, pow-suc, arith, lt-ltb, le-leb, ne_eqb, ltb-true, ltb-false}
+use Rattle.std.proofs.Math.Option.{Option, none, some}
+use mathlib.Core.List.Memᴰ
+use mathlib.Core.List.{Memᴰ}
+use Rattle.tagged.proofs.Theorems.Impossible.{impossible}
+use Rattle.page_text.specs.AmountGrammar.{GroupsAfter, point, comma, UnsignedAmount, lone_zero, one_digit, two_digits, three_digits, AmountColumns, not_negative, negative, blank, OnlyAmount}
 use Rattle.page_text.specs.Page.{digit, three_digits_of, first_group, dollars_text, cents_text, amount_text, right_aligned}
 use Rattle.page_text.proofs.Theorems.Page.{dollars_end, dollars_more}
+
+-- ---- the reader, which finds whatever is in the grammar
+abbrev pub is_digit : ℕ → Bool
+is_digit byte = leb 48 byte && ltb byte 58
+
+-- a point and two digits
+abbrev pub cents_read : ℕ → ℕ → ℕ → ℕ → Option ℕ
+cents_read dollars p a b =
+    cond (eqb p 46 && (is_digit a && is_digit b)) (some (dollars * 100 + ((a - 48) * 10 + (b - 48)))) none
+
+unfoldable pub groups_read : ℕ → List ℕ → Option ℕ
+groups_read dollars [] = none
+groups_read dollars (p ∷ []) = none
+groups_read dollars (p ∷ a ∷ []) = none
+groups_read dollars (p ∷ a ∷ b ∷ []) = cents_read dollars p a b
+groups_read dollars (p ∷ a ∷ b ∷ c ∷ rest) =
+    cond (eqb p 44 && (is_digit a && (is_digit b && is_digit c)))
+    (groups_read (dollars * 1000 + ((a - 48) * 100 + (b - 48) * 10 + (c - 48))) rest)
+    none
+
+-- what may follow a lone 0
+abbrev pub only_cents_read : List ℕ → Option ℕ
+only_cents_read [] = none
+only_cents_read (p ∷ []) = none
+only_cents_read (p ∷ a ∷ []) = none
+only_cents_read (p ∷ a ∷ b ∷ []) = cents_read 0 p a b
+only_cents_read (p ∷ a ∷ b ∷ c ∷ rest) = none
+
+-- the first group's other digits, at most this many, and all behind them
+unfoldable pub first_group_read : ℕ → ℕ → List ℕ → Option ℕ
+first_group_read zero dollars rest = groups_read dollars rest
+first_group_read (suc digits) dollars [] = none
+first_group_read (suc digits) dollars (byte ∷ rest) =
+    cond (is_digit byte) (first_group_read digits (dollars * 10 + (byte - 48)) rest) (groups_read dollars (byte ∷ rest))
+
+unfoldable pub unsigned_read : List ℕ → Option ℕ
+unsigned_read [] = none
+unsigned_read (byte ∷ rest) =
+    cond (eqb byte 48) (only_cents_read rest) (cond (is_digit byte) (first_group_read 2 (byte - 48) rest) none)
+
+abbrev pub positive : Option ℕ → Option ℤ
+positive none = none
+positive (some cents) = some (pos cents)
+
+-- a minus stands before no 0
+abbrev pub below_zero : Option ℕ → Option ℤ
+below_zero none = none
+below_zero (some zero) = none
+below_zero (some (suc cents)) = some (negsuc cents)
+
+unfoldable pub amount_read : List ℕ → Option ℤ
+amount_read [] = none
+amount_read (byte ∷ columns) =
+    cond (eqb byte 32) (amount_read columns)
+    (cond (eqb byte 45) (below_zero (unsigned_read columns)) (positive (unsigned_read (byte ∷ columns))))
 
 -- ---- what is written is in the grammar
 first_group_written : (dollars cents : ℕ) (behind : List ℕ) → 0 < dollars → dollars < 1000 → GroupsAfter dollars behind cents
@@ -139,13 +197,27 @@ grammar_read (not_negative cents columns unsigned) = unsigned_first unsigned ∙
 pub one_value : (a b : ℤ) (columns : List ℕ) → AmountColumns columns a → AmountColumns columns b → a ≡ b
 one_value a b columns p q = let r = grammar_read p in let s = grammar_read q in cc
 
--- two different amounts never have the same 31 bytes
-pub one_amount : (a b : ℤ) → nat_abs a < 2 ^ 64 → nat_abs b < 2 ^ 64 → right_aligned (amount_text a) ≡ right_aligned (amount_text b) → a ≡ b
-one_amount a b p q same =
-    one_value a b (right_aligned (amount_text b)) (subst (λ (columns : List ℕ). AmountColumns columns a) same (columns_written a p)) (columns_written b q)
+pub only_amount : {amount : ℤ} {columns : List ℕ} → AmountColumns columns amount → OnlyAmount columns amount
+only_amount stands = (stands, λ other p. one_value other _ _ p stands)
 
-pub written_read : (amount : ℤ) → nat_abs amount < 2 ^ 64 → amount_read (right_aligned (amount_text amount)) ≡ some amount
-written_read amount below = grammar_read (columns_written amount below)
+-- where the reader finds nothing no amount is in the grammar
+pub none_found : (texts : List (List ℕ)) → map amount_read texts ≡ replicate (length texts) none →
+    (columns : List ℕ) → Memᴰ columns texts → (amount : ℤ) → AmountColumns columns amount → ⊥
+none_found [] e columns among = absurd (Memᴰ.not-nil among)
+none_found (text ∷ texts) e columns among =
+    ⊎_elim
+    (λ same amount stands. nothing (sym (grammar_read stands) ∙ ap amount_read same ∙ ap first e))
+    (none_found texts (ap rest e) columns)
+    (Memᴰ.cases_cons among)
+  where
+    first : List (Option ℤ) → Option ℤ
+    first found = get_or found 0 none
+
+    rest : List (Option ℤ) → List (Option ℤ)
+    rest found = drop 1 found
+
+    nothing : {amount : ℤ} → some amount ≡ none → ⊥
+    nothing e = impossible cc
 
 -- ---- no byte of an amount ends a line
 groups_no_end : {dollars cents : ℕ} {rest : List ℕ} → GroupsAfter dollars rest cents → (k : ℕ) → get_or rest k 0 ≡ 10 → ⊥

@@ -5,7 +5,7 @@ use Rattle.std.proofs.Common.{sym, subst, arith, length-take, length-drop, ltb-f
 use Rattle.numbers.specs.BigEndian.{number}
 use Rattle.field_walk.specs.Walk.{Due, least_of, tag_of, permitted_by, length_at, field_of, front_of, all_had, due_from, FieldAt, Walk, fields, stops, and_then, on_front, walk_from, first_form, second_form, neither_form, row_in, rows_in, walk_by, by_forms, walk}
 use Rattle.field_walk.specs.WalkSteps.{EndsWithin}
-use Rattle.field_walk.specs.Walked.{FieldsWalk}
+use Rattle.field_walk.specs.FieldsWalk.{FieldsWalk}
 use Rattle.field_walk.specs.declared.walk.Front.{Front}
 use Rattle.field_walk.specs.declared.walk.Front.TheVariants.{End, Field, CannotStand}
 use Rattle.tagged.specs.Refusals.{file_does_not_walk, check_differs}

@@ -3,7 +3,7 @@ use Rattle.std.specs.Prelude.{ℕ, ◌+◌, ◌-◌, ◌<◌, ◌≤◌, ◌≡�
 use Rattle.std.proofs.Common.{sym, subst, arith, ltb-true, leb-true}
 use Rattle.numbers.specs.BigEndian.{Bytes, number_at}
 use Rattle.numbers.proofs.Theorems.BigEndian.{Bytes-take, number_at_below}
-use Rattle.field_walk.specs.Walked.{FieldsWalk}
+use Rattle.field_walk.specs.FieldsWalk.{FieldsWalk}
 use Rattle.tagged.specs.Find.{first_place, field_value, field_start}
 use Rattle.tagged.proofs.Theorems.FoundFields.{Bytes-part}
 use Rattle.tagged.specs.File.{fields_part, answer_of}

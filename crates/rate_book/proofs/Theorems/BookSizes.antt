@@ -2,8 +2,8 @@
 use Rattle.std.specs.Prelude.{ℕ, ◌<◌, ◌≤◌, List, [], length, get_or}
 use Rattle.std.proofs.Common.{arith}
 use Rattle.field_walk.specs.Walk.{least_of, neither_form, row_in}
-use Rattle.field_walk.specs.Walked.{FieldsWalk}
-use Rattle.tagged.specs.FoundFields.{Sized}
+use Rattle.field_walk.specs.FieldsWalk.{FieldsWalk}
+use Rattle.tagged.specs.Sized.{Sized}
 use Rattle.tagged.proofs.Theorems.FoundFields.{walk_sized}
 use Rattle.book_zones.specs.BookRows.{book_rows}
 use Rattle.book_zones.specs.Cases.BookRows.{book_rows_rise}

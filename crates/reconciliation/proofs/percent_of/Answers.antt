@@ -5,7 +5,8 @@ use Rattle.std.proofs.lemmas.Int.{ints}
 use Rattle.std.specs.Int.{int_div_euclid, int_rem_euclid}
 use mir.Syntax.{w64}
 use mir.ValLaws.{to_z-of_z}
-use Rattle.reconciliation.specs.CostLimits.{signed_below, percent_below}
+use Rattle.reconciliation.specs.CostLimits.{percent_below}
+use Rattle.reconciliation.specs.SignedLimit.{signed_below}
 use Rattle.reconciliation.specs.Percent.{rounded, quotient_of, remainder_of, nearest}
 use Rattle.reconciliation.proofs.percent_of.Goals as goal
 use Rattle.reconciliation.proofs.percent_of.Goals.{then-n-lt0, else-n-lt0}

@@ -2,7 +2,7 @@
 use Rattle.std.specs.Prelude.{ℕ, ◌-◌, ◌<◌, ◌≡◌, List, ◌⊎◌, length, get_or, set, Err, Ok}
 use Rattle.std.proofs.Common.{sym, ◌∙◌, inl, inr, ⊎_elim}
 use Rattle.numbers.specs.BigEndian.{Bytes}
-use Rattle.field_walk.specs.Walked.{FieldsWalk}
+use Rattle.field_walk.specs.FieldsWalk.{FieldsWalk}
 use Rattle.tagged.specs.Refusals.{file_does_not_walk, check_differs, value_not_listed}
 use Rattle.tagged.specs.File.{refusal, answer_of, file_answer, fields_part}
 use Rattle.tagged.proofs.Theorems.File.{stands_means, RefusesTo}

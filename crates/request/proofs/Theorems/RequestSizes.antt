@@ -2,9 +2,10 @@
 use Rattle.std.specs.Prelude.{ℕ, ◌<◌, ◌≤◌, List, [], ◌≡◌, refl, length, get_or, Ok}
 use Rattle.std.proofs.Common.{sym, subst, ⊎_elim, arith, lit<, lit≤}
 use Rattle.field_walk.specs.Walk.{least_of, first_form, second_form, neither_form, row_in, rows_in, walk_by, Walk, fields, stops, walk}
-use Rattle.field_walk.specs.Walked.{walked, FieldsWalk}
+use Rattle.field_walk.specs.Walked.{walked}
+use Rattle.field_walk.specs.FieldsWalk.{FieldsWalk}
 use Rattle.tagged.specs.Find.{first_place}
-use Rattle.tagged.specs.FoundFields.{Sized}
+use Rattle.tagged.specs.Sized.{Sized}
 use Rattle.tagged.proofs.Theorems.Walk.{walk_by_form}
 use Rattle.tagged.proofs.Theorems.FoundFields.{walk_by_finds, walk_by_finds_none, found_sized, walk_sized}
 use Rattle.request.specs.RequestRows.{request_rows}

@@ -1,9 +1,7 @@
 -- The slip's figures read back as themselves, it fits in the room of a text, and a refused one changes nothing.
-use Rattle.std.specs.Prelude.{ℕ, zero, suc, ◌+◌, ◌/◌, ◌%◌, ◌^◌, ◌≤◌, ◌<◌, ◌≡◌, refl, Bool, true, false, cond, ltb, ℤ, pos, negsuc, nat_abs, length, get_or, drop, Err, None, Ok, Some}
-use Rattle.std.proofs.Common.{ap, sym, ◌∙◌, ⊎_elim, pow-suc, arith, lt-ltb, le-ltb, ltb-true, ltb-false, ne_eqb, length-append}
-use mathlib.Core.List.Memᴰ
-use mathlib.Core.List.{List, [], ◌∷◌, ◌++◌, foldl-append, Memᴰ, flatten}
-use Rattle.std.proofs.Math.ListN.{get_or-append}
+use Rattle.std.specs.Prelude.{ℕ, zero, suc, ◌+◌, ◌/◌, ◌%◌, ◌^◌, ◌≤◌, ◌<◌, ◌≡◌, refl, Bool, true, false, cond, ltb, ℤ, pos, negsuc, length, drop, Err, None, Ok, Some}
+use Rattle.std.proofs.Common.{ap, sym, ◌∙◌, pow-suc, arith, lt-ltb, le-ltb, ltb-true, ltb-false, length-append}
+use mathlib.Core.List.{List, [], ◌∷◌, ◌++◌, flatten}
 use Rattle.tagged.proofs.Theorems.Impossible.{impossible}
 use Rattle.tagged.specs.File.{refusal}
 use Rattle.tagged.specs.Refusals.{output_too_short}
@@ -13,7 +11,7 @@ use Rattle.charge.specs.Price.{price_of, Pricing}
 use Rattle.charge.specs.Cases.MarkedFigures.{slip_book, slip_request, slip_priced}
 use Rattle.slip_text.specs.Slip.{decimal_from, decimal, signed_decimal, percent_text, exact_text, slip_of, slip_written, slip_buffer}
 use Rattle.slip_text.specs.SlipRoom.{room}
-use Rattle.slip_text.specs.SlipReading.{read_decimal, read_signed, ascii}
+use Rattle.slip_text.specs.SlipReading.{ascii}
 
 digits_end : (most n : ℕ) → n < 10 → decimal_from (suc most) n ≡ (48 + n) ∷ []
 unfolding decimal_from
@@ -24,7 +22,7 @@ unfolding decimal_from
 digits_on most n h = rw (le-ltb n 10 h)
 
 -- what holds of one digit, and of digits with one more behind them, holds of the digits of every number
-digits_induction : (P : ℕ → List ℕ → Type 0)
+pub digits_induction : (P : ℕ → List ℕ → Type 0)
     → ((n : ℕ) → n < 10 → P n ((48 + n) ∷ []))
     → ((n : ℕ) (ds : List ℕ) → 10 ≤ n → P (n / 10) ds → P n (ds ++ ((48 + n % 10) ∷ [])))
     → (most n : ℕ) → n < 10 ^ suc most → P n (decimal_from (suc most) n)
@@ -77,51 +75,6 @@ decimal_short n = digits_short 20 n
 pub decimal_within : (most n : ℕ) → n < 10 ^ suc most → n < 10 ^ 20 → length (decimal n) ≤ suc most
 decimal_within most n h b = rw (enough_digits most n h 19 b) (digits_short (suc most) n)
 
--- a printed number reads back as itself
-pub decimal_reads_back : (n : ℕ) → n < 10 ^ 20 → read_decimal (decimal n) ≡ n
-decimal_reads_back n h = digits_induction (λ n ds. read_decimal ds ≡ n) one more 19 n h
-  where
-    one : (n : ℕ) → n < 10 → read_decimal ((48 + n) ∷ []) ≡ n
-    one n h = omega arith
-
-    more : (n : ℕ) (ds : List ℕ) → 10 ≤ n → read_decimal ds ≡ n / 10 → read_decimal (ds ++ ((48 + n % 10) ∷ [])) ≡ n
-    more n ds h ih = rw (foldl-append, ih) (omega arith)
-
--- every byte of it is a digit
-pub decimal_digits : (n : ℕ) → n < 10 ^ 20 → (d : ℕ) → Memᴰ d (decimal n) → (48 ≤ d) × (d ≤ 57)
-decimal_digits n h = digits_induction (λ n ds. (d : ℕ) → Memᴰ d ds → (48 ≤ d) × (d ≤ 57)) one more 19 n h
-  where
-    one : (n : ℕ) → n < 10 → (d : ℕ) → Memᴰ d ((48 + n) ∷ []) → (48 ≤ d) × (d ≤ 57)
-    one n h d m = omega (arith, Memᴰ.eq_of_singleton m)
-
-    more : (n : ℕ) (ds : List ℕ) → 10 ≤ n → ((d : ℕ) → Memᴰ d ds → (48 ≤ d) × (d ≤ 57)) → (d : ℕ) → Memᴰ d (ds ++ ((48 + n % 10) ∷ [])) → (48 ≤ d) × (d ≤ 57)
-    more n ds h ih d m = ⊎_elim (ih d) (λ l. one (n % 10) (omega arith) d l) (Memᴰ.append_cases ds m)
-
--- no leading zero
-pub first_digit : (n : ℕ) → n < 10 ^ 20 → (0 < length (decimal n)) × (0 < n → 48 < get_or (decimal n) 0 0)
-first_digit n h = digits_induction (λ n ds. (0 < length ds) × (0 < n → 48 < get_or ds 0 0)) one more 19 n h
-  where
-    one : (n : ℕ) → n < 10 → (0 < 1) × (0 < n → 48 < 48 + n)
-    one n h = omega arith
-
-    more : (n : ℕ) (ds : List ℕ) → 10 ≤ n → (0 < length ds) × (0 < n / 10 → 48 < get_or ds 0 0) → (0 < length (ds ++ ((48 + n % 10) ∷ []))) × (0 < n → 48 < get_or (ds ++ ((48 + n % 10) ∷ [])) 0 0)
-    more n ds h ih =
-        let long : 0 < length ds = ih.0 in
-        (simp length-append (omega arith), λ p. rw get_or-append (ih.1 (omega arith)))
-
-pub no_leading_zero : (n : ℕ) → n < 10 ^ 20 → get_or (decimal n) 0 0 ≡ 48 → n ≡ 0
-no_leading_zero zero h e = refl
-no_leading_zero (suc n) h e = absurd (omega (arith, (first_digit (suc n) h).1 (omega arith)))
-
-digits_read_unsigned : (l : List ℕ) → ((d : ℕ) → Memᴰ d l → (48 ≤ d) × (d ≤ 57)) → read_signed l ≡ pos (read_decimal l)
-digits_read_unsigned [] digits = refl
-digits_read_unsigned (d ∷ ds) digits = let b = digits d (Memᴰ.head refl) in rw (ne_eqb d 45 (λ e. omega arith))
-
--- a printed figure reads back as itself, its sign too
-pub signed_reads_back : (z : ℤ) → nat_abs z < 10 ^ 20 → read_signed (signed_decimal z) ≡ z
-signed_reads_back (negsuc n) h = rw (decimal_reads_back (suc n) h)
-signed_reads_back (pos n) h = digits_read_unsigned (decimal n) (decimal_digits n h) ∙ ap pos (decimal_reads_back n h)
-
 signed_short : (z : ℤ) → length (signed_decimal z) ≤ 21
 signed_short (pos n) = omega (arith, decimal_short n)
 signed_short (negsuc n) = omega (arith, decimal_short (suc n))
@@ -157,12 +110,3 @@ pub slip_of_document_01 :
     slip_of (price_of slip_book slip_request) ≡ ascii "CC 1147630\nIC 1706500\nIR 859800\nNIC 846700\nNC 300930\nRELIANCE 67\nUPFRONT 57\nNCRATIO 15\nRELIANCE-R 67 427500\nUPFRONT-R 57 339490\nNCRATIO-R 14 1988980\n"
 unfolding slip_of decimal_from flatten
 slip_of_document_01 = ap slip_of slip_priced
-
--- A slip that is written fits the buffer.
-pub written_within : (pricing : Pricing) (out : List ℕ) (size : ℕ) → slip_written pricing out ≡ Ok size → size ≤ length out
-written_within pricing out size e = by (ltb (length out) (length (slip_of pricing))) refl e
-  where
-    by : (short : Bool) → ltb (length out) (length (slip_of pricing)) ≡ short →
-        cond short (Err (refusal output_too_short 0 0)) (Ok (length (slip_of pricing))) ≡ Ok size → size ≤ length out
-    by true t p = impossible cc
-    by false t p = let same : length (slip_of pricing) ≡ size = cc in omega (arith, ltb-false (length out) (length (slip_of pricing)) t)

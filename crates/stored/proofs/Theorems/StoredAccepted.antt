@@ -12,7 +12,7 @@ use Rattle.tagged.proofs.Theorems.Impossible.{impossible}
 use Rattle.numbers.specs.BigEndian.{Bytes}
 use Rattle.numbers.proofs.Theorems.BigEndian.{Bytes-take, Bytes-drop}
 use Rattle.field_walk.specs.Walk.{FieldAt, value_of}
-use Rattle.field_walk.specs.Walked.{FieldsWalk}
+use Rattle.field_walk.specs.FieldsWalk.{FieldsWalk}
 use Rattle.tagged.specs.Find.{place_at, fields_of, first_with, first_place, part_of, field_start, field_value}
 use Rattle.tagged.specs.File.{fields_part, FileAnswer}
 use Rattle.tagged.proofs.Theorems.File.{stands_means}

@@ -4,10 +4,10 @@ use Rattle.std.proofs.Common.{ap, subst, ◌∙◌, ⊎_elim, arith}
 use mathlib.Core.List.{List, [], ◌∷◌, ◌++◌, append-nil, Memᴰ}
 use Rattle.std.proofs.lemmas.List.{length-map}
 use Rattle.field_walk.specs.Walk.{FieldAt, lowest_of, highest_of}
-use Rattle.field_walk.specs.Walked.{FieldsWalk}
+use Rattle.field_walk.specs.FieldsWalk.{FieldsWalk}
 use Rattle.tagged.specs.Find.{fields_of, fields_with, field_value}
 use Rattle.tagged.proofs.Theorems.FieldsWith.{with_past, with_append, with_all, with_none, with_among}
-use Rattle.tagged.specs.WalkRelations.{OfRow}
+use Rattle.tagged.specs.RowFields.{OfRow}
 use Rattle.tagged.proofs.Theorems.Walk.{Stand-once, Stand-repeated, Stand-last, walk_stands, permitted_length}
 use Rattle.tagged.proofs.Theorems.FoundFields.{walk_fields_of, walk_sized}
 use Rattle.ledger.specs.Limits.{most_schemes, most_entries}

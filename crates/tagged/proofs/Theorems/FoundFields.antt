@@ -8,7 +8,7 @@ use Rattle.std.proofs.lemmas.List.{length-map}
 use Rattle.numbers.specs.BigEndian.{Bytes, number, bytes_of}
 use Rattle.numbers.proofs.Theorems.BigEndian.{Bytes-take, Bytes-drop, bytes_of_number}
 use Rattle.field_walk.specs.Walk.{tag_of, lowest_of, step_of, least_of, most_of, permitted_by, length_at, FieldAt, value_of, fields, first_form, second_form, neither_form, row_in, rows_in, walk_by, walk}
-use Rattle.field_walk.specs.Walked.{FieldsWalk}
+use Rattle.field_walk.specs.FieldsWalk.{FieldsWalk}
 use Rattle.field_walk.proofs.Theorems.Forms.{same_in, row_in_lem, of_both}
 use Rattle.tagged.specs.Find.{place_at, whole_field, fields_from, fields_of, first_with, first_place, part_of, start_of, field_value, field_start}
 use Rattle.tagged.specs.Parts.{value_place, rest_place}
@@ -17,7 +17,8 @@ use Rattle.tagged.specs.WalkEncoded.{parts_of}
 use Rattle.tagged.specs.RisingTags.{tags_above, rising_tags}
 use Rattle.tagged.specs.WalkRelations.{Stand, end, next_row, field, StandsAt, Fields, none, first}
 use Rattle.tagged.proofs.Theorems.Walk.{walk_by_stands, walk_by_fields, walk_by_form, walk_fields, both_hold, rest_tag, rest_length, permitted_length}
-use Rattle.tagged.specs.FoundFields.{Seen, Next, Found, Sized}
+use Rattle.tagged.specs.FoundFields.{Seen, Next, Found}
+use Rattle.tagged.specs.Sized.{Sized}
 use Rattle.tagged.specs.declared.find.Place.{Place}
 
 Fields-at : {s : List ℕ} {at : ℕ} {fs : List FieldAt} → Fields s at fs → (f : FieldAt) → Memᴰ f fs → (at' : ℕ) × StandsAt s at' f
@@ -84,11 +85,7 @@ pub walk_more : {s : List ℕ} {at : ℕ} {fs : List FieldAt} → Fields s at fs
 walk_more (none l) h = absurd (omega arith)
 walk_more (first {f} {fs} x r) h = (f, fs, refl)
 
-pub walk_end : {s : List ℕ} {at : ℕ} {fs : List FieldAt} → Fields s at fs → length s ≤ at → fs ≡ []
-walk_end (none l) h = refl
-walk_end (first x r) h = absurd (omega (arith, x.start, x.within))
-
-Fields-found : {s : List ℕ} {at : ℕ} {fs : List FieldAt} → Fields s at fs → (most : ℕ) → length s < at + most → fields_from most at (drop at s) ≡ fs
+pub Fields-found : {s : List ℕ} {at : ℕ} {fs : List FieldAt} → Fields s at fs → (most : ℕ) → length s < at + most → fields_from most at (drop at s) ≡ fs
 unfolding fields_from
 Fields-found (none l) zero h = refl
 Fields-found {s} (none {at} l) (suc most) h = let e : length (drop at s) < 3 = simp length-drop (omega arith) in rw (lt-ltb _ _ e)

@@ -12,7 +12,8 @@ use Rattle.field_walk.specs.Walk.{Due, tag_of, lowest_of, highest_of, step_of, l
 use Rattle.field_walk.specs.declared.walk.Front.{Front}
 use Rattle.field_walk.specs.declared.walk.Front.TheVariants.{End, Field, CannotStand}
 use Rattle.tagged.proofs.Theorems.Impossible.{impossible}
-use Rattle.tagged.specs.WalkRelations.{Stand, end, next_row, field, Fields, none, first, OfRow, Once, Repeated}
+use Rattle.tagged.specs.WalkRelations.{Stand, end, next_row, field, Fields, none, first}
+use Rattle.tagged.specs.RowFields.{OfRow, Once, Repeated}
 
 -- what holds of a choice, by its test
 pub by_test : {A : Type 0} (P : A → Type 0) (b : Bool) (x y : A) → (b ≡ true → P x) → (b ≡ false → P y) → P (cond b x y)

@@ -18,7 +18,7 @@ use Rattle.tagged.specs.RisingTags.{tags_above, rising_tags}
 use Rattle.tagged.proofs.Theorems.FoundFields.{walk_seen, walk_by_fields_of, rising_rest}
 
 -- a field that stands by rows above a tag is above it
-Stand-above : {rows : List (List ℕ)} {n : ℕ} {f : FieldAt} {fs : List FieldAt} → Stand rows n (f ∷ fs) → (tag : ℕ) → tags_above tag rows ≡ true → tag < f.tag
+pub Stand-above : {rows : List (List ℕ)} {n : ℕ} {f : FieldAt} {fs : List FieldAt} → Stand rows n (f ∷ fs) → (tag : ℕ) → tags_above tag rows ≡ true → tag < f.tag
 Stand-above (next_row {row} {rows} l x) tag e = let h = both_hold tag (tag_of row) (rising_tags (row ∷ rows)) e in omega (arith, h.0, Stand-above x (tag_of row) h.1)
 Stand-above (field {row} {rows} t p l x) tag e = omega (arith, t, (both_hold tag (tag_of row) (rising_tags (row ∷ rows)) e).0)
 

@@ -1,10 +1,10 @@
--- The lines of quotient and remainder in literals: as they are written, as they are read, and what isn't read.
-use Rattle.std.specs.Prelude.{ℕ, ◌≡◌, refl, negsuc}
-use mathlib.Core.List.{List, [], ◌∷◌, flatten, map}
+-- The lines of quotient and remainder in literals, as they are written.
+use Rattle.std.specs.Prelude.{ℕ, ◌≡◌, refl}
+use mathlib.Core.List.{List, flatten}
 use Rattle.reconciliation.specs.Reconciliation.{reconciliation_of}
 use Rattle.slip_text.specs.Slip.{decimal_from, reconciliation_lines}
 use Rattle.slip_text.specs.SlipReading.{ascii}
-use Rattle.slip_text.specs.ExactReading.{without, before, after, line_of, said_by, all_digits, signed_read, ExactRead, exact_read}
+use Rattle.slip_text.specs.ExactLines.{before, after, line_of}
 
 -- ME, MC, CE and CC2, other amounts 0, and IR; a and the share
 abbrev slip_with : (me mc ce cc2 ir a share : ℕ) → List ℕ
@@ -29,18 +29,7 @@ pub exact_slips : ExactSlips
 unfolding decimal_from flatten
 exact_slips = record { sum_of_101 = refl; minus_half = refl; below_half = refl; none_of_two = refl; none_of_three = refl; lowest = refl }
 
--- a quotient below 0, `-`, and the ninth line of a text
-pub exact_lines_read :
-    (exact_read (said_by (ascii "NCRATIO-R -2 100")) ≡ ExactRead.quotient_and_remainder (negsuc 1) 100)
-    × (exact_read (said_by (ascii "RELIANCE-R -")) ≡ ExactRead.no_percentage)
-    × (line_of 2 (ascii "CC 1\n\nX 0 7\n") ≡ ascii "X 0 7")
-unfolding without before after line_of all_digits signed_read exact_read
-exact_lines_read = (refl, refl, refl)
-
--- no number, a leading 0, a minus before 0 or alone, a minus before the remainder, two blanks, nothing
-pub not_read :
-    map exact_read (ascii "67" ∷ ascii "067 1" ∷ ascii "67 01" ∷ ascii "-0 5" ∷ ascii "- 5" ∷ ascii "67 -5" ∷ ascii "67  5" ∷ ascii "67 " ∷ ascii "--" ∷ [] ∷ [])
-    ≡ ExactRead.not_read ∷ ExactRead.not_read ∷ ExactRead.not_read ∷ ExactRead.not_read ∷ ExactRead.not_read ∷ ExactRead.not_read ∷ ExactRead.not_read ∷ ExactRead.not_read ∷
-    ExactRead.not_read ∷ ExactRead.not_read ∷ []
-unfolding without before after all_digits signed_read exact_read
-not_read = refl
+-- the third line of a text, of which the second is empty
+pub lines_counted : line_of 2 (ascii "CC 1\n\nX 0 7\n") ≡ ascii "X 0 7"
+unfolding before after line_of
+lines_counted = refl

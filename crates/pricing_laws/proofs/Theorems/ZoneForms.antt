@@ -1,6 +1,6 @@
 -- Document 02, E6: "a two-byte number up to 255 means the same zone as the one-byte number". What a book and a request say depends on their zone numbers, not on
 -- how many bytes those take: one theorem for all four pairs of a book's and a request's forms.
-use Rattle.std.specs.Prelude.{ℕ, zero, suc, ◌+◌, ◌-◌, ◌≤◌, ◌≡◌, Bool, true, false, cond, take, drop, replicate, ltb, leb, eqb, Err, Ok, None, Some, Option}
+use Rattle.std.specs.Prelude.{ℕ, zero, suc, ◌+◌, ◌-◌, ◌≤◌, ◌≡◌, Bool, true, false, cond, take, drop, replicate, ltb, leb, Err, Ok, None, Some, Option}
 use Rattle.std.proofs.Math.Path.{refl, sym, ap}
 use Rattle.std.proofs.Common.{ap₂, subst, ◌∙◌, arith, take-take, drop-drop}
 use mathlib.Core.List.{List, [], ◌∷◌, map}
@@ -26,51 +26,7 @@ use Rattle.request.specs.Request.{request_letters, charge_judgements, request_ju
 use Rattle.request.proofs.Theorems.Request.{request_judged, request_accepted}
 use Rattle.charge.specs.Price.{values_priced, price_of}
 use Rattle.charge.proofs.Theorems.Price.{book_accepted, request_priced_lem}
-
--- a value that begins with a zone number of so many bytes, with the number in two
-abbrev pub in_two_bytes : ℕ → List ℕ → List ℕ
-in_two_bytes width value = cond (eqb width 1) (0 ∷ value) value
-
--- the zones of the fields s: number and rates, each number in two bytes
-abbrev pub zone_in_two_bytes_at : List ℕ → ℕ → List ℕ
-zone_in_two_bytes_at s at = in_two_bytes (number_width s) (take (number_width s + 20) (drop at s))
-
-abbrev pub zones_in_two_bytes : List ℕ → List (List ℕ)
-zones_in_two_bytes s = map (zone_in_two_bytes_at s) (zone_starts s)
-
--- the zone that a request names, its number in two bytes
-abbrev pub zone_bytes_by : Option Place → List ℕ → List ℕ
-zone_bytes_by None s = in_two_bytes 1 (take 1 (field_value 4 s))
-zone_bytes_by (Some place) s = in_two_bytes 2 (take 2 (field_value 13 s))
-
-abbrev pub zone_in_two_bytes : List ℕ → List ℕ
-zone_in_two_bytes s = zone_bytes_by (first_place 13 s) s
-
--- two books that have the same values in 01 to 07 and the same zones, of whatever form
-pub record SameBooks (s s' : List ℕ) : Type 0 where
-  pub letters : field_value 1 s ≡ field_value 1 s'
-  pub rate : field_value 2 s ≡ field_value 2 s'
-  pub figures : field_value 3 s ≡ field_value 3 s'
-  pub distribution : field_value 4 s ≡ field_value 4 s'
-  pub transmission : field_value 5 s ≡ field_value 5 s'
-  pub terms : field_value 6 s ≡ field_value 6 s'
-  pub charging : field_value 7 s ≡ field_value 7 s'
-  pub zones : zones_in_two_bytes s ≡ zones_in_two_bytes s'
-
--- two requests that have the same values but for the form of the zone number
-pub record SameRequests (s s' : List ℕ) : Type 0 where
-  pub letters : field_value 1 s ≡ field_value 1 s'
-  pub person : field_value 2 s ≡ field_value 2 s'
-  pub class : field_value 3 s ≡ field_value 3 s'
-  pub amounts : field_value 5 s ≡ field_value 5 s'
-  pub tiers : field_value 6 s ≡ field_value 6 s'
-  pub added : field_value 7 s ≡ field_value 7 s'
-  pub revenues : field_value 8 s ≡ field_value 8 s'
-  pub part_year : field_value 9 s ≡ field_value 9 s'
-  pub distribution : field_value 10 s ≡ field_value 10 s'
-  pub transmission : field_value 11 s ≡ field_value 11 s'
-  pub connection : field_value 12 s ≡ field_value 12 s'
-  pub zone : zone_in_two_bytes s ≡ zone_in_two_bytes s'
+use Rattle.pricing_laws.specs.SameValues.{in_two_bytes, zone_in_two_bytes_at, zones_in_two_bytes, zone_bytes_by, SameBooks, SameRequests}
 
 -- two judgements that pass, one after the other
 both : {first second : Judged} → first ≡ Ok tt → second ≡ Ok tt → in_order first second ≡ Ok tt

@@ -1,0 +1,5 @@
+pub mod OlderBooks
+pub mod OlderRequests
+pub mod OlderPricing
+pub mod ZoneForms
+pub mod Counterparts

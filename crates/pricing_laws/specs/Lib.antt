@@ -1,0 +1,5 @@
+pub mod EarlierRows
+pub mod EarlierPricing
+pub mod SameValues
+pub mod Laws
+pub mod Cases
