@@ -39,9 +39,10 @@ EXPLAINED = root / "tools/mutants_explained.txt"
 RESULTS = root / "target/mutants"
 # the crate of the copy; the folder of the changed copies of mutant n in it is m{n}
 TRIAL = "trial"
-# how many modules one check holds at most beside those that no mutant changes, and how long it may take
+# how many modules one check holds at most beside those that no mutant changes, and how long it may take of a processor, and in all where others have that
 MOST_MODULES = 400
 SECONDS = 420
+SECONDS_IN_ALL = 3600
 # cases that take seconds each: they are tried where the lighter ones of the crate hold
 HEAVY = (("ledger", "Cases.Sound", "full_cases_hold"),)
 NOT_DEFINITIONS = ("Lib", "Laws", "Cases", "Theorems")
@@ -852,10 +853,10 @@ class Copy:
         return "\n".join([*lines, "", *map(public, texts)]), others
 
     def judged(self, batch):
-        words = ["rt", "check", "--jobs", "1"]
+        words = ["bash", "-c", f"ulimit -t {SECONDS}; exec rt check --jobs 1"]
         ran = subprocess.Popen(words, cwd=self.folder, stdin=subprocess.DEVNULL, stdout=subprocess.PIPE, stderr=subprocess.STDOUT, errors="replace", start_new_session=True)
         try:
-            said = ran.communicate(timeout=SECONDS)[0]
+            said = ran.communicate(timeout=SECONDS_IN_ALL)[0]
         except subprocess.TimeoutExpired:
             os.killpg(ran.pid, signal.SIGKILL)
             ran.wait()

@@ -45,11 +45,26 @@ pub first_not_allowed_cases :
     × (first_not_allowed (rates_against_100 (replicate 5 2) (150 ∷ 151 ∷ 151 ∷ 151 ∷ 151 ∷ [])) ≡ Some 1)
     × (first_not_allowed (rates_against_100 (replicate 5 2) (151 ∷ 79 ∷ 151 ∷ 79 ∷ 80 ∷ [])) ≡ Some 5)
     × (first_not_allowed (rates_against_100 (replicate 5 2) (151 ∷ 80 ∷ 151 ∷ 150 ∷ 151 ∷ [])) ≡ Some 2)
+    × (first_not_allowed (rates_against_100 (replicate 5 2) (151 ∷ 79 ∷ 150 ∷ 80 ∷ 150 ∷ [])) ≡ Some 3)
+    × (first_not_allowed (rates_against_100 (0 ∷ 1 ∷ 2 ∷ 1 ∷ 0 ∷ []) (replicate 5 150)) ≡ Some 3)
     × (first_not_allowed (rates_against_100 (0 ∷ 1 ∷ 0 ∷ 2 ∷ 0 ∷ []) (replicate 5 150)) ≡ Some 4)
     × (first_not_allowed (rates_against_100 (0 ∷ 1 ∷ 0 ∷ 1 ∷ 0 ∷ []) (replicate 5 150)) ≡ None)
-first_not_allowed_cases = (refl, refl, refl, refl, refl, refl)
+first_not_allowed_cases = (refl, refl, refl, refl, refl, refl, refl, refl)
 
 -- M4: "the slip's MC 108,000"
 pub capacity_marked_figures :
     capacity_cost (tiers_of (replicate 5 0) (0 ∷ 0 ∷ 8500 ∷ 38000 ∷ 10000 ∷ []) (replicate 5 0)) (400 ∷ 400 ∷ 200 ∷ 200 ∷ 150 ∷ []) ≡ 108000
 capacity_marked_figures = refl
+
+-- five tiers that all differ, each in mode 0 at 10,040, 3,089, 3,244, 1,255 and 3,587, and in different modes; and the highest rates and demands
+abbrev five_rates : List ℕ
+five_rates = 1001 ∷ 607 ∷ 809 ∷ 409 ∷ 1700 ∷ []
+
+abbrev five_demands : List ℕ
+five_demands = 1003 ∷ 509 ∷ 401 ∷ 307 ∷ 211 ∷ []
+
+pub capacity_cost_cases :
+    (capacity_cost (tiers_of (replicate 5 0) five_rates (replicate 5 0)) five_demands ≡ 21215)
+    × (capacity_cost (tiers_of (2 ∷ 0 ∷ 1 ∷ 2 ∷ 0 ∷ []) (7 ∷ 607 ∷ 809 ∷ 11 ∷ 1700 ∷ []) (1001 ∷ 13 ∷ 17 ∷ 409 ∷ 19 ∷ [])) five_demands ≡ 17971)
+    × (capacity_cost (tiers_of (replicate 5 0) (replicate 5 10000000) (replicate 5 0)) (replicate 5 1000000) ≡ 500000000000)
+capacity_cost_cases = (refl, refl, refl)

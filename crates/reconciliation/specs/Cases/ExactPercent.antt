@@ -1,6 +1,7 @@
 -- Quotients and remainders in literals: percentages that add up to 101, halves and the places next to them below 0, divisors of 0 and 1, the lowest NC.
 use Rattle.std.specs.Prelude.{ℕ, ◌≡◌, refl, ℤ, pos, negsuc, None}
 use Rattle.reconciliation.specs.Reconciliation.{reconciliation_of}
+use Rattle.reconciliation.specs.ExactPercent.{rounded_from}
 use Rattle.reconciliation.specs.Cases.Reconciliation.{whole}
 use Rattle.reconciliation.specs.Percent.{Percent}
 use Rattle.reconciliation.specs.declared.Reconciliation.{Reconciliation}
@@ -45,3 +46,18 @@ exact_percent_cases =
       lowest = (refl, refl, refl, refl);
       lowest_in_parts = (refl, refl, refl, refl);
     }
+
+-- quotients with remainders below, at and above half a divisor of 10, and of 5
+pub rounded_cases :
+    (rounded_from (pos 7) 4 10 ≡ pos 7)
+    × (rounded_from (pos 7) 5 10 ≡ pos 8)
+    × (rounded_from (pos 0) 5 10 ≡ pos 1)
+    × (rounded_from (pos 7) 6 10 ≡ pos 8)
+    × (rounded_from (negsuc 6) 4 10 ≡ negsuc 6)
+    × (rounded_from (negsuc 6) 5 10 ≡ negsuc 6)
+    × (rounded_from (negsuc 0) 5 10 ≡ negsuc 0)
+    × (rounded_from (negsuc 6) 6 10 ≡ negsuc 5)
+    × (rounded_from (pos 7) 2 5 ≡ pos 7)
+    × (rounded_from (pos 7) 3 5 ≡ pos 8)
+    × (rounded_from (pos 7) 0 5 ≡ pos 7)
+rounded_cases = (refl, refl, refl, refl, refl, refl, refl, refl, refl, refl, refl)

@@ -66,6 +66,28 @@ credit_above_m =
     figures 137999 1086822 417300 432286 83700 61900 0 2220007 1407842 995186 (pos 812165) (pos 183021) 417300 2510107 1514921
     (whole (pos 45) (pos 44) 1838292) (whole (pos 41) (pos 41) 994452) (whole (pos 8) (pos 7) 1480904)
 
+-- the highest costs and the highest revenue: at a share of 3,300, of 100, and with capacity not charged
+abbrev highest_costs : Costs
+highest_costs =
+    record { me = 1000000000; mc = 500000000000; ce = 1000000000; cc2 = 499999999999; de = 1000000000; tw = 1000000000; hr = 1000000000; ol = 1000000000 }
+
+abbrev highest_figures : ℕ → ℤ → ℕ → (reliance upfront ratio : Percent) → Reconciliation
+highest_figures cc nc borne reliance upfront ratio =
+    figures 1000000000 500000000000 1000000000 499999999999 1000000000 1000000000 1000000000 1004999999999 3968000000000 cc
+    (negsuc 2963000000000) nc 1000000000 1005999999999 borne reliance upfront ratio
+
+pub highest_cases :
+    (reconciliation_of highest_costs 3968000000000 1 3300
+    ≡ highest_figures 503999999999 (pos 3467000000000) 502000000000
+    (whole (pos 50) (pos 50) 149999999950) (whole (pos 11) (pos 11) 1207999999911) (whole (pos 78) (pos 77) 2356000000077))
+    × (reconciliation_of highest_costs 3968000000000 1 100
+    ≡ highest_figures 965319999999 (pos 3928320000000) 40680000000
+    (whole (pos 96) (pos 96) 51999999996) (whole (pos 20) (pos 19) 2798919999919) (whole (pos 80) (pos 79) 3099720000079))
+    × (reconciliation_of highest_costs 3968000000000 0 3300
+    ≡ highest_figures 4000000000 (pos 2967000000001) 1001999999999
+    (whole (pos 0) (pos 0) 400000000000) (whole (pos 0) (pos 0) 400000000000) (whole (pos 75) (pos 74) 2772000000100))
+highest_cases = (refl, refl, refl)
+
 pub reconciliation_cases :
     (reconciliation_of (costs_with 1598500 154400) 1027296 1 6300 ≡ capacity_charged)
     × (reconciliation_of (costs_with 1598500 154400) 1027296 0 6300 ≡ capacity_not_charged)

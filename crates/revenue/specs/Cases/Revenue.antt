@@ -2,7 +2,7 @@
 use Rattle.std.specs.Prelude.{ℕ, suc, ◌*◌, ◌/◌, ◌≡◌, refl, List, [], ◌∷◌, map}
 use Rattle.field_values.specs.declared.factors.Factors.{Factors}
 use Rattle.discount.specs.Discount.{discount}
-use Rattle.revenue.specs.Revenue.{opex_factor, transmission_opex_factor, distribution_opex_factor, factor_of, life_of, year_revenue, incremental_revenue}
+use Rattle.revenue.specs.Revenue.{opex_factor, transmission_opex_factor, distribution_opex_factor, factor_of, life_of, year_revenue, stream_year, incremental_revenue}
 use Rattle.revenue.specs.declared.Stream.{Stream}
 
 abbrev pub factors : ℕ → List ℕ → Factors
@@ -69,6 +69,25 @@ pub slips_at_rates :
     (map (λ t. slip_revenue t.0 0) residential_slips ≡ map (λ t. t.1) residential_slips)
 unfolding discount incremental_revenue
 slips_at_rates = (refl, refl)
+
+-- a stream whose lists have three, two and four factors, such that each order of theirs rounds to another figure
+abbrev different_factors : Stream
+different_factors =
+    record {
+      revenue = 28388;
+      opex_factor = 7269;
+      part_year = factors 3 (19182 ∷ 11111 ∷ 22222 ∷ 0 ∷ 0 ∷ 0 ∷ 0 ∷ 0 ∷ []);
+      revenue_factors = factors 2 (25872 ∷ 9999 ∷ 0 ∷ 0 ∷ 0 ∷ 0 ∷ 0 ∷ 0 ∷ []);
+      tariff_factors = factors 4 (39805 ∷ 31234 ∷ 12345 ∷ 20001 ∷ 0 ∷ 0 ∷ 0 ∷ 0 ∷ []);
+    }
+
+-- the years 0 to 5 at b 463; and the highest revenue by the highest factors
+pub years_of_a_stream :
+    (map (λ n. stream_year different_factors n (discount 463 n)) (0 ∷ 1 ∷ 2 ∷ 3 ∷ 4 ∷ 5 ∷ []) ≡ 407627 ∷ 68431 ∷ 51702 ∷ 80060 ∷ 76517 ∷ 73131 ∷ [])
+    × (year_revenue 1000000000 10000 40000 40000 40000 100000000 ≡ 64000000000)
+    × (year_revenue 1000000000 9999 40000 40000 40000 95574882 ≡ 61161807687)
+unfolding discount
+years_of_a_stream = (refl, refl, refl)
 
 -- "A list's first factor is year 0's, its last holds for all later years." In each row count, year and factor, of a list whose first value is 1, the
 -- second 2, and so on.

@@ -158,9 +158,10 @@ refused_case_holds = refl
 -- the same with the entries by value: 512 of them, of which those past the last hold zeros
 pub read_back_cases_hold :
     (read_back new_ledger 1 one_form ≡ record { answer = Ok tt; ledger = one_scheme; parties = one_party ∷ replicate 511 no_party }) ×
+    (read_back new_ledger 2 joined_form ≡ record { answer = Ok tt; ledger = joined_scheme; parties = joined_parties ++ replicate 510 no_party }) ×
     (read_back one_scheme 0 one_form ≡ record { answer = refused 9 0 0; ledger = one_scheme; parties = replicate 512 no_party })
 unfolding read_answer table_answer stored_entries stored_schemes stored_ledger no_schemes values_at number check_from due_from all_had front_of walk_from fields_from first_with fields_with same_bytes sound parties_sound scheme_place schemes_sound all_zero sum_over first_put_in no_parties
-read_back_cases_hold = (refl, refl)
+read_back_cases_hold = (refl, refl, refl)
 
 -- schemes alone, without an entry after them
 pub schemes_read : (stored_schemes (take 86 every_byte_fields) ≡ take 2 every_byte.schemes) × (stored_entries (take 86 every_byte_fields) ≡ [])
@@ -171,9 +172,10 @@ schemes_read = (refl, refl)
 pub form_cases_hold :
     (form_end one_scheme (one_party ∷ []) (replicate 98 7) ≡ record { answer = Ok 97; output = one_form ++ (7 ∷ []) }) ×
     (form_end one_scheme (one_party ∷ no_party ∷ []) (replicate 96 7) ≡ record { answer = Err (refusal 14 0 0); output = replicate 96 7 }) ×
-    (form_end joined_scheme joined_parties (replicate 130 7) ≡ record { answer = Ok 130; output = joined_form })
+    (form_end joined_scheme joined_parties (replicate 130 7) ≡ record { answer = Ok 130; output = joined_form }) ×
+    (form_end joined_scheme joined_parties (replicate 129 7) ≡ record { answer = Err (refusal 14 0 0); output = replicate 129 7 })
 unfolding stored_form scheme_parts party_parts record_bytes bytes_of check_from flat_map
-form_cases_hold = (refl, refl, refl)
+form_cases_hold = (refl, refl, refl, refl)
 
 -- an output as long as the form, one byte longer and one byte shorter; a table shorter than the entries
 pub write_cases_hold :
