@@ -27,10 +27,6 @@ SECTION = "## Functions with a `requires`"
 # a function without parameters and code, with what its proof is to use
 LAW = re.compile(r"^(?:#\[tactic\(auto, using\(([^()]*)\)\)\]\n)?pub fn (\w+)\(\)\n(?:    ensures .*\n)+\{\}$", re.MULTILINE)
 THEOREMS = re.compile(r"use Rattle\.(\w+)\.((?:specs|proofs)\.Theorems\.\w+)\.\{(.*)\}")
-# crates with theorems in PROMISES that no contract holds yet
-NOT_YET_HELD = set(
-    "ledger calls history party_table acceptance entry_calls calls_on_records stored stored_calls quoting_unit".split()
-)
 CITING = (".antt", ".rt", ".edit", ".rs", ".h", ".md")
 
 
@@ -154,17 +150,12 @@ def held_theorems():
 def check_held(failures):
     """Holds each theorem that PROMISES names with its file against the contracts of functions without code; how many it names."""
     text = re.sub(r"\s+", " ", (root / "docs/PROMISES.md").read_text())
-    held, named, lacking = held_theorems(), set(), set()
+    held, named = held_theorems(), set()
     for names, path in NAMED_IN.findall(text):
         if "/Theorems/" in path and (root / path).is_file():
             theorems = {name for name, theorem in definitions((root / path).read_text()) if theorem}
             named |= {(path, name) for name in re.findall(rf"`({WORD})`", names) if name in theorems}
-    for path, name in sorted(named - held):
-        crate = path.split("/")[1]
-        lacking.add(crate)
-        if crate not in NOT_YET_HELD:
-            failures.append(f"docs/PROMISES.md: no contract holds {name} of {path}")
-    failures += [f"tools/rules.py: contracts hold every theorem of {crate} by now" for crate in sorted(NOT_YET_HELD - lacking)]
+    failures += [f"docs/PROMISES.md: no contract holds {name} of {path}" for path, name in sorted(named - held)]
     return len(named)
 
 

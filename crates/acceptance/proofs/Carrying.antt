@@ -16,7 +16,7 @@ use Rattle.ledger.specs.declared.records.Party.{Party}
 use Rattle.ledger.specs.declared.records.Ledger.{Ledger}
 use Rattle.calls.specs.Verdict.{entries_of_joining, entries_needed, verdict}
 use Rattle.calls.proofs.Theorems.VerdictConditions.{CourseConditions, course_conditions}
-use Rattle.calls.proofs.Theorems.Calls.{promise_from}
+use Rattle.calls.proofs.Theorems.Promised.{promise_from}
 use Rattle.calls.proofs.Theorems.ByPlace.{length_credits_among}
 use Rattle.calls.specs.Carried.{new_party}
 use Rattle.calls.specs.Calls.{state_of, Promised}

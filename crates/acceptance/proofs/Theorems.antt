@@ -2,4 +2,3 @@ pub mod Plan
 pub mod PlanNeeds
 pub mod PlanFits
 pub mod PlanIsCall
-pub mod PlanPromised

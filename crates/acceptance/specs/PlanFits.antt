@@ -1,9 +1,8 @@
 -- A plan that can be carried out on a table: each entry takes its credit, and those that are added have their places.
-use Rattle.std.specs.Prelude.{ℕ, ◌+◌, ◌≤◌, ◌≡◌, List, Ok}
+use Rattle.std.specs.Prelude.{ℕ, ◌+◌, ◌≤◌, List}
 use Rattle.ledger.specs.Limits.{most_entries}
 use Rattle.ledger.specs.Table.{CreditsFit}
 use Rattle.ledger.specs.declared.records.Party.{Party}
-use Rattle.calls.specs.declared.answers.Acceptance.{Acceptance}
 use Rattle.acceptance.specs.PlanCarried.{Plan}
 
 -- a plan that can be carried out on a table of `room` records
@@ -12,6 +11,3 @@ pub record PlanFits (entries room : ℕ) (parties : List Party) (plan : Plan) : 
   pub limit : entries + plan.added_count ≤ most_entries
   pub places : entries + plan.added_count ≤ room
   pub credits : CreditsFit entries parties plan.credits
-
-abbrev pub FitsIfAccepted : ℕ → ℕ → List Party → Plan → Type 0
-FitsIfAccepted entries room parties plan = (acceptance : Acceptance) → plan.answer ≡ Ok acceptance → PlanFits entries room parties plan

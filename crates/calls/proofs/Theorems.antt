@@ -5,4 +5,5 @@ pub mod ByPlace
 pub mod VerdictConditions
 pub mod Calls
 pub mod CallEnding
+pub mod Promised
 pub mod Verdict

@@ -1,5 +1,5 @@
 -- How each call ends, by document 01's number and values. Done, plain, opened, joined, small and ended all have number 0; the values tell them apart.
-use Rattle.std.specs.Prelude.{ℕ, List, [], ◌∷◌, ◌++◌, ℤ, pos, None, Option, Some}
+use Rattle.std.specs.Prelude.{ℕ, ◌≤◌, List, [], ◌∷◌, ◌++◌, ℤ, pos, None, Option, Some}
 use Rattle.tagged.specs.Ending.{Ending, ends_refused, ends_done}
 use Rattle.reconciliation.specs.Figures.{figure_values}
 use Rattle.calls.specs.Decision.{CallAnswer, is_accepted, is_done, is_refused}
@@ -28,3 +28,13 @@ abbrev pub call_ending : CallAnswer → Ending
 call_ending (is_accepted acceptance) = ends_done (acceptance_values acceptance)
 call_ending is_done = ends_done []
 call_ending (is_refused r) = ends_refused r
+
+-- refusals and schemes are numbered from 1, so that 0 is neither
+abbrev pub SchemeNumbered : Option ℕ → Type 0
+SchemeNumbered None = Unit {0}
+SchemeNumbered (Some scheme) = 1 ≤ scheme
+
+abbrev pub Numbered : CallAnswer → Type 0
+Numbered (is_accepted acceptance) = SchemeNumbered acceptance.opening
+Numbered is_done = Unit {0}
+Numbered (is_refused r) = 1 ≤ r.number

@@ -8,7 +8,7 @@ use Rattle.ledger.specs.declared.records.Party.{Party}
 use Rattle.ledger.specs.declared.records.Ledger.{Ledger}
 use Rattle.calls.specs.Decision.{Call, accept, pay_out, hand_over, Decision, refused, decided, CallAnswer, answer_to}
 use Rattle.calls.specs.Carried.{State, books_on, carried_out}
-use Rattle.calls.specs.CallEnding.{call_ending}
+use Rattle.calls.specs.CallEnding.{call_ending, Numbered}
 
 abbrev pub state_of : Ledger → List Party → State
 state_of ledger table = record { ledger = ledger; table = table }
@@ -24,9 +24,10 @@ answered state call = answer_to (books_on state) (decided_on state call)
 unfoldable pub leaves : State → Call → State
 leaves state call = carried_out state (decided_on state call)
 
--- what every call promises: its answer, document 01's number and values of it, and ledger and table
+-- What every call promises: document 01's number and values of its answer, and ledger and table. Refusals and schemes are numbered from 1, so that the
+-- ending tells the answer.
 pub record Promised (before : State) (call : Call) (answer : CallAnswer) (after : State) : Type 0 where
-  pub answers : answer ≡ answered before call
+  pub numbered : Numbered answer
   pub ends : call_ending answer ≡ call_ending (answered before call)
   pub leaving : after ≡ leaves before call
 

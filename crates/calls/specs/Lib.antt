@@ -11,4 +11,5 @@ pub mod CreditColumns
 pub mod ByPlace
 pub mod VerdictConditions
 pub mod CallRefusals
+pub mod Laws
 pub mod Cases

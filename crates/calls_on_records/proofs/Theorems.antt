@@ -1,2 +1,1 @@
 pub mod OnRecords
-pub mod OnRecordsPromises

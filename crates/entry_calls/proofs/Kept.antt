@@ -4,7 +4,7 @@ use Rattle.std.proofs.Common.{refl, ap, ◌∙◌}
 use Rattle.ledger.specs.Sound.{sound}
 use Rattle.ledger.specs.declared.records.Party.{Party}
 use Rattle.ledger.specs.declared.records.Ledger.{Ledger}
-use Rattle.calls.proofs.Theorems.Calls.{promise_from}
+use Rattle.calls.proofs.Theorems.Promised.{promise_from}
 use Rattle.calls.specs.Calls.{state_of, Promised}
 use Rattle.calls.specs.Decision.{Answer, pay_out, hand_over, of_entry_call}
 use Rattle.entry_calls.specs.EntryCalls.{entry_change, changed_table, pay_out_change, hand_over_change}

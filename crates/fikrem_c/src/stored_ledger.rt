@@ -13,6 +13,7 @@ use quoting_unit::outcomes::{
 use quoting_unit::results::TOO_SHORT;
 
 /// The stored form of a new ledger, into the lent output; its length in bytes in the answer's last place.
+#[tactic(auto, using(stored_calls::proofs::Theorems::StoredPromises::promised_new))]
 #[unsafe(no_mangle)]
 pub extern "C" fn fikrem_new_ledger(out: &mut [u8], answer: &mut [u64]) -> u64
     ensures { let end = unit_call new_ledger (lent_output out.old answer.old) in
@@ -27,6 +28,7 @@ pub extern "C" fn fikrem_new_ledger(out: &mut [u8], answer: &mut [u64]) -> u64
 
 /// Accept on a stored ledger: the new stored form into the lent output, the reconciliation into the figures, and what became of joining and
 /// opening into the answer.
+#[tactic(auto, using(stored_calls::proofs::Theorems::StoredPromises::promised_stored))]
 #[unsafe(no_mangle)]
 pub extern "C" fn fikrem_accept(
     stored: &[u8],
@@ -54,6 +56,7 @@ pub extern "C" fn fikrem_accept(
 }
 
 /// Pay-out of an amount in cents on a stored ledger: the new stored form into the lent output.
+#[tactic(auto, using(stored_calls::proofs::Theorems::StoredPromises::promised_stored))]
 #[unsafe(no_mangle)]
 pub extern "C" fn fikrem_pay_out(
     stored: &[u8],
@@ -75,6 +78,7 @@ pub extern "C" fn fikrem_pay_out(
 }
 
 /// Hand-over to another person on a stored ledger: the new stored form into the lent output.
+#[tactic(auto, using(stored_calls::proofs::Theorems::StoredPromises::promised_stored))]
 #[unsafe(no_mangle)]
 pub extern "C" fn fikrem_hand_over(
     stored: &[u8],
@@ -96,6 +100,7 @@ pub extern "C" fn fikrem_hand_over(
 }
 
 /// Whether a stored ledger can be read; schemes, entries, connections and the last accepted month into the answer.
+#[tactic(auto, using(stored_calls::proofs::Theorems::StoredPromises::promised_check))]
 #[unsafe(no_mangle)]
 pub extern "C" fn fikrem_judge_ledger(stored: &[u8], table_size: usize, answer: &mut [u64]) -> u64
     ensures { let end = unit_call (check_ledger stored.now table_size) (lent_answer answer.old) in

@@ -1,13 +1,13 @@
 -- Demand 3: what holds after every list of calls. Each line is held against the history of the calls alone.
-use Rattle.std.specs.Prelude.{ℕ, ◌+◌, ◌≤◌, ◌<◌, ◌≡◌, List, map, length, take, drop}
+use Rattle.std.specs.Prelude.{ℕ, ◌+◌, ◌≤◌, ◌≡◌, List, map, length, take, drop}
+use Rattle.std.specs.List.{range_with_len}
 use Rattle.tagged.specs.Refusals.{ledger_unsound}
 use Rattle.ledger.specs.Limits.{most_schemes, most_entries}
-use Rattle.ledger.specs.Lists.{sum_by, All}
+use Rattle.ledger.specs.Lists.{oldest_first, sum_by, All}
 use Rattle.ledger.specs.Records.{new_ledger}
 use Rattle.ledger.specs.declared.records.Party.{Party}
 use Rattle.calls.specs.Decision.{Call, CallAnswer, is_accepted, is_done, is_refused}
 use Rattle.calls.specs.Carried.{State}
-use Rattle.calls.specs.CallEnding.{call_ending}
 use Rattle.calls.specs.Calls.{state_of, Trace, AllFit}
 use Rattle.history.specs.Fair.{BoundFigures, Fair}
 use Rattle.history.specs.History.{Entering, Account, History, account_of, cost, fee, joinings, collected, fees, credited, paid_of, standing_credits, capacity, put_ins, credited_to, paid_to, charged, borne, cost_entered, openings, times, ledger_in, parties_in, history_of, answers_of}
@@ -46,11 +46,9 @@ pub record PartyHolds (account : Account) (e : Entering) : Type 0 where
   pub some_capacity : 1 ≤ e.bill.applicant.capacity
   pub paid_within : paid_to e.entry account.paid ≤ credited_to e.entry account.entered
 
--- Numbers from 1 on, each given once and no other: how often one was given is a sum of ones.
-pub record EachOnce {A : Type 0} (number : A → ℕ) (given : List A) : Type 0 where
-  pub once : (n : ℕ) → 1 ≤ n → n ≤ length given → times number n given ≡ 1
-  pub none_past : (n : ℕ) → length given < n → times number n given ≡ 0
-  pub none_at_0 : times number 0 given ≡ 0
+-- Numbers in order of coming: the oldest has 1, the next 2, and so on to the newest.
+abbrev pub InOrder : {A : Type 0} → (A → ℕ) → List A → Type 0
+InOrder number given = map number (oldest_first given) ≡ range_with_len 1 (length given)
 
 -- no call is refused with 13
 abbrev pub Not13 : CallAnswer → Type 0
@@ -63,20 +61,18 @@ pub record HoldsAfter (start : List Party) (history : History) (calls : List Cal
   pub balanced : (s : ℕ) → Balanced (account_of s history)
   -- a party is an entry, made by an opening or a joining
   pub parties : All (λ e. PartyHolds (account_of e.scheme history) e) history.entered
-  -- "up to 64 schemes, numbered from 1 in order of opening"; "at most 512 and at most the table's length", "numbered from 1"
+  -- "up to 64 schemes, numbered from 1 in order of opening"; "at most 512 and at most the table's length", "added at the end, numbered from 1"
   pub schemes_limit : length (openings history.entered) ≤ most_schemes
   pub entries_limit : length history.entered ≤ most_entries
   pub in_table : length history.entered ≤ length start
-  pub schemes_once : EachOnce (λ e. e.scheme) (openings history.entered)
-  pub entries_once : EachOnce (λ e. e.entry) history.entered
+  pub schemes_in_order : InOrder (λ e. e.scheme) (openings history.entered)
+  pub entries_in_order : InOrder (λ e. e.entry) history.entered
   -- the scheme of every entry was opened
   pub schemes_opened : All (λ e. times (λ o. o.scheme) e.scheme (openings history.entered) ≡ 1) history.entered
   -- "Over all accepted requests, cost entered = charged to applicants + borne by the company."
   pub reconciled : cost_entered history ≡ charged history + borne history
-  -- number, file and place of a refusal and the reconciliation's figures included
+  -- number, file and place of a refusal and the reconciliation's figures included: each answer, as its ending tells it
   pub answered : answers ≡ answers_of (length start) calls
-  -- and in document 01's numbers and values
-  pub endings : map call_ending answers ≡ map call_ending (answers_of (length start) calls)
   pub never_13 : All Not13 answers
   -- "the ledger and the table show the same": the ledger with all 64 places, the entries, and past the last entry what stood there at the start
   pub ledger_shows : after.ledger ≡ ledger_in history

@@ -1,11 +1,12 @@
 -- The laws that the functions of src/ are there for, one statement each; the proofs stand in proofs/.
-use Rattle.std.specs.Prelude.{ℕ, ◌≡◌, List, length, Ok, ◌+◌, cond, eqb, None, Option, Some}
+use Rattle.std.specs.Prelude.{ℕ, ◌≤◌, ◌<◌, ◌≡◌, List, length, Ok, ◌+◌, cond, eqb, None, Option, Some}
 use Rattle.ledger.specs.Records.{new_ledger}
 use Rattle.ledger.specs.declared.records.Party.{Party}
 use Rattle.calls.specs.Decision.{Call, CallAnswer, accept, is_accepted, is_done, is_refused}
 use Rattle.calls.specs.Carried.{State}
 use Rattle.calls.specs.Calls.{state_of, Trace, AllFit}
-use Rattle.history.specs.History.{History, account_of, with_call, answer_by, history_of, credited_to, cost, joinings, collected, connections, charged, borne, cost_entered}
+use Rattle.history.specs.History.{Entering, History, account_of, with_call, answer_by, history_of, credited_to, times, cost, joinings, collected, connections, charged, borne, cost_entered}
+use Rattle.history.specs.DemandThree.{InOrder}
 use Rattle.history.specs.ShownState.{ShownState}
 use Rattle.charge.specs.Price.{price_of}
 use Rattle.charge.specs.declared.Bill.{Bill}
@@ -67,6 +68,16 @@ EveryListShown =
 abbrev pub TraceExists : Type 0
 TraceExists =
     (state : State) (calls : List Call) → (answers : List CallAnswer) × (after : State) × Trace state calls answers after
+
+-- Numbers from 1 on, each given once and no other: how often one was given is a sum of ones.
+pub record EachOnce {A : Type 0} (number : A → ℕ) (given : List A) : Type 0 where
+  pub once : (n : ℕ) → 1 ≤ n → n ≤ length given → times number n given ≡ 1
+  pub none_past : (n : ℕ) → length given < n → times number n given ≡ 0
+  pub none_at_0 : times number 0 given ≡ 0
+
+-- the numbers of schemes and entries, which `HoldsAfter` has in order
+abbrev pub InOrderIsEachOnce : Type 0
+InOrderIsEachOnce = (number : Entering → ℕ) (given : List Entering) → InOrder number given → EachOnce number given
 
 -- every accept in a list of calls
 abbrev pub EveryAcceptCounted : Type 0

@@ -6,7 +6,7 @@ ghost use Rattle.history.specs.Cases.Accounts.{MarkedHistory};
 ghost use Rattle.history.specs.Cases.BuildingOn.{BuiltOnHistory};
 ghost use Rattle.history.specs.Cases.Fair.{TightBounds};
 ghost use Rattle.history.specs.DemandThree.{EveryListOfCalls};
-ghost use Rattle.history.specs.Laws.{CreditedInJoinings, EveryAcceptCounted, EveryListShown, TraceExists};
+ghost use Rattle.history.specs.Laws.{CreditedInJoinings, EveryAcceptCounted, EveryListShown, InOrderIsEachOnce, TraceExists};
 
 /// After every list of calls all of `HoldsAfter` holds; each list of calls has such a trace.
 pub fn every_list_of_calls()
@@ -15,7 +15,13 @@ pub fn every_list_of_calls()
     ensures exists { TraceExists }
 {}
 
+/// Numbers given in order are given once each.
+pub fn numbers_once()
+    ensures { InOrderIsEachOnce }
+{}
+
 /// What a call adds to the figures, by its answer alone.
+#[tactic(auto, using(crate::proofs::Theorems::CreditedGrows::credited_in_joinings))]
 pub fn counted_by_answers()
     ensures accepts { EveryAcceptCounted }
     ensures others { CreditedInJoinings }

@@ -1,6 +1,5 @@
 pub mod Columns
 pub mod Table
-pub mod Crediting
 pub mod Lookup
 pub mod Sound
 pub mod RefusalNumbers

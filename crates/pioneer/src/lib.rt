@@ -2,7 +2,7 @@
 // table itself, and writes to it once nothing can be refused any more.
 #![tactic(auto)]
 
-ghost use Rattle.std.specs.Prelude.{◌≡◌};
+ghost use Rattle.stored.specs.Promises.{ReadPromised};
 ghost use Rattle.stored.specs.Reading.{read_of};
 
 pub use acceptance::accept::accept;
@@ -11,11 +11,8 @@ use ledger::records::{Ledger, Party};
 pub use stored_writing::write;
 use tagged::file::FileAnswer;
 
-#[tactic(auto, using(crate::proofs::Readings::refused_end))]
 pub fn read(ledger: &mut Ledger, table: &mut [Party], file: &[u8]) -> FileAnswer
-    ensures { (result ≡ (read_of ledger.old table.old file.now).answer)
-        × (ledger.new ≡ (read_of ledger.old table.old file.now).ledger)
-        × (table.new ≡ (read_of ledger.old table.old file.now).table) }
+    ensures { ReadPromised (read_of ledger.old table.old file.now) result ledger.new table.new }
 {
     let mut parties = ledger::records::no_parties();
     stored_reading::read(ledger, &mut parties, table.len(), file)?;

@@ -1,9 +1,11 @@
 -- The laws that the functions of src/laws.rt are there for, one statement each; the proofs stand in proofs/.
-use Rattle.std.specs.Prelude.{ℕ, ◌<◌, ◌≤◌, ◌^◌, ◌≡◌, ◌≢◌, false}
+use Rattle.std.specs.Prelude.{ℕ, ◌<◌, ◌≤◌, ◌^◌, ◌≡◌, ◌≢◌, [], ◌∷◌, ◌++◌, map, take, false, pos, Option}
 use Rattle.tagged.specs.declared.file.Refusal.{Refusal}
+use Rattle.calls.specs.CallEnding.{joining_values, opening_value}
+use Rattle.calls.specs.declared.answers.JoiningAnswer.{JoiningAnswer}
 use Rattle.quoting_unit.specs.Interface.{highest_place, is_refused, place_in, result_of, Lent}
 use Rattle.quoting_unit.specs.ResultParts.{ResultParts}
-use Rattle.quoting_unit.specs.Unit.{UnitCall, too_short, unit_call}
+use Rattle.quoting_unit.specs.Unit.{UnitCall, acceptance_places, too_short, unit_call}
 use Rattle.quoting_unit.specs.UnitPlaces.{FilesWithin, ending_of}
 use Rattle.quoting_unit.specs.UnitResults.{Results, IsDone, refusals_of}
 
@@ -34,6 +36,12 @@ CallPlaceTold =
 -- Document 01, 'How calls end': 0 exactly where the call is done, otherwise the number of a refusal that this call can come to
 abbrev pub UnitResults : Type 0
 UnitResults = (call : UnitCall) (lent : Lent) → Results ((too_short call lent ≡ false) × IsDone call lent) (refusals_of call) (unit_call call lent).result
+
+-- the answer's places before the last are the values with which accept ends: the joining's kind, entry and G, and the scheme opened
+abbrev pub AnswerPlacesTold : Type 0
+AnswerPlacesTold =
+    (joining : JoiningAnswer) (opening : Option ℕ) (size : ℕ) →
+    map pos (take 4 (acceptance_places joining opening size)) ≡ joining_values joining ++ (opening_value opening ∷ [])
 
 -- "A refusal .. changes nothing"
 abbrev pub RefusedChangesNoBuffer : Type 0

@@ -1,6 +1,6 @@
 // Theorems over the results of the static library's calls. Each function is there for its contract alone, a law on those definitions.
 
-ghost use Rattle.quoting_unit.specs.Laws.{CallPlaceTold, CallRefusalTold, EveryPlaceTold, EveryRefusalTold, NoRefusalIsDone, RefusedChangesNoBuffer, UnitResults};
+ghost use Rattle.quoting_unit.specs.Laws.{AnswerPlacesTold, CallPlaceTold, CallRefusalTold, EveryPlaceTold, EveryRefusalTold, NoRefusalIsDone, RefusedChangesNoBuffer, UnitResults};
 
 /// No refusal numbered 1 to 31 reads as done.
 #[tactic(auto, using(crate::proofs::Theorems::ResultParts::no_refusal_is_done))]
@@ -20,6 +20,12 @@ pub fn refusal_told()
 pub fn place_told()
     ensures all { EveryPlaceTold }
     ensures calls { CallPlaceTold }
+{}
+
+/// The answer's places before the last are the values with which accept ends.
+#[tactic(auto, using(crate::proofs::Theorems::AnswerPlaces::places_are_values))]
+pub fn answer_places_told()
+    ensures { AnswerPlacesTold }
 {}
 
 /// A call's result is 0 exactly where the call is done, otherwise it has the number of a refusal that the call can come to.

@@ -10,3 +10,4 @@ pub mod SameForm
 pub mod Writing
 pub mod RoundTrips
 pub mod StoredEnding
+pub mod Promises

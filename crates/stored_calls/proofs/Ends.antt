@@ -20,6 +20,7 @@ use Rattle.ledger.specs.declared.records.Ledger.{Ledger}
 use Rattle.calls.specs.Decision.{Call, CallAnswer}
 use Rattle.calls.specs.Carried.{State}
 use Rattle.calls.specs.Calls.{state_of, leaves, Fits}
+use Rattle.calls.proofs.Theorems.Promised.{promised_answers}
 use Rattle.kept_sound.proofs.Theorems.KeptSound.{call_keeps_sound, leaves_length}
 use Rattle.calls_on_records.specs.OnRecords.{SoundOnRecords, PromisedOnRecords}
 use Rattle.stored.specs.Form.{stored_form, stored_entries, stored_ledger}
@@ -123,5 +124,5 @@ module _ (file : List ℕ) {room : ℕ} {ledger : Ledger} {parties : List Party}
       let means = sound_means after (take room left) (length (take room left)) kept in
       let entries = take-take after.entries room left (omega (arith, means.in_table, length-take room left)) in
       ap (λ written. end_by answer written out) (form_of_sound after left (take room left) out (sym entries) kept)
-      ∙ (λ i. end_by (promise.promised.answers i) (write_of (promise.promised.leaving i).ledger (promise.promised.leaving i).table out) out)
+      ∙ (λ i. end_by (promised_answers _ _ _ _ promise.promised i) (write_of (promise.promised.leaving i).ledger (promise.promised.leaving i).table out) out)
       ∙ ap (λ end. call_on_read end call out) (sym same)

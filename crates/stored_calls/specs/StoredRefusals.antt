@@ -1,4 +1,5 @@
--- The numbers that the calls on stored bytes refuse with: reading's, the call's own and writing's.
+-- Which answers on stored bytes are no success, the length that the others tell, and the numbers that the calls refuse with: reading's, the call's own and
+-- writing's.
 use Rattle.std.specs.Prelude.{ℕ, List, [], ◌∷◌, Bool, true, false}
 use Rattle.tagged.specs.Refusals.{file_does_not_walk, check_differs, value_not_listed, zone_not_in_book, bespoke_not_allowed, scheme_never_opened, month_before_last, no_scheme_left, no_entry_left, no_connection_left, no_such_entry, pay_out_above_credit, ledger_unsound, output_too_short}
 use Rattle.calls.specs.Decision.{Call, accept, pay_out, hand_over}
@@ -10,6 +11,13 @@ is_made (not_read r) = false
 is_made (not_made r) = false
 is_made (made_accepted acceptance size) = true
 is_made (made_done size) = true
+
+-- the length that a call answers that was made
+abbrev pub length_in : StoredCallAnswer → ℕ
+length_in (not_read r) = 0
+length_in (not_made r) = 0
+length_in (made_accepted acceptance size) = size
+length_in (made_done size) = size
 
 -- ---- the numbers of the refusals
 abbrev pub stored_numbers : Call → List ℕ

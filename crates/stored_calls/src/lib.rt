@@ -10,6 +10,7 @@ ghost use Rattle.ledger.specs.Records.{no_parties, new_ledger};
 ghost use Rattle.calls.specs.Decision.{accept, pay_out, hand_over, of_accept, of_entry_call};
 ghost use Rattle.stored.specs.FormOutput.{form_end};
 ghost use Rattle.stored_calls.specs.StoredCalls.{of_stored_accept, of_stored_answer, stored_read, end_by, stored_call_of, new_stored_of, counts_of, check_stored_of};
+ghost use Rattle.stored_calls.specs.StoredPromises.{StoredPromised, CheckPromised};
 
 use calls::answers::{AcceptAnswer, Acceptance, Answer};
 use ledger::limits::Parties;
@@ -85,7 +86,7 @@ fn write_changed(
 
 // Each of the three calls reads, decides and writes, a line for each: one function over a closure for the decision would be no shorter.
 // File and room go side by side, as C hands them over: a pair would be made for one call and taken apart in `read_stored`.
-#[tactic(auto, using(crate::proofs::Ends::sound_here, crate::proofs::Ends::places_here, crate::proofs::Ends::counts_kept, crate::proofs::Ends::call_ends))]
+#[tactic(auto, using(crate::proofs::Ends::sound_here, crate::proofs::Ends::places_here, crate::proofs::Ends::counts_kept, crate::proofs::Ends::call_ends, crate::proofs::Theorems::StoredPromises::stored_promise))]
 pub fn accept_stored(
     file: &[u8],
     room: usize,
@@ -93,8 +94,7 @@ pub fn accept_stored(
     request: &[u8],
     out: &mut [u8],
 ) -> Result<StoredAcceptance, StoredRefusal>
-    ensures result_value { of_stored_accept result ≡ (stored_call_of file.now room (accept book.now request.now) out.old).answer }
-    ensures out_after { out.new ≡ (stored_call_of file.now room (accept book.now request.now) out.old).output }
+    ensures { StoredPromised (stored_call_of file.now room (accept book.now request.now) out.old) (of_stored_accept result) out.new }
 {
     let mut ledger = ledger::records::new_ledger();
     let mut parties = ledger::records::no_parties();
@@ -103,7 +103,7 @@ pub fn accept_stored(
     write_accepted(answer, &ledger, &parties, out)
 }
 
-#[tactic(auto, using(crate::proofs::Ends::sound_here, crate::proofs::Ends::counts_kept, crate::proofs::Ends::call_ends))]
+#[tactic(auto, using(crate::proofs::Ends::sound_here, crate::proofs::Ends::counts_kept, crate::proofs::Ends::call_ends, crate::proofs::Theorems::StoredPromises::stored_promise))]
 pub fn pay_out_stored(
     file: &[u8],
     room: usize,
@@ -111,8 +111,7 @@ pub fn pay_out_stored(
     amount: u64,
     out: &mut [u8],
 ) -> Result<usize, StoredRefusal>
-    ensures result_value { of_stored_answer result ≡ (stored_call_of file.now room (pay_out entry amount) out.old).answer }
-    ensures out_after { out.new ≡ (stored_call_of file.now room (pay_out entry amount) out.old).output }
+    ensures { StoredPromised (stored_call_of file.now room (pay_out entry amount) out.old) (of_stored_answer result) out.new }
 {
     let mut ledger = ledger::records::new_ledger();
     let mut parties = ledger::records::no_parties();
@@ -121,7 +120,7 @@ pub fn pay_out_stored(
     write_changed(answer, &ledger, &parties, out)
 }
 
-#[tactic(auto, using(crate::proofs::Ends::sound_here, crate::proofs::Ends::counts_kept, crate::proofs::Ends::call_ends))]
+#[tactic(auto, using(crate::proofs::Ends::sound_here, crate::proofs::Ends::counts_kept, crate::proofs::Ends::call_ends, crate::proofs::Theorems::StoredPromises::stored_promise))]
 pub fn hand_over_stored(
     file: &[u8],
     room: usize,
@@ -129,8 +128,7 @@ pub fn hand_over_stored(
     person: u32,
     out: &mut [u8],
 ) -> Result<usize, StoredRefusal>
-    ensures result_value { of_stored_answer result ≡ (stored_call_of file.now room (hand_over entry person) out.old).answer }
-    ensures out_after { out.new ≡ (stored_call_of file.now room (hand_over entry person) out.old).output }
+    ensures { StoredPromised (stored_call_of file.now room (hand_over entry person) out.old) (of_stored_answer result) out.new }
 {
     let mut ledger = ledger::records::new_ledger();
     let mut parties = ledger::records::no_parties();
@@ -140,10 +138,9 @@ pub fn hand_over_stored(
 }
 
 // The stored form of a new ledger, which every list of calls starts from.
-#[tactic(auto, using(crate::proofs::Ends::new_form))]
+#[tactic(auto, using(crate::proofs::Ends::new_form, crate::proofs::Theorems::StoredPromises::new_promise))]
 pub fn new_stored(out: &mut [u8]) -> Result<usize, StoredRefusal>
-    ensures result_value { of_stored_answer result ≡ (new_stored_of out.old).answer }
-    ensures out_after { out.new ≡ (new_stored_of out.old).output }
+    ensures { StoredPromised (new_stored_of out.old) (of_stored_answer result) out.new }
 {
     let ledger = ledger::records::new_ledger();
     stored_writing::write_form(&ledger, &[], out).map_err(StoredRefusal::NotMade)
@@ -164,8 +161,9 @@ impl From<&Ledger> for StoredCounts {
     }
 }
 
+#[tactic(auto, using(crate::proofs::Theorems::StoredPromises::check_promise))]
 pub fn check_stored(file: &[u8], room: usize) -> Result<StoredCounts, Refusal>
-    ensures { result ≡ check_stored_of file.now room }
+    ensures { CheckPromised (check_stored_of file.now room) result }
 {
     let mut ledger = ledger::records::new_ledger();
     let mut parties = ledger::records::no_parties();

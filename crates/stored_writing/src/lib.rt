@@ -13,6 +13,7 @@ ghost use Rattle.stored.specs.Layout.{head_values};
 ghost use Rattle.stored.proofs.Theorems.Form.{scheme_size, party_size};
 ghost use Rattle.stored.specs.Writing.{form_answer, write_of};
 ghost use Rattle.stored.specs.FormOutput.{form_output};
+ghost use Rattle.stored.specs.Promises.{WritePromised};
 
 use ledger::records::{Ledger, Party, Scheme};
 use numbers::big_endian::BigEndian;
@@ -175,10 +176,9 @@ pub fn write_form(ledger: &Ledger, table: &[Party], out: &mut [u8]) -> Written
 }
 
 // The same once the ledger is found to be sound.
-#[tactic(auto, using(ledger::proofs::Theorems::Sound::sound_means), unfolding(stored::specs::Writing::written_answer))]
+#[tactic(auto, using(ledger::proofs::Theorems::Sound::sound_means, stored::proofs::Theorems::Promises::write_promise), unfolding(stored::specs::Writing::written_answer))]
 pub fn write(ledger: &Ledger, table: &[Party], out: &mut [u8]) -> Written
-    ensures value { result ≡ (write_of ledger.now table.now out.old).answer }
-    ensures out_after { out.new ≡ (write_of ledger.now table.now out.old).output }
+    ensures { WritePromised (write_of ledger.now table.now out.old) result out.new }
 {
     if !ledger::sound::is_sound(ledger, table) {
         return Err(Refusal::of_call(LEDGER_UNSOUND));

@@ -300,7 +300,7 @@ module _ (state : State) (book request : List ℕ) (places : length state.ledger
 -- "A refusal returns number, file .. and place, and changes nothing."
 pub accept_refused_changes_nothing : (state : State) (book request : List ℕ) {r : Refusal} → answered state (accept book request) ≡ is_refused r →
     leaves state (accept book request) ≡ state
-accept_refused_changes_nothing state book request e = refused_changes_nothing state (accept book request) e
+accept_refused_changes_nothing state book request e = refused_changes_nothing state (accept book request) _ e
 
 pub accept_refusal_numbers : (state : State) (book request : List ℕ) → AcceptRefuses (price_of book request) (answered state (accept book request))
 unfolding answered

@@ -1,35 +1,23 @@
 -- The plan by what it goes by, and what its steps leave of the counts.
-use Rattle.std.specs.Prelude.{ℕ, ◌+◌, ◌≤◌, ◌≡◌, refl, List, true, false, None, Option, Some}
+use Rattle.std.specs.Prelude.{ℕ, ◌+◌, ◌≤◌, ◌≡◌, refl, List, true, None, Option, Some}
 use Rattle.std.proofs.Math.Path.{ap}
 use Rattle.std.proofs.Common.{arith}
-use Rattle.tagged.specs.File.{refusal}
-use Rattle.tagged.specs.Refusals.{ledger_unsound}
 use Rattle.charge.specs.declared.Bill.{Bill}
 use Rattle.charge.specs.Price.{Pricing}
 use Rattle.ledger.specs.Lookup.{scheme_place}
 use Rattle.ledger.specs.Sound.{sound}
 use Rattle.ledger.specs.declared.records.Party.{Party}
 use Rattle.ledger.specs.declared.records.Ledger.{Ledger}
-use Rattle.calls.specs.Verdict.{entries_of_joining, verdict, Verdict}
+use Rattle.calls.specs.Verdict.{entries_of_joining}
 use Rattle.calls.specs.declared.courses.Joining.{Joining}
 use Rattle.calls.specs.declared.courses.Joining.TheVariants.{NotAsked, Ended, Small, Pays}
-use Rattle.verdict.specs.Snapshot.{snapshot_books}
-use Rattle.acceptance.specs.Plan.{fee_at_place, joined_ledger, joiner_added, refused_plan, verdict_plan, bill_plan, priced_plan, plan_of}
+use Rattle.acceptance.specs.Plan.{fee_at_place, joined_ledger, priced_plan, plan_of}
 
 module _ (ledger : Ledger) (parties : List Party) (room : ℕ) where
-  pub plan_refused_13 : (pricing : Pricing) → sound ledger parties room ≡ false → plan_of ledger parties room pricing ≡ refused_plan ledger (refusal ledger_unsound 0 0)
-  unfolding plan_of
-  plan_refused_13 pricing unsound = rw unsound
-
   pub plan_priced : {pricing answer : Pricing} → sound ledger parties room ≡ true → pricing ≡ answer →
       plan_of ledger parties room pricing ≡ priced_plan ledger parties room answer
   unfolding plan_of
   plan_priced stands e = rw stands (ap (priced_plan ledger parties room) e)
-
-  pub bill_planned : (bill : Bill) {v : Verdict} → verdict (snapshot_books ledger parties room) bill ≡ v →
-      bill_plan ledger parties room bill ≡ verdict_plan ledger parties room bill v
-  unfolding bill_plan
-  bill_planned bill e = ap (verdict_plan ledger parties room bill) e
 
 -- a joining leaves the number of schemes, and counts the entry that it needs
 fee_count : (at : Option ℕ) (fee : ℕ) (ledger : Ledger) → (fee_at_place at fee ledger).count ≡ ledger.count
@@ -52,9 +40,3 @@ joined_entries NotAsked bill ledger = omega arith
 joined_entries Ended bill ledger = omega arith
 joined_entries Small bill ledger = omega arith
 joined_entries (Pays paid) bill ledger = fee_entries (scheme_place ledger.count bill.applicant.scheme) _ _
-
-pub one_joiner : (bill : Bill) (joining : Joining) → (joiner_added bill joining).count ≤ 1
-one_joiner bill NotAsked = omega arith
-one_joiner bill Ended = omega arith
-one_joiner bill Small = omega arith
-one_joiner bill (Pays paid) = omega arith

@@ -1,9 +1,7 @@
 -- A plan that accepts can be carried out.
-use Rattle.std.specs.Prelude.{ℕ, zero, suc, ◌+◌, ◌-◌, ◌<◌, ◌≤◌, ◌≡◌, refl, List, [], ◌∷◌, ◌++◌, Bool, true, false, length, take, get_or, replicate, Err, Ok}
-use Rattle.std.proofs.Common.{sym, ap, subst, ◌∙◌, arith, get_or-take, length-take-le}
-use Rattle.tagged.proofs.Theorems.Impossible.{impossible}
+use Rattle.std.specs.Prelude.{ℕ, zero, suc, ◌+◌, ◌-◌, ◌<◌, ◌≤◌, ◌≡◌, refl, List, [], ◌∷◌, ◌++◌, Bool, true, false, length, take, get_or, replicate}
+use Rattle.std.proofs.Common.{subst, arith, get_or-take, length-take-le}
 use Rattle.charge.specs.declared.Bill.{Bill}
-use Rattle.charge.specs.Price.{Pricing}
 use Rattle.ledger.specs.Limits.{most_schemes, most_entries, highest_put_in, highest_credited}
 use Rattle.ledger.specs.Records.{no_party}
 use Rattle.ledger.proofs.Theorems.Lookup.{placed_scheme}
@@ -14,22 +12,19 @@ use Rattle.ledger.specs.SoundConditions.{SoundLedger}
 use Rattle.ledger.proofs.Theorems.Sound.{sound_means, some_capacity, cost_at_most}
 use Rattle.ledger.specs.declared.records.Party.{Party}
 use Rattle.ledger.specs.declared.records.Ledger.{Ledger}
-use Rattle.calls.proofs.Theorems.Lists.{by_test}
 use Rattle.calls.specs.CreditColumns.{credits}
 use Rattle.calls.proofs.Theorems.CreditColumns.{get_or_le_sum, credits_sum}
-use Rattle.calls.specs.Verdict.{entries_needed, verdict, Verdict}
-use Rattle.calls.proofs.Theorems.VerdictConditions.{CourseConditions, course_conditions, pays_at}
+use Rattle.calls.specs.Verdict.{entries_needed}
+use Rattle.calls.proofs.Theorems.VerdictConditions.{CourseConditions, pays_at}
 use Rattle.calls.specs.VerdictConditions.{PaysAt}
 use Rattle.calls.specs.declared.courses.Joining.{Joining}
 use Rattle.calls.specs.declared.courses.Joining.TheVariants.{NotAsked, Ended, Small, Pays}
 use Rattle.calls.specs.declared.courses.Course.{Course}
 use Rattle.verdict.specs.Snapshot.{snapshot_books}
 use Rattle.verdict.proofs.Theorems.Snapshot.{snapshot_counted}
-use Rattle.acceptance.specs.Plan.{credits_by, joiner_added, opener_added, course_plan, verdict_plan, priced_plan, plan_of}
-use Rattle.acceptance.proofs.Theorems.Plan.{plan_refused_13, plan_priced, bill_planned}
+use Rattle.acceptance.specs.Plan.{credits_by, joiner_added, opener_added, course_plan}
 use Rattle.acceptance.proofs.Theorems.PlanNeeds.{where_needed, course_pays}
-use Rattle.acceptance.specs.PlanFits.{PlanFits, FitsIfAccepted}
-use Rattle.acceptance.specs.PlanCarried.{Plan}
+use Rattle.acceptance.specs.PlanFits.{PlanFits}
 
 -- ---- the entries that are added are those that the course needs
 pub added_count : (number : ℕ) (bill : Bill) (joining : Joining) (opens : Bool) →
@@ -113,23 +108,3 @@ module _ (ledger : Ledger) (parties : List Party) (room : ℕ) (places : length 
                 λ i within.
                 omega (arith, padded_at figures (most_entries - length figures) i, credit_at_most course.joining refl i, credited_at_most i within);
           }
-
-    bill_fits : (bill : Bill) (v : Verdict) → verdict (snapshot_books ledger parties room) bill ≡ v →
-        FitsIfAccepted ledger.entries room parties (verdict_plan ledger parties room bill v)
-    bill_fits bill (Ok course) accepts acceptance e =
-        course_fits bill course (course_conditions (snapshot_books ledger parties room) bill course accepts)
-    bill_fits bill (Err r) refuses acceptance e = impossible cc
-
-    priced_fits : (pricing : Pricing) → FitsIfAccepted ledger.entries room parties (priced_plan ledger parties room pricing)
-    priced_fits (Ok bill) =
-        subst (FitsIfAccepted ledger.entries room parties) (sym (bill_planned ledger parties room bill refl))
-        (bill_fits bill (verdict (snapshot_books ledger parties room) bill) refl)
-    priced_fits (Err r) = λ acceptance e. impossible cc
-
-  pub plan_fits : (pricing : Pricing) → FitsIfAccepted ledger.entries room parties (plan_of ledger parties room pricing)
-  plan_fits pricing =
-      by_test (sound ledger parties room)
-      (λ stands. subst (FitsIfAccepted ledger.entries room parties) (sym (plan_priced ledger parties room stands refl)) (priced_fits stands pricing))
-      (λ unsound acceptance e.
-      let told = sym (ap (λ (plan : Plan). plan.answer) (plan_refused_13 ledger parties room pricing unsound)) ∙ e in
-      impossible cc)

@@ -14,8 +14,8 @@ use Rattle.calls.specs.Carried.{State, books_on}
 use Rattle.calls.specs.Calls.{decided_on, answered}
 use Rattle.calls.specs.CallRefusals.{call_numbers, Refuses}
 use Rattle.calls.proofs.Theorems.Calls.{refusal_numbers}
-use Rattle.calls.specs.CallEnding.{joining_values, opening_value, acceptance_values, call_ending}
-use Rattle.calls.specs.CallEndingTests.{SchemeNumbered, Numbered, not_refused}
+use Rattle.calls.specs.CallEnding.{joining_values, opening_value, acceptance_values, call_ending, SchemeNumbered, Numbered}
+use Rattle.calls.specs.CallEndingTests.{not_refused}
 use Rattle.calls.specs.declared.answers.Acceptance.{Acceptance}
 use Rattle.calls.specs.declared.answers.JoiningAnswer.{JoiningAnswer}
 use Rattle.calls.specs.declared.answers.JoiningAnswer.TheVariants.{NotAsked, Ended, Small, Joined}

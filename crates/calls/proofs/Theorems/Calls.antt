@@ -1,7 +1,5 @@
--- What holds of every call alike: a refusal changes nothing and has one of its call's numbers, and a promise can be kept.
-use Rattle.std.specs.Prelude.{ℕ, ◌+◌, ◌≡◌, refl, List, true, false, length, leb, Err, Ok, None, Some, Option}
-use Rattle.std.proofs.Common.{ap}
-use Rattle.tagged.specs.File.{refusal}
+-- What holds of every call alike: a refusal changes nothing and has one of its call's numbers.
+use Rattle.std.specs.Prelude.{ℕ, ◌+◌, ◌≡◌, refl, List, true, length, leb, Err, Ok, None, Some, Option}
 use Rattle.tagged.proofs.Theorems.Impossible.{impossible}
 use Rattle.tagged.specs.Refusals.{ledger_unsound}
 use Rattle.tagged.specs.declared.file.Refusal.{Refusal}
@@ -15,17 +13,12 @@ use Rattle.ledger.specs.NumberLists.{Among}
 use Rattle.ledger.proofs.Theorems.RefusalNumbers.{one_of_more, within_one_to}
 use Rattle.calls.specs.Decision.{Call, CallAnswer, accept, pay_out, hand_over, Decision, accepted, paid_out, handed_over, refused, decided_by, accept_by, pay_out_by, hand_over_by, decided, is_accepted, is_done, is_refused, answer_to}
 use Rattle.calls.specs.Carried.{State, books_on, carried_out}
-use Rattle.calls.specs.CallEnding.{call_ending}
-use Rattle.calls.specs.Calls.{answered, leaves, Promised, decided_on}
+use Rattle.calls.specs.Calls.{answered, leaves, decided_on}
 use Rattle.calls.proofs.Theorems.Lists.{by_cond}
 use Rattle.calls.specs.Verdict.{verdict, Verdict}
 use Rattle.calls.specs.VerdictConditions.{verdict_numbers}
 use Rattle.calls.proofs.Theorems.VerdictConditions.{verdict_by}
 use Rattle.calls.specs.CallRefusals.{rule_numbers, call_numbers, Refuses}
-
-pub promise_from : {before : State} {call : Call} {answer : CallAnswer} {after : State} → answer ≡ answered before call → after ≡ leaves before call →
-    Promised before call answer after
-promise_from answers leaving = record { answers = answers; ends = ap call_ending answers; leaving = leaving }
 
 refused_leaves : (state : State) (books : Books) (decision : Decision) {r : Refusal} → answer_to books decision ≡ is_refused r → carried_out state decision ≡ state
 refused_leaves state books (accepted bill course credits) e = impossible cc
@@ -34,18 +27,9 @@ refused_leaves state books (handed_over entry person) e = impossible cc
 refused_leaves state books (refused r) e = refl
 
 -- "A refusal returns number, file .. and place, and changes nothing."
-pub refused_changes_nothing : (state : State) (call : Call) {r : Refusal} → answered state call ≡ is_refused r → leaves state call ≡ state
+pub refused_changes_nothing : (state : State) (call : Call) (r : Refusal) → answered state call ≡ is_refused r → leaves state call ≡ state
 unfolding answered leaves
-refused_changes_nothing state call e = refused_leaves state (books_on state) (decided_on state call) e
-
--- 13, whatever the call
-pub unsound_promised : (state : State) (call : Call) → sound state.ledger state.table (length state.table) ≡ false →
-    Promised state call (is_refused (refusal ledger_unsound 0 0)) state
-unfolding answered leaves
-unsound_promised state call unsound = promise_from (rw unsound) (rw unsound)
-
-pub promise_kept : (before : State) (call : Call) → Promised before call (answered before call) (leaves before call)
-promise_kept before call = promise_from refl refl
+refused_changes_nothing state call r e = refused_leaves state (books_on state) (decided_on state call) e
 
 -- what answers a decision
 abbrev pub RefusesAmong : Books → List ℕ → Decision → Type 0

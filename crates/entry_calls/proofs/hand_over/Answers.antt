@@ -1,6 +1,6 @@
 -- 13, and then the change that keeps the promise.
 use Rattle.std.proofs.Common.{sym, ◌∙◌}
-use Rattle.calls.proofs.Theorems.Calls.{unsound_promised}
+use Rattle.calls.proofs.Theorems.Promised.{unsound_promised}
 use Rattle.entry_calls.proofs.Kept.{hand_over_kept}
 use Rattle.entry_calls.proofs.hand_over.Goals as goal
 

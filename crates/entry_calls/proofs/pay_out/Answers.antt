@@ -1,6 +1,6 @@
 -- 13, and then the change that keeps the promise.
 use Rattle.std.proofs.Common.{sym, ◌∙◌}
-use Rattle.calls.proofs.Theorems.Calls.{unsound_promised}
+use Rattle.calls.proofs.Theorems.Promised.{unsound_promised}
 use Rattle.entry_calls.proofs.Kept.{pay_out_kept}
 use Rattle.entry_calls.proofs.pay_out.Goals as goal
 

@@ -1,21 +1,20 @@
 -- Demand 3: after every list of accept, pay-out and hand-over calls from a new ledger on one party table, refused calls among them.
-use Rattle.std.specs.Prelude.{ℕ, ◌≡◌, refl, List, [], ◌∷◌, map, length, take, drop}
+use Rattle.std.specs.Prelude.{ℕ, ◌≡◌, refl, List, [], ◌∷◌, length, take, drop}
 use Rattle.std.proofs.Common.{sym, ap, ap₂, subst, ◌∙◌, drop_at}
 use Rattle.ledger.specs.Lists.{All, nil, more}
 use Rattle.ledger.specs.Records.{new_ledger}
 use Rattle.ledger.specs.declared.records.Party.{Party}
 use Rattle.calls.specs.Decision.{Call, CallAnswer}
 use Rattle.calls.specs.Carried.{State}
-use Rattle.calls.specs.CallEnding.{call_ending}
 use Rattle.calls.specs.Calls.{state_of, answered, leaves, Trace, AllFit}
 use Rattle.calls.proofs.Theorems.Lists.{all_by_key}
 use Rattle.calls.specs.Calls as calling
-use Rattle.calls.proofs.Theorems.Calls.{promise_from}
+use Rattle.calls.proofs.Theorems.Promised.{promised_answers, promise_from}
 use Rattle.history.specs.History.{Entering, History, account_of, openings, books_in, party_in, parties_in, with_call, answer_by, history_from, answers_from, history_of}
 use Rattle.history.specs.DemandThree.{PartyHolds, Not13, EveryListOfCalls}
 use Rattle.history.proofs.Theorems.SoundAccount.{balanced, parties_hold}
 use Rattle.history.proofs.Theorems.SoundHistory.{numbered_in, schemes_opened}
-use Rattle.history.proofs.Theorems.Numbering.{each_once, length_shown}
+use Rattle.history.proofs.Theorems.Numbering.{in_order, length_shown}
 use Rattle.history.proofs.Theorems.Shows.{entries_on_lem}
 use Rattle.history.proofs.Theorems.NeverUnsound.{decided_not_13}
 use Rattle.history.specs.ShownState.{ShownState}
@@ -31,7 +30,7 @@ after_trace : {start : List Party} {h : History} {calls : List Call} {answers : 
 unfolding history_from answers_from
 after_trace shown fit calling.none = record { shown = shown; answers_are = refl; not_13 = nil }
 after_trace {start} {h} {state} shown fit (calling.more {between} {call} promise trace) =
-    let first : _ ≡ answer_by (length start) h call = promise.answers ∙ shown_answer start h state shown call in
+    let first : _ ≡ answer_by (length start) h call = promised_answers _ _ _ _ promise ∙ shown_answer start h state shown call in
     let next : ShownState start (with_call (length start) h call) between =
     subst (ShownState start (with_call (length start) h call)) (sym promise.leaving) (shown_step start h state shown call fit.0) in
     let later = after_trace {h = with_call (length start) h call} next fit.1 trace in
@@ -59,12 +58,11 @@ every_list_of_calls start calls answers after fit trace =
       schemes_limit = within.schemes_limit;
       entries_limit = within.entries_limit;
       in_table = within.in_table;
-      schemes_once = each_once (λ (e : Entering). e.scheme) (openings h.entered) sound.numbers.schemes_counted;
-      entries_once = each_once (λ (e : Entering). e.entry) h.entered sound.numbers.entries_counted;
+      schemes_in_order = in_order (λ (e : Entering). e.scheme) (openings h.entered) sound.numbers.schemes_counted;
+      entries_in_order = in_order (λ (e : Entering). e.entry) h.entered sound.numbers.entries_counted;
       schemes_opened = schemes_opened h sound;
       reconciled = sound.bills_add_up;
       answered = end.answers_are;
-      endings = ap (map call_ending) end.answers_are;
       never_13 = end.not_13;
       ledger_shows = ap (λ (state : State). state.ledger) end.shown.shows;
       entries_show = ap (λ (state : State). take (length h.entered) state.table) end.shown.shows ∙ entries_on_lem start h;

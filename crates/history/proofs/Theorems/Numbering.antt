@@ -1,40 +1,63 @@
 -- Numbers from 1 in the order of coming, where the newest stands first.
-use Rattle.std.specs.Prelude.{ℕ, suc, ◌+◌, ◌≤◌, ◌<◌, ◌≡◌, refl, List, [], ◌∷◌, ◌++◌, map, length, eqb}
+use Rattle.std.specs.Prelude.{ℕ, zero, suc, ◌+◌, ◌≤◌, ◌<◌, ◌≡◌, refl, List, [], ◌∷◌, ◌++◌, map, length, cond, eqb}
+use Rattle.std.specs.List.{range_with_len}
 use Rattle.std.proofs.Common.{sym, ap, ap₂, ◌∙◌, arith, add-zero, length-append, eqb-true}
 use Rattle.std.proofs.lemmas.List.{map-append, length-map}
 use Rattle.std.proofs.lemmas.Bool.{eqb-false}
 use Rattle.ledger.specs.Lists.{numbered_from, oldest_first, All}
-use Rattle.calls.proofs.Theorems.Lists.{by_test, map_same, all_in_order}
+use Rattle.calls.proofs.Theorems.Lists.{by_test, map_same, all_in_order, sum_by_in_order, sum_by_map}
 use Rattle.calls.proofs.Theorems.Rules.{where_other}
 use Rattle.history.specs.History.{times}
-use Rattle.history.specs.DemandThree.{EachOnce}
+use Rattle.history.specs.DemandThree.{InOrder}
+use Rattle.history.specs.Laws.{EachOnce}
 use Rattle.history.specs.SoundHistory.{Counted}
 
--- each number up to their count was given once, and no other
-module _ {A : Type 0} (number : A → ℕ) (n : ℕ) where
-  counted_none : (xs : List A) → Counted number xs → ((place : ℕ) → place < length xs → place + 1 ≡ n → ⊥) → times number n xs ≡ 0
-  counted_none [] counted apart = refl
-  counted_none (x ∷ older) counted apart =
-      omega (
-        arith,
-        counted_none older counted.1 (λ place below. apart place (omega arith)),
-        where_other (number x) n 1 (λ same. apart (length older) (omega arith) (sym counted.0 ∙ same)),
-      )
+range_last : (first count : ℕ) → range_with_len first (suc count) ≡ range_with_len first count ++ ((first + count) ∷ [])
+range_last first zero = ap (λ (n : ℕ). n ∷ []) (sym (add-zero first))
+range_last first (suc count) =
+    let next : first + 1 + count ≡ first + suc count = omega arith in
+    ap (λ (l : List ℕ). first ∷ l) (range_last (first + 1) count ∙ ap (λ (n : ℕ). range_with_len (first + 1) count ++ (n ∷ [])) next)
 
-  counted_once : (xs : List A) → Counted number xs → 1 ≤ n → n ≤ length xs → times number n xs ≡ 1
-  counted_once [] counted some within = absurd (omega arith)
-  counted_once (x ∷ older) counted some within =
-      by_test (eqb (number x) n)
-      (λ here. rw here (omega (arith, counted_none older counted.1 (λ place below same. omega (arith, eqb-true (number x) n here, counted.0)))))
-      (λ elsewhere.
-      rw elsewhere (omega (arith, counted_once older counted.1 some (omega (arith, eqb-false (number x) n elsewhere, counted.0)))))
+pub in_order : {A : Type 0} (number : A → ℕ) (xs : List A) → Counted number xs → InOrder number xs
+in_order number [] counted = refl
+in_order number (x ∷ older) counted =
+    let here : number x ≡ 1 + length older = omega (arith, counted.0) in
+    map-append number (oldest_first older) (x ∷ [])
+    ∙ ap₂ (λ (l : List ℕ) (n : ℕ). l ++ (n ∷ [])) (in_order number older counted.1) here
+    ∙ sym (range_last 1 (length older))
 
-pub each_once : {A : Type 0} (number : A → ℕ) (xs : List A) → Counted number xs → EachOnce number xs
-each_once number xs counted =
+-- ---- numbers in order are given once each
+abbrev times_in : ℕ → List ℕ → ℕ
+times_in n given = times (λ m. m) n given
+
+none_in_range : (n first count : ℕ) → ((m : ℕ) → first ≤ m → m < first + count → m ≡ n → ⊥) → times_in n (range_with_len first count) ≡ 0
+none_in_range n first zero apart = refl
+none_in_range n first (suc count) apart =
+    omega (
+      arith,
+      where_other first n 1 (apart first (omega arith) (omega arith)),
+      none_in_range n (first + 1) count (λ m from below. apart m (omega arith) (omega arith)),
+    )
+
+once_in_range : (n first count : ℕ) → first ≤ n → n < first + count → times_in n (range_with_len first count) ≡ 1
+once_in_range n first zero from below = absurd (omega arith)
+once_in_range n first (suc count) from below =
+    by_test (eqb first n)
+    (λ here. rw here (let same = eqb-true first n here in omega (arith, none_in_range n (first + 1) count (λ m from below same_later. omega arith))))
+    (λ later. rw later (let apart = eqb-false first n later in omega (arith, once_in_range n (first + 1) count (omega arith) (omega arith))))
+
+times_in_order : {A : Type 0} (number : A → ℕ) (n : ℕ) (xs : List A) → InOrder number xs → times number n xs ≡ times_in n (range_with_len 1 (length xs))
+times_in_order number n xs ordered =
+    sym (sum_by_in_order (λ x. cond (eqb (number x) n) 1 0) xs)
+    ∙ sym (sum_by_map (λ m. cond (eqb m n) 1 0) number (oldest_first xs))
+    ∙ ap (times_in n) ordered
+
+pub each_once : {A : Type 0} (number : A → ℕ) (xs : List A) → InOrder number xs → EachOnce number xs
+each_once number xs ordered =
     record {
-      once = λ n. counted_once number n xs counted;
-      none_past = λ n past. counted_none number n xs counted (λ place below same. omega arith);
-      none_at_0 = counted_none number 0 xs counted (λ place below same. omega arith);
+      once = λ n from within. times_in_order number n xs ordered ∙ once_in_range n 1 (length xs) from (omega arith);
+      none_past = λ n past. times_in_order number n xs ordered ∙ none_in_range n 1 (length xs) (λ m from below same. omega arith);
+      none_at_0 = times_in_order number 0 xs ordered ∙ none_in_range 0 1 (length xs) (λ m from below same. omega arith);
     }
 
 pub length_in_order : {A : Type 0} (xs : List A) → length (oldest_first xs) ≡ length xs

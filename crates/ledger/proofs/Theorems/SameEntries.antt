@@ -37,9 +37,6 @@ module _ {ledger : Ledger} {parties others : List Party} {room other : ℕ} (sam
       by_counts true counts = ap more (counted_entries counts)
       by_counts false counts = refl
 
-  pub sound_entries : sound ledger others other ≡ true → take ledger.entries parties ≡ take ledger.entries others
-  sound_entries holds = let means = sound_means ledger parties room (same_sound ∙ holds) in same.entries means.entries means.in_table
-
 -- a snapshot of a table holds its entries
 pub snapshot_sound : (ledger : Ledger) (table parties : List Party) (room : ℕ) → take ledger.entries parties ≡ take ledger.entries table →
     sound ledger parties room ≡ sound ledger table room

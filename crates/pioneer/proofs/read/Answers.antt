@@ -1,6 +1,8 @@
--- A reading that stands has room for its entries, and stores them into the first records (standing_reads).
-use Rattle.std.proofs.Common.{refl}
-use Rattle.pioneer.proofs.Readings.{Reads, standing_reads}
+-- A reading that stands has room for its entries, and stores them into the first records (standing_reads); one that is refused leaves both (refused_end).
+use Rattle.std.proofs.Common.{sym, ap, ◌∙◌, rules}
+use Rattle.stored.specs.Reading.{ReadEnd}
+use Rattle.stored.proofs.Theorems.Promises.{read_promise}
+use Rattle.pioneer.proofs.Readings.{refused_end, Reads, standing_reads}
 use Rattle.pioneer.proofs.read.Goals as goal
 use Rattle.pioneer.proofs.read.Goals.{In_ok-read}
 
@@ -17,4 +19,9 @@ pub store_each-requires : goal.store_each-requires
 store_each-requires c = (reads (goal.at.store_each-requires c).In_ok-read).room
 
 pub returns : goal.returns
-returns c = rw (reads (goal.at.returns c).In_ok-read).ends (refl, refl, c.store_each.ensures)
+returns c =
+    let end = sym (reads (goal.at.returns c).In_ok-read).ends in
+    read_promise _ _ _ (ap (λ (e : ReadEnd). e.answer) end) (ap (λ (e : ReadEnd). e.ledger) end) (c.store_each.ensures ∙ ap (λ (e : ReadEnd). e.table) end)
+
+pub returns-in_err-read : goal.returns-in_err-read
+returns-in_err-read c = read_promise _ _ _ (search (rules, refused_end)) (search (rules, refused_end)) (search (rules, refused_end))

@@ -6,7 +6,7 @@ use Rattle.std.proofs.lemmas.Bool.{lt-leb}
 use Rattle.tagged.proofs.Theorems.Impossible.{impossible}
 use Rattle.tagged.specs.File.{file_answer, fields_part, refusal, FileAnswer}
 use Rattle.tagged.proofs.Theorems.File.{RefusesTo, file_refusal_numbers}
-use Rattle.tagged.specs.Refusals.{check_differs, value_not_listed, no_entry_left, ledger_unsound}
+use Rattle.tagged.specs.Refusals.{check_differs, no_entry_left, ledger_unsound}
 use Rattle.tagged.specs.declared.file.Refusal.{Refusal}
 use Rattle.field_values.specs.Judged.{judge_letters, Judged}
 use Rattle.ledger.specs.Lists.{at_start}
@@ -42,17 +42,10 @@ module _ (room : ℕ) (s : List ℕ) where
   read_done fits holds = rw (le-leb _ _ fits, holds)
 
   -- the letters are judged before
-  pub read_refused_3 : (at : ℕ) → judge_letters letters s ≡ Err at → fields_answer room s ≡ Err (refusal value_not_listed 1 at)
-  read_refused_3 at e = ap (λ judged. in_turn (letters_answer judged) (table_answer room s)) e
-
   pub read_lettered : judge_letters letters s ≡ Ok tt → fields_answer room s ≡ table_answer room s
   read_lettered e = ap (λ judged. in_turn (letters_answer judged) (table_answer room s)) e
 
 module _ (room : ℕ) (file : List ℕ) where
-  pub read_refused_file : (r : Refusal) → file_answer stored_rows 1 file ≡ Err r → read_answer room file ≡ Err r
-  unfolding read_answer
-  read_refused_file r e = ap (λ first. in_turn first (fields_answer room (fields_part file))) e
-
   pub read_standing : file_answer stored_rows 1 file ≡ Ok tt → read_answer room file ≡ fields_answer room (fields_part file)
   unfolding read_answer
   read_standing e = ap (λ first. in_turn first (fields_answer room (fields_part file))) e

@@ -1,10 +1,10 @@
 -- The endings tell the answers: done or refused by the number, and two different answers never end alike.
-use Rattle.std.specs.Prelude.{ℕ, ◌≤◌, ◌≡◌, refl, List, cond, pos, nat_abs, get_or, Err, Ok}
-use Rattle.std.proofs.Common.{sym, ap, ◌∙◌}
+use Rattle.std.specs.Prelude.{ℕ, ◌≡◌, refl, List, pos, nat_abs, get_or, Err, Ok}
+use Rattle.std.proofs.Common.{sym, ap}
 use Rattle.tagged.specs.Ending.{Ending}
 use Rattle.tagged.specs.EndingTests.{number_is_0, stands, Numbered}
 use Rattle.tagged.specs.FileEnding.{file_ending}
-use Rattle.tagged.proofs.Theorems.Ending.{refusal_in, refused_by_number, file_answer_by_number}
+use Rattle.tagged.proofs.Theorems.Ending.{refused_by_number, refused_not_done, refusal_by_ending, file_answer_by_number}
 use Rattle.tagged.specs.File.{FileAnswer}
 use Rattle.ledger.proofs.Theorems.RefusalNumbers.{one_of_positive}
 use Rattle.ledger.specs.declared.records.Party.{Party}
@@ -16,6 +16,7 @@ use Rattle.stored.proofs.Theorems.Reading.{read_refusal_numbers}
 use Rattle.stored.specs.Writing.{written_answer, Written}
 use Rattle.stored.proofs.Theorems.Writing.{write_refusal_numbers}
 use Rattle.stored.specs.StoredEnding.{written_ending, is_written}
+use Rattle.stored.specs.Promises.{WriteNumbered}
 
 pub read_numbered : (answer : FileAnswer) → ReadRefuses answer → Numbered answer
 read_numbered (Ok _) told = tt
@@ -23,10 +24,6 @@ read_numbered (Err r) told = one_of_positive reading_numbers r.number refl told
 
 pub read_by_number : (room : ℕ) (file : List ℕ) → number_is_0 (file_ending (read_answer room file)) ≡ stands (read_answer room file)
 read_by_number room file = file_answer_by_number (read_answer room file) (read_numbered (read_answer room file) (read_refusal_numbers room file))
-
-abbrev pub WriteNumbered : Written → Type 0
-WriteNumbered (Ok size) = Unit {0}
-WriteNumbered (Err r) = 1 ≤ r.number
 
 module _ (ledger : Ledger) (parties : List Party) (room : ℕ) (out : List ℕ) where
   pub write_numbered : WriteNumbered (written_answer ledger parties room out)
@@ -44,19 +41,15 @@ module _ (ledger : Ledger) (parties : List Party) (room : ℕ) (out : List ℕ) 
       by (Err r) numbered = refused_by_number r numbered
 
 -- ---- the ending tells writing's answer
-abbrev written_from : Ending → Written
-written_from ending =
-    cond (number_is_0 ending) (Ok (nat_abs (get_or ending.values 0 (pos 0)))) (Err (refusal_in ending))
-
-written_from_lem : (written : Written) → number_is_0 (written_ending written) ≡ is_written written → written_from (written_ending written) ≡ written
-written_from_lem (Ok size) numbered = refl
-written_from_lem (Err r) numbered = rw numbered
+pub written_by_ending : (answer other : Written) → WriteNumbered answer → WriteNumbered other → written_ending answer ≡ written_ending other → answer ≡ other
+written_by_ending (Ok size) (Ok other) numbered others e = ap (λ (ending : Ending). Ok (nat_abs (get_or ending.values 0 (pos 0)))) e
+written_by_ending (Ok size) (Err s) numbered others e = absurd (refused_not_done s _ others (sym e))
+written_by_ending (Err r) (Ok other) numbered others e = absurd (refused_not_done r _ numbered e)
+written_by_ending (Err r) (Err s) numbered others e = ap Err (refusal_by_ending r s e)
 
 pub write_by_ending : (ledger other_ledger : Ledger) (parties other_parties : List Party) (room other_room : ℕ) (out other_out : List ℕ) →
     let answer = written_answer ledger parties room out in
     let other = written_answer other_ledger other_parties other_room other_out in
     written_ending answer ≡ written_ending other → answer ≡ other
-write_by_ending ledger other_ledger parties other_parties room other_room out other_out e =
-    sym (written_from_lem _ (write_by_number ledger parties room out))
-    ∙ ap written_from e
-    ∙ written_from_lem _ (write_by_number other_ledger other_parties other_room other_out)
+write_by_ending ledger other_ledger parties other_parties room other_room out other_out =
+    written_by_ending _ _ (write_numbered ledger parties room out) (write_numbered other_ledger other_parties other_room other_out)

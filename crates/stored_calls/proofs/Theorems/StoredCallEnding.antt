@@ -1,22 +1,25 @@
 -- The endings tell the answers: done or refused by the number, and two different answers never end alike.
-use Rattle.std.specs.Prelude.{ℕ, ◌≡◌, refl, List, Bool, true, false, cond, pos, nat_abs, get_or, drop, length, Err, Ok}
+use Rattle.std.specs.Prelude.{ℕ, ◌≡◌, refl, List, Bool, true, false, pos, nat_abs, get_or, drop, length, Err, Ok}
 use Rattle.std.proofs.Common.{sym, ap, ◌∙◌}
 use Rattle.tagged.specs.Ending.{Ending}
 use Rattle.tagged.specs.EndingTests.{number_is_0}
-use Rattle.tagged.proofs.Theorems.Ending.{refusal_in, refused_by_number}
+use Rattle.tagged.proofs.Theorems.Ending.{refused_by_number, refused_not_done, refusal_by_ending}
 use Rattle.tagged.specs.File.{FileAnswer}
 use Rattle.ledger.specs.Records.{no_parties, new_ledger}
 use Rattle.ledger.proofs.Theorems.RefusalNumbers.{one_of_positive}
 use Rattle.calls.specs.Decision.{Call, CallAnswer, is_accepted, is_done, is_refused}
 use Rattle.calls.specs.Calls.{state_of, answered, leaves}
 use Rattle.calls.specs.CallEnding.{call_ending}
-use Rattle.calls.specs.CallEndingTests.{Numbered}
+use Rattle.calls.specs.CallEnding.{Numbered}
 use Rattle.calls.proofs.Theorems.CallEnding.{answered_numbered, answer_by_ending}
 use Rattle.stored.specs.StoredNumbers.{reading_numbers}
 use Rattle.stored.specs.RefusedWith.{ReadRefuses}
-use Rattle.stored.proofs.Theorems.StoredEnding.{read_numbered, write_numbered, WriteNumbered}
+use Rattle.stored.proofs.Theorems.StoredEnding.{read_numbered, write_numbered}
+use Rattle.stored.specs.Promises.{WriteNumbered}
 use Rattle.stored.specs.Writing.{WriteEnd, write_of, Written}
 use Rattle.stored_calls.specs.StoredCalls.{StoredCheck, StoredCallAnswer, not_read, not_made, made_accepted, made_done, stored_read, written_answer, end_by, once_read, stored_call_of, new_stored_of, check_stored_of}
+use Rattle.stored_calls.specs.declared.StoredCounts.{StoredCounts}
+use Rattle.stored_calls.specs.StoredPromises.{CheckNumbered}
 use Rattle.stored_calls.specs.StoredRefusals.{is_made}
 use Rattle.stored_calls.proofs.Theorems.StoredCalls.{stored_read_refuses, StoredCheckRefuses, check_refusal_numbers}
 use Rattle.stored_calls.specs.StoredCallEnding.{stored_call_ending, of_stored_ledger, stored_check_ending, call_answer_in, is_sound}
@@ -63,12 +66,19 @@ stored_by_number file room call out = made_by_number (stored_call_of file room c
 pub new_by_number : (out : List ℕ) → number_is_0 (stored_call_ending (new_stored_of out).answer) ≡ is_made (new_stored_of out).answer
 new_by_number out = made_by_number (new_stored_of out).answer (new_numbered out)
 
-pub check_by_number : (file : List ℕ) (room : ℕ) → number_is_0 (stored_check_ending (check_stored_of file room)) ≡ is_sound (check_stored_of file room)
-check_by_number file room = by (check_stored_of file room) (check_refusal_numbers file room)
+pub check_numbered : (file : List ℕ) (room : ℕ) → CheckNumbered (check_stored_of file room)
+check_numbered file room = by (check_stored_of file room) (check_refusal_numbers file room)
   where
-    by : (check : StoredCheck) → StoredCheckRefuses reading_numbers check → number_is_0 (stored_check_ending check) ≡ is_sound check
-    by (Err r) told = refused_by_number r (one_of_positive reading_numbers r.number refl told)
-    by (Ok counts) told = refl
+    by : (check : StoredCheck) → StoredCheckRefuses reading_numbers check → CheckNumbered check
+    by (Err r) told = one_of_positive reading_numbers r.number refl told
+    by (Ok counts) told = tt
+
+pub check_by_number : (file : List ℕ) (room : ℕ) → number_is_0 (stored_check_ending (check_stored_of file room)) ≡ is_sound (check_stored_of file room)
+check_by_number file room = by (check_stored_of file room) (check_numbered file room)
+  where
+    by : (check : StoredCheck) → CheckNumbered check → number_is_0 (stored_check_ending check) ≡ is_sound check
+    by (Err r) numbered = refused_by_number r numbered
+    by (Ok counts) numbered = refl
 
 -- ---- flag and ending tell the answer, whichever calls these are
 
@@ -105,20 +115,19 @@ stored_by_ending answer other numbered others flags e =
     sym (answer_from_lem answer) ∙ (λ i. answer_from (flags i) (call i) (length_in (e i))) ∙ answer_from_lem other
 
 -- ---- the ending tells the check of a stored ledger
-abbrev stored_check_from : Ending → StoredCheck
-stored_check_from ending =
+abbrev counts_from : Ending → StoredCounts
+counts_from ending =
     let value : ℕ → ℕ = λ place. nat_abs (get_or ending.values place (pos 0)) in
-    cond (number_is_0 ending)
-    (Ok
-    (record { month = value 0; connections = value 1; charged = value 2; borne = value 3; schemes = value 4; entries = value 5 }))
-    (Err (refusal_in ending))
+    record { month = value 0; connections = value 1; charged = value 2; borne = value 3; schemes = value 4; entries = value 5 }
 
-check_from : (check : StoredCheck) → number_is_0 (stored_check_ending check) ≡ is_sound check → stored_check_from (stored_check_ending check) ≡ check
-check_from (Err r) numbered = rw numbered
-check_from (Ok counts) numbered = refl
+pub stored_check_by_ending : (check other : StoredCheck) → CheckNumbered check → CheckNumbered other → stored_check_ending check ≡ stored_check_ending other →
+    check ≡ other
+stored_check_by_ending (Err r) (Err s) numbered others e = ap Err (refusal_by_ending r s e)
+stored_check_by_ending (Err r) (Ok other) numbered others e = absurd (refused_not_done r _ numbered e)
+stored_check_by_ending (Ok counts) (Err s) numbered others e = absurd (refused_not_done s _ others (sym e))
+stored_check_by_ending (Ok counts) (Ok other) numbered others e = ap (λ (ending : Ending). Ok (counts_from ending)) e
 
 pub check_by_ending : (file other_file : List ℕ) (room other_room : ℕ) →
     stored_check_ending (check_stored_of file room) ≡ stored_check_ending (check_stored_of other_file other_room) →
     check_stored_of file room ≡ check_stored_of other_file other_room
-check_by_ending file other_file room other_room e =
-    sym (check_from _ (check_by_number file room)) ∙ ap stored_check_from e ∙ check_from _ (check_by_number other_file other_room)
+check_by_ending file other_file room other_room = stored_check_by_ending _ _ (check_numbered file room) (check_numbered other_file other_room)

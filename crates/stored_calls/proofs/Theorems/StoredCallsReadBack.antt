@@ -29,9 +29,9 @@ use Rattle.stored.proofs.Theorems.StoredAccepted.{value_bytes}
 use Rattle.stored.proofs.Theorems.ReadLedger.{read_stands}
 use Rattle.stored.specs.Writing.{write_of, Written}
 use Rattle.stored.proofs.Theorems.RoundTrips.{written_sound, read_of_write}
-use Rattle.stored_calls.specs.StoredCalls.{StoredCallAnswer, not_read, not_made, made_accepted, made_done, CallEnd, stored_read, written_answer, end_by, once_read, stored_call_of}
+use Rattle.stored_calls.specs.StoredCalls.{StoredCallAnswer, made_accepted, made_done, CallEnd, stored_read, written_answer, end_by, once_read, stored_call_of}
 use Rattle.stored_calls.proofs.Theorems.StoredCalls.{length_room, table_length}
-use Rattle.stored_calls.specs.StoredRefusals.{is_made}
+use Rattle.stored_calls.specs.StoredRefusals.{is_made, length_in}
 use Rattle.stored_calls.proofs.Theorems.StoredCallsRefusals.{state_read, places_read, sound_read}
 use Rattle.stored_calls.proofs.Theorems.FormFits.{form_fits_of_kept}
 
@@ -114,13 +114,6 @@ module _ (file : List ℕ) (room : ℕ) (bytes : Bytes file) (stands : (stored_r
       (sound_means (state_read file room).ledger (state_read file room).table (length (state_read file room).table) (sound_read file room stands))))
 
 -- ---- reading back
-
--- the length that a call answers that was made
-abbrev pub length_in : StoredCallAnswer → ℕ
-length_in (not_read r) = 0
-length_in (not_made r) = 0
-length_in (made_accepted acceptance size) = size
-length_in (made_done size) = size
 
 module _ (file : List ℕ) (room : ℕ) (call : Call) (out : List ℕ) where
   -- what the call comes to

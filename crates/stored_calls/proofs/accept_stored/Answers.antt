@@ -1,12 +1,16 @@
 -- The call leaves the ledger sound and ends as the definition says (counts_kept, call_ends): that the bytes handed over fit is put in by hand.
 use Rattle.std.proofs.Common.{ap, rules, ◌∙◌}
 use Rattle.stored_calls.proofs.Ends.{counts_kept, call_ends}
+use Rattle.stored_calls.proofs.Theorems.StoredPromises.{stored_promise}
 use Rattle.stored_calls.proofs.accept_stored.Goals as goal
 
 pub returns : goal.returns
 returns c =
     let end = call_ends c.args.file.now c.accept_sound-answer.ensures (search rules) ((λ k. (c.type_inv.book k).fits), (λ k. (c.type_inv.request k).fits)) c.args.out.now in
-    record { result_value = c.write_accepted.ensures.result_value ∙ ap (λ e. e.answer) end; out_after = c.write_accepted.ensures.out_after ∙ ap (λ e. e.output) end }
+    stored_promise c.args.file.now c.args.room _ c.args.out.now (c.write_accepted.ensures.result_value ∙ ap (λ e. e.answer) end) (c.write_accepted.ensures.out_after ∙ ap (λ e. e.output) end)
 
 pub write_accepted-requires : goal.write_accepted-requires
 write_accepted-requires c = counts_kept c.args.file.now c.accept_sound-answer.ensures (search rules) ((λ k. (c.type_inv.book k).fits), (λ k. (c.type_inv.request k).fits))
+
+pub returns-in_err-map_err : goal.returns-in_err-map_err
+returns-in_err-map_err c = stored_promise c.args.file.now c.args.room _ c.args.out.now (search rules) (search rules)

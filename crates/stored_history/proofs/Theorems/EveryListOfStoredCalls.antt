@@ -14,7 +14,8 @@ use Rattle.ledger.specs.declared.records.Ledger.{Ledger}
 use Rattle.calls.specs.Decision.{Call, CallAnswer, is_accepted, is_done, is_refused}
 use Rattle.calls.specs.Carried.{State}
 use Rattle.calls.specs.Calls.{state_of, answered, leaves, Promised, Trace, Fits, AllFit}
-use Rattle.calls.proofs.Theorems.Calls.{refused_changes_nothing, promise_kept}
+use Rattle.calls.proofs.Theorems.Calls.{refused_changes_nothing}
+use Rattle.calls.proofs.Theorems.Promised.{promise_kept}
 use Rattle.stored.proofs.Theorems.Layout.{take_at_start}
 use Rattle.stored.specs.Form.{stored_form, shortest_form, longest_form}
 use Rattle.stored.proofs.Theorems.Form.{length_form}
@@ -103,7 +104,7 @@ module _ (room : ℕ) (state : State) (h : InMemory room state) where
       ∙ call_ends (form_of state) after output next.stands
       (omega (arith, longest_form_lem after.ledger after.table next.kept.places next.stands))
       (answered state call)
-      (λ r refused. sym (ap form_of (refused_changes_nothing state call refused)))
+      (λ r refused. sym (ap form_of (refused_changes_nothing state call r refused)))
 
 -- ---- the list
 

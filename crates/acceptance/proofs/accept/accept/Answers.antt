@@ -1,6 +1,6 @@
 -- 13, and then the plan is the call.
 use Rattle.std.proofs.Common.{sym, ◌∙◌}
-use Rattle.calls.proofs.Theorems.Calls.{unsound_promised}
+use Rattle.calls.proofs.Theorems.Promised.{unsound_promised}
 use Rattle.acceptance.proofs.Carrying.{accept_kept}
 use Rattle.acceptance.proofs.accept.accept.Goals as goal
 

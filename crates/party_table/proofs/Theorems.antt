@@ -1,2 +1,0 @@
-pub mod PartyTable
-pub mod Snapshots
