@@ -156,8 +156,9 @@ class Reader:
             end = self.take(")").end
             node = Node("brackets", token.start, end, (items[0],)) if len(items) == 1 else Node("tuple", token.start, end, tuple(items))
         elif token.text == "record":
+            # a record as it was, but for these fields
+            fields = [] if self.peek().text == "{" else [("", self.atom())]
             self.take("{")
-            fields = []
             while self.peek().text != "}":
                 name = self.take().text
                 self.take("=")

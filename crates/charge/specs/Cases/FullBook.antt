@@ -29,7 +29,7 @@ full_book zones =
     (7, 1 ∷ bytes_of 2 6501) ∷
     []) ++ zones)
 
-abbrev narrow_book : List ℕ
+abbrev pub narrow_book : List ℕ
 narrow_book = full_book (narrow_fields eight_narrow)
 
 abbrev wide_book : List ℕ
@@ -50,7 +50,7 @@ full_request first last =
     (12, connection 24315 15000 0 0) ∷
     []) ++ last)))
 
-abbrev in_narrow : ℕ → List ℕ
+abbrev pub in_narrow : ℕ → List ℕ
 in_narrow zone = full_request ((4, zone ∷ []) ∷ []) []
 
 abbrev in_wide : ℕ → List ℕ

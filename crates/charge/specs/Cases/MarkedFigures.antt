@@ -136,14 +136,15 @@ marked_figures =
       m9 = refl;
     }
 
--- 4 and 5 at the pricing call: another zone than the book's; the first tier whose bespoke rate isn't allowed; both rates at their edges allowed.
+-- 4 and 5 at the pricing call: another zone than the book's; the first tier whose bespoke rate isn't allowed, and the last one; both rates at their edges allowed.
 pub pricing_refusals :
     (price_of slip_book (request_with 2 (replicate 5 (tier 0 0 0))) ≡ Err (refusal 4 2 0))
     × (price_of slip_book (bespoke_request 12750 57001) ≡ Err (refusal 5 2 3))
     × (price_of slip_book (bespoke_request 12751 57000) ≡ Err (refusal 5 2 4))
+    × (price_of slip_book (request_with 1 (tier 0 400 0 ∷ tier 0 400 0 ∷ tier 0 200 0 ∷ tier 0 200 0 ∷ tier 2 150 15000 ∷ [])) ≡ Err (refusal 5 2 5))
     × (figures_of (price_of slip_book (bespoke_request 12751 57001)) ≡ pos 154504 ∷ pos 859800 ∷ pos 1194134 ∷ pos 300930 ∷ [])
 unfolding check_from number bytes_of due_from all_had front_of walk_from fields_from first_with fields_with judge_numbers same_bytes judge_zones_from book_of request_of discount incremental_revenue zone_found values_priced request_priced price_of flat_map
-pricing_refusals = (refl, refl, refl, refl)
+pricing_refusals = (refl, refl, refl, refl, refl)
 
 -- ---- the bills by which the ledger tells M6 to M8
 

@@ -14,6 +14,7 @@ use Rattle.discount.specs.Discount.{discount}
 use Rattle.revenue.specs.Revenue.{incremental_revenue}
 use Rattle.charge.specs.Price.{zone_found, values_priced, request_priced, price_of}
 use Rattle.charge.specs.Cases.MarkedFigures.{slip_book_by, slip_book_with, slip_book, slip_request, slip_tiers, connection, request_of_revenues, request_with, bespoke_request}
+use Rattle.charge.specs.Cases.FullBook.{narrow_book, in_narrow}
 use Rattle.price_band.specs.PriceBand.{band_of, BandPricing}
 use Rattle.price_band.specs.declared.Bands.{Bands}
 
@@ -41,6 +42,7 @@ slip_bands =
     (bands 50000 57320 1000 2000, band_of_figures 765000 889800 1128130 1209250 (pos 267750) (pos 311430)) ∷
     -- the whole of field 08's limits, and one past each
     (bands 0 1000000000 0 1000000000, band_of_figures 0 30000000000 0 1706500 (pos 0) (pos 29998293500)) ∷
+    (bands 1000000000 1000000000 1000000000 1000000000, band_of_figures 30000000000 30000000000 0 0 (pos 29998293500) (pos 29998293500)) ∷
     (bands 1000000001 0 0 0, refused 3) ∷
     (bands 0 1000000001 0 0, refused 3) ∷
     (bands 0 0 1000000001 0, refused 3) ∷
@@ -69,6 +71,8 @@ other_bands =
     -- the request's own field 08 is judged as always, and stands for nothing where it passes
     (band_of slip_book (request_with_revenues 1 0 1000000001 0) (bands 0 0 0 0), Err (refusal 3 2 123)) ∷
     (band_of slip_book (request_with_revenues 1 0 1000000000 1) (bands 57320 57320 0 0), band_of_figures 859800 859800 1147630 1147630 (pos 300930) (pos 300930)) ∷
+    -- in a full book's eighth zone, whose factors and revenues of distribution and of transmission all differ
+    (band_of narrow_book (in_narrow 255) (bands 57321 60000 31207 40000), band_of_figures 342368 419379 10465952 10516017 (pos 119795) (pos 146741)) ∷
     -- book, request, 4 and 5 come before the figures
     (band_of [] slip_request (bands 1 0 0 0), Err (refusal 1 1 0)) ∷
     (band_of slip_book [] (bands 1 0 0 0), Err (refusal 1 2 0)) ∷

@@ -1,6 +1,7 @@
 -- Document 01, 'Rate book': each limit at its value and one past it, over the definition of a book's answer; and every value of a book, read.
 -- The lengths of the fields and the limits of the zones have their tables beside their definitions.
-use Rattle.std.specs.Prelude.{ℕ, ◌≡◌, refl, take, replicate, Err, Ok}
+use Rattle.std.specs.Prelude.{ℕ, ◌≡◌, refl, take, replicate, Err, Ok, Some, option_map}
+use Rattle.std.specs.Result.{result_ok}
 use mathlib.Core.List.{List, [], ◌∷◌, ◌++◌, map, flat_map}
 use Rattle.numbers.specs.BigEndian.{number, bytes_of}
 use Rattle.numbers.specs.Check.{check_from}
@@ -82,9 +83,11 @@ boundaries =
     (put 5 (terms 0 0 1000000001 120) sample, fails 82) ∷
     (put 5 (terms 0 0 0 84) sample, Ok tt) ∷
     (put 5 (terms 0 0 0 83) sample, fails 86) ∷
+    (put 5 (terms 0 0 0 65535) sample, Ok tt) ∷
     -- capacity charged, credit share
     (put 6 (0 ∷ bytes_of 2 6500) sample, Ok tt) ∷
     (put 6 (2 ∷ bytes_of 2 6500) sample, fails 91) ∷
+    (put 6 (1 ∷ bytes_of 2 0) sample, Ok tt) ∷
     (put 6 (1 ∷ bytes_of 2 10000) sample, Ok tt) ∷
     (put 6 (1 ∷ bytes_of 2 10001) sample, fails 92) ∷
     -- a zone's number, and a rate
@@ -92,6 +95,8 @@ boundaries =
     (put 9 (zone 9 (over 4)) sample, fails 162) ∷
     -- "3 in byte order", and a field that can't stand before any value
     (put 0 (82 ∷ 65 ∷ 84 ∷ 70 ∷ []) (put 9 (zone 9 (over 0)) sample), fails 3) ∷
+    (put 0 (82 ∷ 65 ∷ 84 ∷ 70 ∷ []) (put 1 (bytes_of 2 10001) sample), fails 3) ∷
+    (put 2 (pairs (replicate 5 (1, 0))) (put 3 (factors (40001 ∷ [])) sample), fails 15) ∷
     (put 1 (bytes_of 2 10001) (put 2 (pairs (replicate 5 (0, 0))) (put 3 (factors (40001 ∷ [])) (put 5 (terms 5000001 0 0 83) sample))), fails 10) ∷
     (put 2 (pairs (replicate 5 (1, 0))) (put 4 (factors (40001 ∷ [])) sample), fails 15) ∷
     (put 3 (factors (40000 ∷ 40001 ∷ [])) (put 4 (factors (40001 ∷ [])) sample), fails 60) ∷
@@ -154,6 +159,15 @@ pub sample_read :
     })
 unfolding flat_map number bytes_of check_from due_from all_had front_of walk_from fields_from first_with fields_with judge_numbers same_bytes judge_zones_from book_of
 sample_read = refl
+
+-- five pairs at the highest of their width
+abbrev sums_of : Book → List ℕ
+sums_of book = book.opex ∷ book.revenue ∷ []
+
+pub highest_sums_read :
+    option_map sums_of (result_ok (book_of 1 (closed (put 2 (pairs (replicate 5 (4294967295, 4294967295))) sample)))) ≡ Some (21474836475 ∷ 21474836475 ∷ [])
+unfolding flat_map number bytes_of check_from due_from all_had front_of walk_from fields_from first_with fields_with judge_numbers same_bytes judge_zones_from book_of
+highest_sums_read = refl
 
 pub sample_rates :
     zone_rates (fields_part (closed sample))

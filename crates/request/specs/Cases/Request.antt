@@ -12,6 +12,7 @@ use Rattle.tagged.specs.Encoded.{closed}
 use Rattle.field_values.specs.Judged.{judge_numbers, same_bytes}
 use Rattle.field_values.specs.declared.factors.Factors.{Factors}
 use Rattle.request.specs.Request.{request_of}
+use Rattle.request.specs.WithRevenues.{with_revenues}
 use Rattle.request.specs.declared.values.Request.{Request}
 
 -- the numbers of a request, field by field from 01 on: how many bytes each takes
@@ -164,6 +165,7 @@ boundary_cases =
     (put 6 2 10000001 (put 6 1 1000001 (put 6 3 3 sample)), refused 53) ∷
     (put 7 0 1000001 (put 6 14 10000001 (put 8 0 1000000001 sample)), refused 93) ∷
     (put 9 0 40001 (put 8 1 1000000001 (put 7 4 1000001 sample)), refused 116) ∷
+    (put 9 0 40001 (put 8 1 1000000001 sample), refused 127) ∷
     (put 12 3 3 (put 12 1 0 (put 11 0 40001 (put 8 0 1000000001 sample))), refused 123) ∷
     (put 12 1 0 (put 11 2 40001 (put 10 1 40001 (put 9 0 40001 sample))), refused 134) ∷
     (put 12 3 255 (put 12 1 1000001 (put 11 2 40001 (put 10 1 40001 sample))), refused 141) ∷
@@ -176,10 +178,9 @@ unfolding number bytes_of flat_map check_from due_from all_had front_of walk_fro
 boundary_answers = refl
 
 -- every value of the sample, read where document 01 has it
-pub sample_read :
-    request_of 2 (request_file sample)
-    ≡ Ok
-    (record {
+abbrev sample_request : Request
+sample_request =
+    record {
       person = 70001;
       class = 2;
       zone = 3;
@@ -202,9 +203,62 @@ pub sample_read :
       capacity = 9001;
       scheme = 11;
       mark = 0;
-    })
+    }
+
+pub sample_read : request_of 2 (request_file sample) ≡ Ok sample_request
 unfolding number bytes_of flat_map check_from due_from all_had front_of walk_from fields_from first_with judge_numbers same_bytes request_of
 sample_read = refl
+
+-- with other revenues it is the same otherwise
+pub other_revenues : with_revenues 5003 5004 sample_request ≡ record sample_request { distribution_revenue = 5003; transmission_revenue = 5004 }
+other_revenues = refl
+
+-- every number at its lowest
+abbrev lowest : List (List ℕ)
+lowest =
+    (67 ∷ 79 ∷ 78 ∷ 78 ∷ []) ∷
+    (0 ∷ []) ∷
+    (0 ∷ []) ∷
+    (0 ∷ []) ∷
+    replicate 6 0 ∷
+    replicate 15 0 ∷
+    replicate 5 0 ∷
+    replicate 2 0 ∷
+    (0 ∷ []) ∷
+    (0 ∷ []) ∷
+    (0 ∷ []) ∷
+    (0 ∷ 1 ∷ 0 ∷ 0 ∷ []) ∷
+    []
+
+pub lowest_read :
+    request_of 2 (request_file lowest)
+    ≡ Ok
+    (record {
+      person = 0;
+      class = 0;
+      zone = 0;
+      me = 0;
+      ce = 0;
+      de = 0;
+      tw = 0;
+      hr = 0;
+      ol = 0;
+      modes = replicate 5 0;
+      demands = replicate 5 0;
+      bespoke_rates = replicate 5 0;
+      added_demands = replicate 5 0;
+      distribution_revenue = 0;
+      transmission_revenue = 0;
+      part_year = record { count = 1; values = replicate 8 0 };
+      distribution_tariff = record { count = 1; values = replicate 8 0 };
+      transmission_tariff = record { count = 1; values = replicate 8 0 };
+      month = 0;
+      capacity = 1;
+      scheme = 0;
+      mark = 0;
+    })
+unfolding number bytes_of flat_map check_from due_from all_had front_of walk_from fields_from first_with judge_numbers same_bytes request_of
+lowest_read = refl
 
 -- every number at the highest of its limits or of its width
 abbrev highest : List (List ℕ)

@@ -1,5 +1,5 @@
 -- The stored form's bytes, and how small files read: each refusal of reading and of writing, at its limit and one past it.
-use Rattle.std.specs.Prelude.{ℕ, ◌-◌, ◌≡◌, refl, length, take, replicate, Err, Ok}
+use Rattle.std.specs.Prelude.{ℕ, ◌-◌, ◌≡◌, refl, length, take, drop, replicate, Err, Ok}
 use mathlib.Core.List.{List, [], ◌∷◌, ◌++◌, map, flat_map}
 use Rattle.numbers.specs.BigEndian.{number, bytes_of}
 use Rattle.numbers.specs.Check.{check_from}
@@ -18,7 +18,7 @@ use Rattle.stored.specs.Layout.{record_bytes, values_at}
 use Rattle.stored.specs.Form.{scheme_parts, party_parts, stored_form, stored_schemes, stored_entries, no_schemes, stored_ledger}
 use Rattle.stored.specs.Writing.{written_answer, write_of}
 use Rattle.stored.specs.FormOutput.{form_end}
-use Rattle.stored.specs.Reading.{table_answer, read_answer, read_back, read_of}
+use Rattle.stored.specs.Reading.{table_answer, read_answer, read_back, of_reading, read_of}
 
 -- a ledger of one scheme and its first entry
 abbrev pub one_scheme : Ledger
@@ -163,10 +163,31 @@ pub read_back_cases_hold :
 unfolding read_answer table_answer stored_entries stored_schemes stored_ledger no_schemes values_at number check_from due_from all_had front_of walk_from fields_from first_with fields_with same_bytes sound parties_sound scheme_place schemes_sound all_zero sum_over first_put_in no_parties
 read_back_cases_hold = (refl, refl, refl)
 
+-- a ledger whose last field is its own, and one whose last is a scheme's
+pub ledgers_read :
+    (stored_ledger (take 32 every_byte_fields) ≡ record every_byte { entries = 0; count = 0; schemes = replicate 64 no_scheme }) ×
+    (stored_ledger (take 86 every_byte_fields) ≡ record every_byte { entries = 0 })
+unfolding stored_entries stored_schemes stored_ledger no_schemes values_at number fields_from first_with fields_with
+ledgers_read = (refl, refl)
+
+-- what a reading hands back: the entries as they were read, or none
+pub readings_told :
+    (of_reading (Ok tt) one_scheme joined_parties ≡ record { answer = Ok tt; ledger = one_scheme; parties = joined_parties }) ×
+    (of_reading (refused 9 0 0) one_scheme joined_parties ≡ record { answer = refused 9 0 0; ledger = one_scheme; parties = replicate 512 no_party })
+unfolding no_parties
+readings_told = (refl, refl)
+
 -- schemes alone, without an entry after them
 pub schemes_read : (stored_schemes (take 86 every_byte_fields) ≡ take 2 every_byte.schemes) × (stored_entries (take 86 every_byte_fields) ≡ [])
 unfolding stored_schemes stored_entries values_at number fields_from fields_with
 schemes_read = (refl, refl)
+
+-- the last of 64 schemes has its field
+pub last_scheme_written :
+    drop 63 (scheme_parts (record every_byte { count = 64; schemes = replicate 63 no_scheme ++ take 1 every_byte.schemes }))
+    ≡ (3, 23 ∷ 24 ∷ 25 ∷ 26 ∷ 27 ∷ 28 ∷ 29 ∷ 30 ∷ 31 ∷ 32 ∷ 33 ∷ 34 ∷ 35 ∷ 36 ∷ 37 ∷ 38 ∷ 39 ∷ 40 ∷ 41 ∷ 42 ∷ 43 ∷ 44 ∷ 45 ∷ 46 ∷ []) ∷ []
+unfolding scheme_parts record_bytes bytes_of
+last_scheme_written = refl
 
 -- written without the soundness test
 pub form_cases_hold :
