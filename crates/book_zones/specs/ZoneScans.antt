@@ -1,5 +1,5 @@
 -- Where the zones' values stand, and how two scans judge them: what the functions between a book's bytes and its values say of one another.
-use Rattle.std.specs.Prelude.{ℕ, ◌+◌, List, [], ◌∷◌, length, cond, ltb, leb, Err, Ok}
+use Rattle.std.specs.Prelude.{ℕ, ◌+◌, List, [], ◌∷◌, length, Err, Ok, if◌then◌else◌, nat_lt, nat_le}
 use Rattle.field_values.specs.Judged.{judge, in_order, Judged}
 use Rattle.book_zones.specs.Zones.{number_width, zone_starts, judge_row, zone_tag}
 use Rattle.book_zones.specs.declared.zones.ZoneLayout.{ZoneLayout}
@@ -19,7 +19,7 @@ zone_layout s = record { first = first_zone s; count = length (zone_starts s); w
 -- The judgement of the zones' values by two scans, of the numbers and of the rates, of zones that stand so far apart; the lower place is the answer.
 unfoldable pub judge_rise : ℕ → ℕ → ℕ → List ℕ → Judged
 judge_rise apart least at [] = Ok tt
-judge_rise apart least at (number ∷ numbers) = in_order (judge (leb least number) at) (judge_rise apart (number + 1) (at + apart) numbers)
+judge_rise apart least at (number ∷ numbers) = in_order (judge (nat_le least number) at) (judge_rise apart (number + 1) (at + apart) numbers)
 
 unfoldable pub judge_rows : ℕ → ℕ → List (List ℕ) → Judged
 judge_rows apart rates [] = Ok tt
@@ -28,4 +28,4 @@ judge_rows apart rates (row ∷ rows) = in_order (judge_row rates row) (judge_ro
 abbrev pub lower : Judged → Judged → Judged
 lower (Ok _) other = other
 lower (Err at) (Ok _) = Err at
-lower (Err at) (Err at') = cond (ltb at' at) (Err at') (Err at)
+lower (Err at) (Err at') = if nat_lt at' at then Err at' else Err at

@@ -1,7 +1,7 @@
 -- Document 01, 'Rate book', 08: "zone number (1), each above the last; five 4-byte rates, cents per kVA, at most 10,000,000".
 -- "The rates are held as a row of five tiers for each zone. The first zone, and in it the first tier, over the limit gives the place."
 -- Document 02, E6: "A book may carry field 09 (22 bytes, two-byte zone number, else as 08) in place of every 08."
-use Rattle.std.specs.Prelude.{ℕ, ◌+◌, ◌-◌, List, [], ◌∷◌, ◌++◌, map, get_or, take, replicate, leb, Ok, None, Some, Option}
+use Rattle.std.specs.Prelude.{ℕ, ◌+◌, ◌-◌, List, [], ◌∷◌, ◌++◌, map, take, replicate, Ok, None, Some, Option, nat_le, slice_index}
 use Rattle.numbers.specs.BigEndian.{number_at}
 use Rattle.tagged.specs.Find.{fields_of, fields_with, first_place}
 use Rattle.tagged.specs.declared.find.Place.{Place}
@@ -48,11 +48,11 @@ zone_rates s = zone_array (replicate tier_count 0) (map (rate_row s) (zone_start
 -- the rates of one zone, which start at the offset `rates`
 abbrev pub row_judgements : ℕ → List ℕ → List Judged
 row_judgements rates row =
-    judge (leb (get_or row 0 0) highest_rate) rates ∷
-    judge (leb (get_or row 1 0) highest_rate) (rates + 4) ∷
-    judge (leb (get_or row 2 0) highest_rate) (rates + 8) ∷
-    judge (leb (get_or row 3 0) highest_rate) (rates + 12) ∷
-    judge (leb (get_or row 4 0) highest_rate) (rates + 16) ∷
+    judge (nat_le (slice_index row 0) highest_rate) rates ∷
+    judge (nat_le (slice_index row 1) highest_rate) (rates + 4) ∷
+    judge (nat_le (slice_index row 2) highest_rate) (rates + 8) ∷
+    judge (nat_le (slice_index row 3) highest_rate) (rates + 12) ∷
+    judge (nat_le (slice_index row 4) highest_rate) (rates + 16) ∷
     []
 
 abbrev pub judge_row : ℕ → List ℕ → Judged
@@ -63,7 +63,7 @@ unfoldable pub judge_zones_from : ℕ → List ℕ → List ℕ → Judged
 judge_zones_from least s [] = Ok tt
 judge_zones_from least s (at ∷ starts) =
     first_failure
-    (judge (leb least (zone_number s at)) at ∷
+    (judge (nat_le least (zone_number s at)) at ∷
     judge_row (at + number_width s) (rate_row s at) ∷
     judge_zones_from (zone_number s at + 1) s starts ∷
     [])

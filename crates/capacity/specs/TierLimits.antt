@@ -1,5 +1,5 @@
 -- What an accepted book and request give of the tiers' rates and of demands.
-use Rattle.std.specs.Prelude.{ℕ, ◌≤◌, List, get_or}
+use Rattle.std.specs.Prelude.{ℕ, ◌≤◌, List, slice_index}
 use Rattle.field_values.specs.Limits.{highest_rate, highest_demand}
 use Rattle.capacity.specs.Capacity.{posted_at, bespoke_at}
 use Rattle.capacity.specs.declared.Tiers.{Tiers}
@@ -9,4 +9,4 @@ pub record TiersWithin (tiers : Tiers) : Type 0 where
   pub bespoke : (tier : ℕ) → bespoke_at tiers tier ≤ highest_rate
 
 abbrev pub DemandsWithin : List ℕ → Type 0
-DemandsWithin demands = (tier : ℕ) → get_or demands tier 0 ≤ highest_demand
+DemandsWithin demands = (tier : ℕ) → slice_index demands tier ≤ highest_demand

@@ -1,5 +1,5 @@
 -- Document 01, 'How calls end': "Pricing (slip): book, request, 4, 5." The pricing of a request by a rate book, from their bytes alone.
-use Rattle.std.specs.Prelude.{ℕ, zero, suc, ◌+◌, List, [], cond, get_or, eqb, Err, None, Ok, Option, Some, Result}
+use Rattle.std.specs.Prelude.{ℕ, zero, suc, ◌+◌, List, [], Err, None, Ok, Option, Some, Result, if◌then◌else◌, ◌==◌, slice_index, slice_index_or}
 use Rattle.tagged.specs.File.{fields_part, refusal}
 use Rattle.tagged.specs.Refusals.{zone_not_in_book, bespoke_not_allowed}
 use Rattle.rate_book.specs.Book.{book_of}
@@ -23,7 +23,7 @@ Pricing = Result Bill Refusal
 -- the row of the zone with this number, among `zones` zones from row k on
 unfoldable pub zone_found : ℕ → ℕ → List ℕ → ℕ → Option ℕ
 zone_found k zero numbers number = None
-zone_found k (suc zones) numbers number = cond (eqb (get_or numbers k 0) number) (Some k) (zone_found (k + 1) zones numbers number)
+zone_found k (suc zones) numbers number = if slice_index numbers k == number then Some k else zone_found (k + 1) zones numbers number
 
 -- the two streams of revenue; their year-one figures are handed over
 abbrev pub distribution_of : Book → Request → ℕ → Stream
@@ -101,7 +101,7 @@ in_zone (Some zone) priced = priced zone
 unfoldable pub values_priced : Book → List (List ℕ) → Request → ℕ → ℕ → Pricing
 values_priced book rates request distribution transmission =
     in_zone (zone_found 0 book.zones book.zone_numbers request.zone)
-    (λ zone. priced_at book (get_or rates zone []) request distribution transmission)
+    (λ zone. priced_at book (slice_index_or rates zone []) request distribution transmission)
 
 abbrev pub if_stands : {Values : Type 0} → Result Values Refusal → (Values → Pricing) → Pricing
 if_stands (Ok values) priced = priced values

@@ -1,5 +1,5 @@
 -- How high a discount factor is, and a list of the factors of the years.
-use Rattle.std.specs.Prelude.{ℕ, ◌≤◌, ◌≡◌, List, get_or}
+use Rattle.std.specs.Prelude.{ℕ, ◌≤◌, ◌≡◌, List, slice_index}
 use Rattle.discount.specs.Discount.{discount}
 
 -- F(0); every later factor is at most the one before
@@ -8,4 +8,4 @@ highest_discount = 100000000
 
 -- a list with the factors of the years 0 to life, each at its year's place
 pub record FactorsUntil (b life : ℕ) (factors : List ℕ) : Type 0 where
-  pub each : (n : ℕ) → n ≤ life → get_or factors n 0 ≡ discount b n
+  pub each : (n : ℕ) → n ≤ life → slice_index factors n ≡ discount b n

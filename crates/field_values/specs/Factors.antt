@@ -1,6 +1,6 @@
 -- Document 01, 'Rate book', 04 and 05: "distribution and transmission revenue factors, 1 to 8 of 2 bytes, each 0 to 40,000"; 'Request', 09, 0A and 0B:
 -- "part-year, distribution tariff and transmission tariff factors, as in 04".
-use Rattle.std.specs.Prelude.{ℕ, ◌+◌, ◌/◌, List, [], ◌∷◌, cond, length, replicate, leb}
+use Rattle.std.specs.Prelude.{ℕ, ◌+◌, ◌/◌, List, [], ◌∷◌, length, replicate, if◌then◌else◌, nat_le}
 use Rattle.numbers.specs.BigEndian.{number_at}
 use Rattle.tagged.specs.Find.{field_value}
 use Rattle.field_values.specs.Limits.{most_factors, highest_factor}
@@ -16,7 +16,7 @@ judge_factors tag s = judge_field factor_limits tag s
 
 -- the factor at an offset of a list's bytes; 0 past its end
 abbrev pub factor_at : List ℕ → ℕ → ℕ
-factor_at value at = cond (leb (at + 2) (length value)) (number_at value at 2) 0
+factor_at value at = if nat_le (at + 2) (length value) then number_at value at 2 else 0
 
 abbrev pub factors_in : List ℕ → Factors
 factors_in value =

@@ -1,5 +1,5 @@
 -- Document 01, 'How calls end': 3, "value or letters not as listed" under 'Rate book' or 'Request', at "the value's first byte", "in byte order".
-use Rattle.std.specs.Prelude.{ℕ, ◌+◌, List, [], ◌∷◌, Bool, true, false, cond, length, get_or, take, drop, ltb, leb, eqb, Err, Ok, Result}
+use Rattle.std.specs.Prelude.{ℕ, ◌+◌, List, [], ◌∷◌, Bool, true, false, length, take, drop, Err, Ok, Result, if◌then◌else◌, ◌==◌, nat_lt, nat_le, slice_index}
 use Rattle.numbers.specs.BigEndian.{number}
 use Rattle.tagged.specs.Find.{field_start, field_value}
 
@@ -22,18 +22,18 @@ first_failure (judged ∷ later) = in_order judged (first_failure later)
 
 -- A limit: the width of a number, its lowest and its highest value.
 abbrev pub width_of : List ℕ → ℕ
-width_of limit = get_or limit 0 0
+width_of limit = slice_index limit 0
 
 abbrev pub within : List ℕ → ℕ → Bool
-within limit n = cond (ltb n (get_or limit 1 0)) false (leb n (get_or limit 2 0))
+within limit n = if nat_lt n (slice_index limit 1) then false else nat_le n (slice_index limit 2)
 
 -- the numbers of a value that starts at the offset `at`, one after the other, against a limit each; the value may end before the limits do
 unfoldable pub judge_numbers : List (List ℕ) → ℕ → List ℕ → Judged
 judge_numbers [] at value = Ok tt
 judge_numbers (limit ∷ limits) at value =
     let later = judge_numbers limits (at + width_of limit) (drop (width_of limit) value) in
-    cond (ltb (length value) (width_of limit)) (Ok tt)
-    (cond (within limit (number (take (width_of limit) value))) later (Err at))
+    if nat_lt (length value) (width_of limit) then Ok tt
+    else if within limit (number (take (width_of limit) value)) then later else Err at
 
 -- the numbers of the field with this tag
 abbrev pub judge_field : List (List ℕ) → ℕ → List ℕ → Judged
@@ -43,7 +43,7 @@ unfoldable pub same_bytes : List ℕ → List ℕ → Bool
 same_bytes [] [] = true
 same_bytes [] (b ∷ bs) = false
 same_bytes (a ∷ as') [] = false
-same_bytes (a ∷ as') (b ∷ bs) = cond (eqb a b) (same_bytes as' bs) false
+same_bytes (a ∷ as') (b ∷ bs) = if a == b then same_bytes as' bs else false
 
 -- the letters in field 01
 abbrev pub judge_letters : List ℕ → List ℕ → Judged

@@ -1,10 +1,10 @@
 -- Document 01, 'How things are counted': "Files are big endian." Numbers in a file.
-use Rattle.std.specs.Prelude.{ℕ, zero, suc, ◌+◌, ◌*◌, ◌/◌, ◌%◌, ◌^◌, ◌<◌, get_or, take, drop}
+use Rattle.std.specs.Prelude.{ℕ, zero, suc, ◌+◌, ◌*◌, ◌/◌, ◌%◌, ◌^◌, ◌<◌, take, drop, slice_index}
 use mathlib.Core.List.{List, [], ◌∷◌, foldl}
 
 -- every element of the list is a byte
 abbrev pub Bytes : List ℕ → Type 0
-Bytes s = (k : ℕ) → get_or s k 0 < 256
+Bytes s = (k : ℕ) → slice_index s k < 256
 
 -- the number that bytes spell, the first byte highest
 unfoldable pub number : List ℕ → ℕ

@@ -1,5 +1,5 @@
 -- Document 02, E1, "The reconciliation as a page": the bytes that are written for a pricing.
-use Rattle.std.specs.Prelude.{ℕ, zero, suc, ◌+◌, ◌-◌, ◌/◌, ◌%◌, cond, length, drop, replicate, ltb, ℤ, pos, negsuc, Err, Ok, Result}
+use Rattle.std.specs.Prelude.{ℕ, zero, suc, ◌+◌, ◌-◌, ◌/◌, ◌%◌, length, drop, replicate, ℤ, pos, negsuc, Err, Ok, Result, if◌then◌else◌, nat_lt}
 use mathlib.Core.List.{List, [], ◌∷◌, ◌++◌, flatten}
 use Rattle.tagged.specs.File.{refusal}
 use Rattle.tagged.specs.Refusals.{output_too_short}
@@ -22,13 +22,15 @@ three_digits_of n behind = digit (n / 100) ∷ digit (n / 10) ∷ digit n ∷ be
 -- one to three digits, without a leading zero
 abbrev pub first_group : ℕ → List ℕ → List ℕ
 first_group n behind =
-    cond (ltb n 10) (digit n ∷ behind) (cond (ltb n 100) (digit (n / 10) ∷ digit n ∷ behind) (three_digits_of n behind))
+    if nat_lt n 10 then digit n ∷ behind
+    else if nat_lt n 100 then digit (n / 10) ∷ digit n ∷ behind else three_digits_of n behind
 
 -- "a comma between thousands": dollars before what follows them, with at most this many commas
 unfoldable pub dollars_text : ℕ → ℕ → List ℕ → List ℕ
 dollars_text zero dollars behind = first_group dollars behind
 dollars_text (suc commas) dollars behind =
-    cond (ltb dollars 1000) (first_group dollars behind) (dollars_text commas (dollars / 1000) (44 ∷ three_digits_of dollars behind))
+    if nat_lt dollars 1000 then first_group dollars behind
+    else dollars_text commas (dollars / 1000) (44 ∷ three_digits_of dollars behind)
 
 -- "as dollars with two decimals"; the dollars of 64 bits of cents have at most 18 digits
 abbrev pub cents_text : ℕ → List ℕ
@@ -77,9 +79,9 @@ page_size = 768
 -- "(An output under 768 bytes is 14, after 5.)" A refusal leaves the output as it was, and so does a page what is past it.
 unfoldable pub page_written : Pricing → List ℕ → PageWritten
 page_written (Err r) out = Err r
-page_written (Ok bill) out = cond (ltb (length out) page_size) (Err (refusal output_too_short 0 0)) (Ok tt)
+page_written (Ok bill) out = if nat_lt (length out) page_size then Err (refusal output_too_short 0 0) else Ok tt
 
 unfoldable pub page_output : Pricing → List ℕ → List ℕ
 page_output (Err r) out = out
 page_output (Ok bill) out =
-    cond (ltb (length out) page_size) out (page_of bill.reconciliation ++ drop page_size out)
+    if nat_lt (length out) page_size then out else page_of bill.reconciliation ++ drop page_size out

@@ -1,5 +1,5 @@
 -- What a page is read by: its lines, their label and amount columns, the names and the amounts in the order of document 02.
-use Rattle.std.specs.Prelude.{ℕ, ◌*◌, ◌^◌, ◌<◌, List, [], ◌∷◌, ℤ, pos, nat_abs, take, drop, get_or}
+use Rattle.std.specs.Prelude.{ℕ, ◌*◌, ◌^◌, ◌<◌, List, [], ◌∷◌, ℤ, pos, nat_abs, take, drop, slice_index_or}
 use Rattle.slip_text.specs.SlipReading.{ascii}
 use Rattle.reconciliation.specs.declared.Reconciliation.{Reconciliation}
 
@@ -38,4 +38,4 @@ amounts_of r =
 
 -- 64 bits for each amount
 abbrev pub AmountsFit : Reconciliation → Type 0
-AmountsFit r = (i : ℕ) → i < 12 → nat_abs (get_or (amounts_of r) i (pos 0)) < 2 ^ 64
+AmountsFit r = (i : ℕ) → i < 12 → nat_abs (slice_index_or (amounts_of r) i (pos 0)) < 2 ^ 64

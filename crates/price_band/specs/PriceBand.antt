@@ -1,5 +1,5 @@
 -- Document 02, E5, "Usage known only between two figures": lowest and highest IR, CC and NC, from the bytes of the two files and the four figures alone.
-use Rattle.std.specs.Prelude.{ℕ, List, [], ◌∷◌, Bool, false, cond, leb, ℤ, pos, Err, Ok, Result}
+use Rattle.std.specs.Prelude.{ℕ, List, [], ◌∷◌, Bool, ◌&&◌, ℤ, pos, Err, Ok, Result, if◌then◌else◌, nat_le}
 use Rattle.tagged.specs.File.{fields_part, refusal}
 use Rattle.tagged.specs.Refusals.{value_not_listed, low_above_high}
 use Rattle.field_values.specs.Limits.{highest_revenue}
@@ -19,23 +19,22 @@ BandPricing = Result Band Refusal
 -- "four figures that stand in for field 08": none is past that field's limit
 abbrev pub within_limits : Bands → Bool
 within_limits bands =
-    cond (leb bands.distribution_low highest_revenue)
-    (cond (leb bands.distribution_high highest_revenue)
-    (cond (leb bands.transmission_low highest_revenue) (leb bands.transmission_high highest_revenue) false)
-    false)
-    false
+    nat_le bands.distribution_low highest_revenue
+    && nat_le bands.distribution_high highest_revenue
+    && nat_le bands.transmission_low highest_revenue
+    && nat_le bands.transmission_high highest_revenue
 
 -- no low is above its high
 abbrev pub low_to_high : Bands → Bool
 low_to_high bands =
-    cond (leb bands.distribution_low bands.distribution_high) (leb bands.transmission_low bands.transmission_high) false
+    nat_le bands.distribution_low bands.distribution_high && nat_le bands.transmission_low bands.transmission_high
 
 -- "After 5, a figure past field 08's limit is 3 with file and place 0. Then 15: a low above its high, file and place 0."
 abbrev pub if_bands : Bands → BandPricing → BandPricing
 if_bands bands band =
-    cond (within_limits bands)
-    (cond (low_to_high bands) band (Err (refusal low_above_high 0 0)))
-    (Err (refusal value_not_listed 0 0))
+    if within_limits bands then
+    (if low_to_high bands then band else Err (refusal low_above_high 0 0))
+    else Err (refusal value_not_listed 0 0)
 
 -- what the request comes to with these year-one revenues in place of its own
 abbrev pub priced_with : List ℕ → List ℕ → ℕ → ℕ → Pricing

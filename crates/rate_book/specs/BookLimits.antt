@@ -1,5 +1,5 @@
 -- A book's values within document 01's limits.
-use Rattle.std.specs.Prelude.{ℕ, ◌+◌, ◌<◌, ◌≤◌, ◌≡◌, length, get_or}
+use Rattle.std.specs.Prelude.{ℕ, ◌+◌, ◌<◌, ◌≤◌, ◌≡◌, length, slice_index}
 use Rattle.field_values.specs.Limits.{most_zones, highest_discount_rate, highest_threshold, highest_minimum, lowest_term, highest_share}
 use Rattle.field_values.specs.SumLimits.{sums_below}
 use Rattle.field_values.specs.FactorLimits.{FactorsWithin}
@@ -24,4 +24,4 @@ pub record BookWithin (book : Book) : Type 0 where
   pub zones_at_most : book.zones ≤ most_zones
   pub numbers : length book.zone_numbers ≡ most_zones
   -- "each above the last"
-  pub rise : (i : ℕ) → i + 1 < book.zones → get_or book.zone_numbers i 0 < get_or book.zone_numbers (i + 1) 0
+  pub rise : (i : ℕ) → i + 1 < book.zones → slice_index book.zone_numbers i < slice_index book.zone_numbers (i + 1)

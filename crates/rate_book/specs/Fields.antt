@@ -1,6 +1,6 @@
 -- Document 01, 'Rate book': the fields one by one, each with the limits on its values and what it says. The two lists of factors have theirs in field_values,
 -- the zones in book_zones.
-use Rattle.std.specs.Prelude.{ℕ, ◌+◌, List, [], ◌∷◌, ltb, leb}
+use Rattle.std.specs.Prelude.{ℕ, ◌+◌, List, [], ◌∷◌, nat_lt, nat_le}
 use Rattle.numbers.specs.BigEndian.{number_at}
 use Rattle.tagged.specs.Find.{field_start, field_value}
 use Rattle.field_values.specs.Limits.{highest_discount_rate, highest_threshold, highest_minimum, lowest_term, highest_share}
@@ -28,8 +28,8 @@ sums_in s = record { opex = sum_from (field_value 3 s) 0; revenue = sum_from (fi
 -- "The opex sum is at most the revenue sum, which isn't 0." Both have the place of that field's value.
 abbrev pub sum_judgements : List ℕ → List Judged
 sum_judgements s =
-    judge (leb (sums_in s).opex (sums_in s).revenue) (field_start 3 s) ∷
-    judge (ltb 0 (sums_in s).revenue) (field_start 3 s) ∷
+    judge (nat_le (sums_in s).opex (sums_in s).revenue) (field_start 3 s) ∷
+    judge (nat_lt 0 (sums_in s).revenue) (field_start 3 s) ∷
     []
 
 abbrev pub judge_sums : List ℕ → Judged
@@ -47,10 +47,10 @@ terms_in s =
 
 abbrev pub term_judgements : List ℕ → List Judged
 term_judgements s =
-    judge (leb (terms_in s).threshold highest_threshold) (field_start 6 s) ∷
-    judge (leb (terms_in s).fee (terms_in s).minimum) (field_start 6 s + 4) ∷
-    judge (leb (terms_in s).minimum highest_minimum) (field_start 6 s + 8) ∷
-    judge (leb lowest_term (terms_in s).term) (field_start 6 s + 12) ∷
+    judge (nat_le (terms_in s).threshold highest_threshold) (field_start 6 s) ∷
+    judge (nat_le (terms_in s).fee (terms_in s).minimum) (field_start 6 s + 4) ∷
+    judge (nat_le (terms_in s).minimum highest_minimum) (field_start 6 s + 8) ∷
+    judge (nat_le lowest_term (terms_in s).term) (field_start 6 s + 12) ∷
     []
 
 abbrev pub judge_terms : List ℕ → Judged

@@ -1,6 +1,6 @@
 -- Document 02, E10: "100 × numerator = quotient × divisor + remainder, remainder from 0 to divisor − 1, also where NC is negative." What that says of a
 -- percentage, in integers, and how the rounded percentage follows from quotient and remainder.
-use Rattle.std.specs.Prelude.{ℕ, ◌+◌, ◌*◌, ◌<◌, ◌≡◌, Bool, true, false, cond, ◌&&◌, ◌||◌, ltb, eqb, ℤ, pos, negsuc, ◌+ℤ◌, ◌*ℤ◌, None, Some}
+use Rattle.std.specs.Prelude.{ℕ, ◌+◌, ◌*◌, ◌<◌, ◌≡◌, Bool, true, false, ◌&&◌, ◌||◌, ℤ, pos, negsuc, ◌+ℤ◌, ◌*ℤ◌, None, Some, if◌then◌else◌, ◌==◌, nat_lt}
 use Rattle.reconciliation.specs.Percent.{Percent}
 use Rattle.reconciliation.specs.declared.Reconciliation.{Reconciliation}
 
@@ -12,7 +12,7 @@ not_negative (negsuc n) = false
 -- quotient + 1 where 2 × remainder is above the divisor, or is the divisor and the quotient 0 or more; otherwise the quotient
 abbrev pub rounded_from : ℤ → ℕ → ℕ → ℤ
 rounded_from quotient remainder divisor =
-    cond (ltb divisor (2 * remainder) || (eqb (2 * remainder) divisor && not_negative quotient)) (quotient +ℤ pos 1) quotient
+    if nat_lt divisor (2 * remainder) || (2 * remainder == divisor && not_negative quotient) then quotient +ℤ pos 1 else quotient
 
 -- quotient and remainder of 100 times a numerator by a divisor
 pub record Divided (numerator : ℤ) (divisor : ℕ) (quotient : ℤ) (remainder : ℕ) : Type 0 where

@@ -1,6 +1,6 @@
 -- Document 01, 'Charge and reconciliation': "Percentages: ..., nearest whole, halves away from zero; none where the divisor is 0." Document 02, E10: "Beside
 -- each rounded percentage, give the whole percent rounded down and the exact remainder".
-use Rattle.std.specs.Prelude.{ℕ, suc, ◌+◌, ◌*◌, ◌-◌, ◌/◌, ◌%◌, cond, ℤ, pos, negsuc, neg_ℤ, eqb, None, Some, Option}
+use Rattle.std.specs.Prelude.{ℕ, suc, ◌+◌, ◌*◌, ◌-◌, ◌/◌, ◌%◌, ℤ, pos, negsuc, neg_ℤ, None, Some, Option, if◌then◌else◌, ◌==◌}
 use Rattle.reconciliation.specs.declared.WholePercent.{WholePercent}
 
 -- none where the divisor is 0
@@ -34,4 +34,4 @@ abbrev pub whole_of : ℤ → ℕ → WholePercent
 whole_of n divisor = record { rounded = rounded n divisor; quotient = quotient_of n divisor; remainder = remainder_of n divisor }
 
 abbrev pub percent_of : ℤ → ℕ → Percent
-percent_of n divisor = cond (eqb divisor 0) None (Some (whole_of n divisor))
+percent_of n divisor = if divisor == 0 then None else Some (whole_of n divisor)

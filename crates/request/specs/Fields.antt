@@ -1,5 +1,5 @@
 -- Document 01, 'Request': the fields one by one, each with the limits on its values and what it says. The three lists of factors have theirs in field_values.
-use Rattle.std.specs.Prelude.{ℕ, ◌+◌, ◌*◌, cond, List, [], ◌∷◌, ◌++◌, replicate, eqb, None, Some, Option}
+use Rattle.std.specs.Prelude.{ℕ, ◌+◌, ◌*◌, List, [], ◌∷◌, ◌++◌, replicate, None, Some, Option, if◌then◌else◌, ◌==◌}
 use Rattle.numbers.specs.BigEndian.{number_at}
 use Rattle.tagged.specs.Find.{first_place, field_value}
 use Rattle.tagged.specs.declared.find.Place.{Place}
@@ -33,7 +33,7 @@ zone_in s = zone_by (first_place 13 s) s
 --
 -- Document 02, E3: "Classes 0 and 1 must now have OL 0." "OL above 0 in class 0 or 1 is 3, at OL's first byte, in its turn among the values."
 abbrev pub highest_loading : ℕ → ℕ
-highest_loading class = cond (eqb class special_pricing) highest_amount 0
+highest_loading class = if class == special_pricing then highest_amount else 0
 
 abbrev pub amount_limits : ℕ → List (List ℕ)
 amount_limits class = replicate 5 (4 ∷ 0 ∷ highest_amount ∷ []) ++ ((4 ∷ 0 ∷ highest_loading class ∷ []) ∷ [])

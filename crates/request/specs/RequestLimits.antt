@@ -1,5 +1,5 @@
 -- A request's values within document 01's limits.
-use Rattle.std.specs.Prelude.{ℕ, ◌^◌, ◌<◌, ◌≤◌, ◌≡◌, length, get_or}
+use Rattle.std.specs.Prelude.{ℕ, ◌^◌, ◌<◌, ◌≤◌, ◌≡◌, length, slice_index}
 use Rattle.field_values.specs.Limits.{tier_count, highest_class, highest_amount, highest_mode, highest_demand, highest_rate, highest_revenue, lowest_capacity, highest_capacity, highest_mark}
 use Rattle.field_values.specs.FactorLimits.{FactorsWithin}
 use Rattle.request.specs.Fields.{highest_loading}
@@ -20,10 +20,10 @@ pub record RequestWithin (request : Request) : Type 0 where
   pub five_demands : length request.demands ≡ tier_count
   pub five_bespoke_rates : length request.bespoke_rates ≡ tier_count
   pub five_added_demands : length request.added_demands ≡ tier_count
-  pub modes : (k : ℕ) → get_or request.modes k 0 ≤ highest_mode
-  pub demands : (k : ℕ) → get_or request.demands k 0 ≤ highest_demand
-  pub bespoke_rates : (k : ℕ) → get_or request.bespoke_rates k 0 ≤ highest_rate
-  pub added_demands : (k : ℕ) → get_or request.added_demands k 0 ≤ highest_demand
+  pub modes : (k : ℕ) → slice_index request.modes k ≤ highest_mode
+  pub demands : (k : ℕ) → slice_index request.demands k ≤ highest_demand
+  pub bespoke_rates : (k : ℕ) → slice_index request.bespoke_rates k ≤ highest_rate
+  pub added_demands : (k : ℕ) → slice_index request.added_demands k ≤ highest_demand
   pub distribution_revenue : request.distribution_revenue ≤ highest_revenue
   pub transmission_revenue : request.transmission_revenue ≤ highest_revenue
   pub part_year : FactorsWithin request.part_year

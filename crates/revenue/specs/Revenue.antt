@@ -1,5 +1,5 @@
 -- Document 01, 'Charge and reconciliation': the opex factor and the revenue of the years.
-use Rattle.std.specs.Prelude.{ℕ, zero, suc, ◌+◌, ◌*◌, ◌-◌, ◌/◌, min, cond, get_or, eqb}
+use Rattle.std.specs.Prelude.{ℕ, zero, suc, ◌+◌, ◌*◌, ◌-◌, ◌/◌, min, if◌then◌else◌, ◌==◌, slice_index}
 use Rattle.field_values.specs.declared.factors.Factors.{Factors}
 use Rattle.field_values.specs.Limits.{special_pricing}
 use Rattle.discount.specs.Discount.{discount}
@@ -14,15 +14,15 @@ transmission_opex_factor = 10000
 
 -- Document 02, E3: "special pricing, life 15, O taken as 10,000 for distribution too"
 abbrev pub distribution_opex_factor : ℕ → ℕ → ℕ → ℕ
-distribution_opex_factor class opex revenue = cond (eqb class special_pricing) transmission_opex_factor (opex_factor opex revenue)
+distribution_opex_factor class opex revenue = if class == special_pricing then transmission_opex_factor else opex_factor opex revenue
 
 -- "A list's first factor is year 0's, its last holds for all later years."
 abbrev pub factor_of : Factors → ℕ → ℕ
-factor_of list n = get_or list.values (min n (list.count - 1)) 0
+factor_of list n = slice_index list.values (min n (list.count - 1))
 
 -- "0 residential, life 30; 1 non-residential, life 15." Document 02, E3: "special pricing, life 15".
 abbrev pub life_of : ℕ → ℕ
-life_of class = cond (eqb class 0) 30 15
+life_of class = if class == 0 then 30 else 15
 
 -- × a factor / 10,000, rounded down
 abbrev pub scaled : ℕ → ℕ → ℕ

@@ -1,6 +1,6 @@
 -- Document 02, E10: "three lines after NCRATIO, named RELIANCE-R, UPFRONT-R and NCRATIO-R, each with quotient, a blank, remainder; `-` where the divisor is 0." What
 -- these lines say: a grammar, which doesn't know how a slip is written.
-use Rattle.std.specs.Prelude.{ℕ, zero, suc, ◌+◌, ◌*◌, ◌<◌, ◌≡◌, cond, eqb, ℤ, pos, negsuc}
+use Rattle.std.specs.Prelude.{ℕ, zero, suc, ◌+◌, ◌*◌, ◌<◌, ◌≡◌, ℤ, pos, negsuc, if◌then◌else◌, ◌==◌}
 use mathlib.Core.List.{List, [], ◌∷◌, ◌++◌}
 use Rattle.reconciliation.specs.ExactPercent.{Divided}
 use Rattle.reconciliation.specs.declared.Reconciliation.{Reconciliation}
@@ -9,11 +9,11 @@ use Rattle.slip_text.specs.SlipReading.{ascii}
 -- what stands before the first such byte, and after it
 unfoldable pub before : ℕ → List ℕ → List ℕ
 before byte [] = []
-before byte (b ∷ bytes) = cond (eqb b byte) [] (b ∷ before byte bytes)
+before byte (b ∷ bytes) = if b == byte then [] else b ∷ before byte bytes
 
 unfoldable pub after : ℕ → List ℕ → List ℕ
 after byte [] = []
-after byte (b ∷ bytes) = cond (eqb b byte) bytes (after byte bytes)
+after byte (b ∷ bytes) = if b == byte then bytes else after byte bytes
 
 -- line i of a text, counted from 0, without its byte 0A
 unfoldable pub line_of : ℕ → List ℕ → List ℕ

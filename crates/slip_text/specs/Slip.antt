@@ -1,7 +1,7 @@
 -- Document 01, 'The slip': "It writes, each line ended by byte 0A, cents, then the three percentages". "“none” is written `-`; a negative figure starts
 -- with `-`." "A refusal is the one line `REFUSED n file place`." Document 02, E10: "The slip gains three lines after NCRATIO, named RELIANCE-R, UPFRONT-R and
 -- NCRATIO-R, each with quotient, a blank, remainder; `-` where the divisor is 0."
-use Rattle.std.specs.Prelude.{ℕ, zero, suc, ◌+◌, ◌/◌, ◌%◌, cond, length, drop, ltb, ℤ, pos, negsuc, Err, None, Ok, Some, Result}
+use Rattle.std.specs.Prelude.{ℕ, zero, suc, ◌+◌, ◌/◌, ◌%◌, length, drop, ℤ, pos, negsuc, Err, None, Ok, Some, Result, if◌then◌else◌, nat_lt}
 use mathlib.Core.List.{List, [], ◌∷◌, ◌++◌, flatten}
 use Rattle.tagged.specs.File.{refusal}
 use Rattle.tagged.specs.Refusals.{output_too_short}
@@ -19,7 +19,7 @@ unfoldable pub decimal_from : ℕ → ℕ → List ℕ
 decimal_from zero n = []
 decimal_from (suc most) n =
     let higher = decimal_from most (n / 10) in
-    cond (ltb n 10) ((48 + n) ∷ []) (higher ++ ((48 + n % 10) ∷ []))
+    if nat_lt n 10 then (48 + n) ∷ [] else higher ++ ((48 + n % 10) ∷ [])
 
 -- a number of up to 64 bits has at most 20 digits
 abbrev pub decimal : ℕ → List ℕ
@@ -79,7 +79,7 @@ slip_of (Err r) = refusal_text r
 
 -- The slip in a lent buffer: its length, and the buffer with the slip at its start; refused where the buffer is shorter, and the buffer as it was.
 abbrev pub slip_written : Pricing → List ℕ → SlipWritten
-slip_written pricing out = cond (ltb (length out) (length (slip_of pricing))) (Err (refusal output_too_short 0 0)) (Ok (length (slip_of pricing)))
+slip_written pricing out = if nat_lt (length out) (length (slip_of pricing)) then Err (refusal output_too_short 0 0) else Ok (length (slip_of pricing))
 
 abbrev pub slip_buffer : Pricing → List ℕ → List ℕ
-slip_buffer pricing out = cond (ltb (length out) (length (slip_of pricing))) out (slip_of pricing ++ drop (length (slip_of pricing)) out)
+slip_buffer pricing out = if nat_lt (length out) (length (slip_of pricing)) then out else slip_of pricing ++ drop (length (slip_of pricing)) out

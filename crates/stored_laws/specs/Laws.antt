@@ -1,9 +1,9 @@
 -- The laws that the functions of src/ are there for, one statement each; the proofs stand beside the definitions that they are of.
-use Rattle.std.specs.Prelude.{ℕ, min, ◌<◌, ◌≤◌, ◌≡◌, List, true, false, length, take, Err, Ok}
+use Rattle.std.specs.Prelude.{ℕ, min, ◌<◌, ◌≤◌, ◌≡◌, List, true, false, length, take, Err, Ok, is_ok}
 use Rattle.numbers.specs.BigEndian.{Bytes}
 use Rattle.tagged.specs.Refusals.{no_entry_left, output_too_short}
 use Rattle.tagged.specs.File.{refusal, FileAnswer}
-use Rattle.tagged.specs.EndingTests.{number_is_0, stands}
+use Rattle.tagged.specs.EndingTests.{number_is_0}
 use Rattle.tagged.specs.FileEnding.{file_ending}
 use Rattle.tagged.specs.declared.file.Refusal.{Refusal}
 use Rattle.charge.specs.Price.{price_of}
@@ -69,7 +69,7 @@ RefusedWriteChangesNothing =
 
 -- their endings: number 0 exactly where they are done, and two different answers never end alike
 abbrev pub ReadByNumber : Type 0
-ReadByNumber = (room : ℕ) (file : List ℕ) → number_is_0 (file_ending (read_answer room file)) ≡ stands (read_answer room file)
+ReadByNumber = (room : ℕ) (file : List ℕ) → number_is_0 (file_ending (read_answer room file)) ≡ is_ok (read_answer room file)
 
 abbrev pub WriteByNumber : Type 0
 WriteByNumber =

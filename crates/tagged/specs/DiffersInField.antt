@@ -1,5 +1,5 @@
 -- Two files that differ in one field's value and in the check alone.
-use Rattle.std.specs.Prelude.{ℕ, ◌+◌, ◌-◌, ◌<◌, ◌≤◌, ◌≡◌, List, ◌⊎◌, length, get_or}
+use Rattle.std.specs.Prelude.{ℕ, ◌+◌, ◌-◌, ◌<◌, ◌≤◌, ◌≡◌, List, ◌⊎◌, length, slice_index}
 use Rattle.tagged.specs.File.{fields_part}
 use Rattle.tagged.specs.Find.{field_start, field_value}
 
@@ -8,4 +8,4 @@ pub record DiffersInField (tag : ℕ) (file other : List ℕ) : Type 0 where
   pub size : length other ≡ length file
   pub elsewhere : (k : ℕ) → k < length file - 2 →
       (k < field_start tag (fields_part file)) ⊎ (field_start tag (fields_part file) + length (field_value tag (fields_part file)) ≤ k) →
-      get_or other k 0 ≡ get_or file k 0
+      slice_index other k ≡ slice_index file k

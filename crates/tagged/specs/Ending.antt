@@ -1,6 +1,6 @@
 -- Document 01, 'Which places take which form': "When an answer is an enum, a definition gives this paper's number and values for each of its cases." How a
 -- call ends, in these terms.
-use Rattle.std.specs.Prelude.{ℕ, List, [], ℤ}
+use Rattle.std.specs.Prelude.{ℕ, List, [], ℤ, Err, Ok, Result}
 use Rattle.tagged.specs.declared.file.Refusal.{Refusal}
 
 pub record Ending : Type 0 where
@@ -20,3 +20,8 @@ ends_refused r = ending_of r.number r.file r.place []
 
 abbrev pub ends_done : List ℤ → Ending
 ends_done values = ending_of 0 0 0 values
+
+-- of an answer that is done with a value, which has these values, or is refused
+abbrev pub ending_by : {Value : Type 0} → (Value → List ℤ) → Result Value Refusal → Ending
+ending_by values (Ok value) = ends_done (values value)
+ending_by values (Err r) = ends_refused r

@@ -1,5 +1,5 @@
 -- Document 01, 'How calls end': "Order for a file: 1 for its last five bytes, 2, 1 for the rest". The rest, 3, is each reader's.
-use Rattle.std.specs.Prelude.{ℕ, ◌-◌, List, Bool, false, cond, length, get_or, take, ltb, eqb, Err, Ok, Result}
+use Rattle.std.specs.Prelude.{ℕ, ◌-◌, List, Bool, false, length, take, Err, Ok, Result, if◌then◌else◌, ◌==◌, nat_lt, slice_index}
 use Rattle.numbers.specs.BigEndian.{number, number_at}
 use Rattle.numbers.specs.Check.{check}
 use Rattle.field_walk.specs.Walk.{Walk, walk, fields, stops}
@@ -18,14 +18,14 @@ answer_of (Err r) = Err r
 -- "The last field is FF, length 2: the check."
 abbrev pub tail_stands : List ℕ → Bool
 tail_stands s =
-    cond (ltb (length s) 5) false
-    (cond (eqb (get_or s (length s - 5) 0) 255)
-    (cond (eqb (get_or s (length s - 4) 0) 0) (eqb (get_or s (length s - 3) 0) 2) false)
-    false)
+    if nat_lt (length s) 5 then false
+    else if slice_index s (length s - 5) == 255 then
+    (if slice_index s (length s - 4) == 0 then slice_index s (length s - 3) == 2 else false)
+    else false
 
 -- "It is h over all bytes of the file but the last two."
 abbrev pub check_stands : List ℕ → Bool
-check_stands s = eqb (number_at s (length s - 2) 2) (check (take (length s - 2) s))
+check_stands s = number_at s (length s - 2) 2 == check (take (length s - 2) s)
 
 -- the fields before the check
 abbrev pub fields_part : List ℕ → List ℕ
@@ -42,6 +42,6 @@ of_walk file (stops at) = Err (refusal file_does_not_walk file at)
 
 abbrev pub file_answer : List (List ℕ) → ℕ → List ℕ → FileAnswer
 file_answer rows file s =
-    cond (tail_stands s)
-    (cond (check_stands s) (of_walk file (walk rows (fields_part s))) (Err (refusal check_differs file (length s - 2))))
-    (Err (refusal file_does_not_walk file 0))
+    if tail_stands s then
+    (if check_stands s then of_walk file (walk rows (fields_part s)) else Err (refusal check_differs file (length s - 2)))
+    else Err (refusal file_does_not_walk file 0)

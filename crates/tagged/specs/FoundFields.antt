@@ -1,5 +1,5 @@
 -- Fields of a file that lie in it, one after the other, and what a reader sees of them.
-use Rattle.std.specs.Prelude.{ℕ, ◌+◌, ◌-◌, ◌≤◌, ◌≡◌, List, true, length, get_or, drop}
+use Rattle.std.specs.Prelude.{ℕ, ◌+◌, ◌-◌, ◌≤◌, ◌≡◌, List, true, length, drop, slice_index}
 use Rattle.field_walk.specs.Walk.{tag_of, permitted_by, length_at, FieldAt, value_of}
 use Rattle.tagged.specs.Find.{place_at, whole_field, first_place, part_of}
 use Rattle.tagged.specs.Parts.{value_place, rest_place}
@@ -7,7 +7,7 @@ use Rattle.tagged.specs.WalkRelations.{StandsAt, Fields}
 
 -- What a reader sees whose rest of the file starts at a field: its value, and the rest of the file after it.
 pub record Seen (s : List ℕ) (at : ℕ) (f : FieldAt) : Type 0 where
-  pub tag : get_or (drop at s) 0 0 ≡ f.tag
+  pub tag : slice_index (drop at s) 0 ≡ f.tag
   pub len : length_at (drop at s) ≡ f.len
   pub ends : f.len + 3 ≤ length (drop at s)
   pub whole : whole_field (drop at s) ≡ true

@@ -1,5 +1,5 @@
 -- What a walk by any rows says of its fields: they stand by the rows (`Stand`), and they are the file, one after the other (`Fields`).
-use Rattle.std.specs.Prelude.{ℕ, ◌+◌, ◌<◌, ◌≤◌, ◌≡◌, true, length, get_or}
+use Rattle.std.specs.Prelude.{ℕ, ◌+◌, ◌<◌, ◌≤◌, ◌≡◌, true, length, slice_index}
 use mathlib.Core.List.{List, [], ◌∷◌}
 use Rattle.numbers.specs.BigEndian.{number_at}
 use Rattle.field_walk.specs.Walk.{tag_of, least_of, most_of, permitted_by, FieldAt}
@@ -13,7 +13,7 @@ pub data Stand : List (List ℕ) → ℕ → List FieldAt → Type 0 where
 
 -- The field f stands at the offset `at` of the file s, and ends within it.
 pub record StandsAt (s : List ℕ) (at : ℕ) (f : FieldAt) : Type 0 where
-  pub tag : f.tag ≡ get_or s at 0
+  pub tag : f.tag ≡ slice_index s at
   pub start : f.start ≡ at + 3
   pub len : f.len ≡ number_at s (at + 1) 2
   pub within : f.start + f.len ≤ length s

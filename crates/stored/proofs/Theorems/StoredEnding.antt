@@ -1,8 +1,8 @@
 -- The endings tell the answers: done or refused by the number, and two different answers never end alike.
-use Rattle.std.specs.Prelude.{ℕ, ◌≡◌, refl, List, pos, nat_abs, get_or, Err, Ok}
+use Rattle.std.specs.Prelude.{ℕ, ◌≡◌, refl, List, pos, nat_abs, get_or, Err, Ok, is_ok}
 use Rattle.std.proofs.Common.{sym, ap}
 use Rattle.tagged.specs.Ending.{Ending}
-use Rattle.tagged.specs.EndingTests.{number_is_0, stands, Numbered}
+use Rattle.tagged.specs.EndingTests.{number_is_0, Numbered}
 use Rattle.tagged.specs.FileEnding.{file_ending}
 use Rattle.tagged.proofs.Theorems.Ending.{refused_by_number, refused_not_done, refusal_by_ending, file_answer_by_number}
 use Rattle.tagged.specs.File.{FileAnswer}
@@ -22,7 +22,7 @@ pub read_numbered : (answer : FileAnswer) → ReadRefuses answer → Numbered an
 read_numbered (Ok _) told = tt
 read_numbered (Err r) told = one_of_positive reading_numbers r.number refl told
 
-pub read_by_number : (room : ℕ) (file : List ℕ) → number_is_0 (file_ending (read_answer room file)) ≡ stands (read_answer room file)
+pub read_by_number : (room : ℕ) (file : List ℕ) → number_is_0 (file_ending (read_answer room file)) ≡ is_ok (read_answer room file)
 read_by_number room file = file_answer_by_number (read_answer room file) (read_numbered (read_answer room file) (read_refusal_numbers room file))
 
 module _ (ledger : Ledger) (parties : List Party) (room : ℕ) (out : List ℕ) where
