@@ -87,7 +87,8 @@ class Text:
 
     def cites(self, text, here=None):
         """The definitions that a text of this file cites, as pairs of file and name."""
-        text = "\n".join(line for line in text.splitlines() if not is_comment(line))
+        # the lines of a `do` are joined by >>=
+        text = re.sub(r"(?m) do$", " do >>=", "\n".join(line for line in text.splitlines() if not is_comment(line)))
         for name, module in self.renamed.items():
             yield from ((module, cited) for cited in re.findall(rf"(?<![\w'.]){name}\.([\w']+)", text))
         words = dict.fromkeys(WORD.findall(FIELD.sub(" ", text)))

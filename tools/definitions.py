@@ -134,7 +134,8 @@ def check_uses(failures, texts):
         if path.suffix not in (".antt", ".rt") or "out" in path.parts:
             continue
         lines, imports = code(path)
-        text = "\n".join(lines)
+        # the lines of a `do` are joined by >>=
+        text = re.sub(r"(?m) do$", " do >>=", "\n".join(lines))
         words = set((CODE_WORD if path.suffix == ".rt" else WORD).findall(text))
         failures += [f"{path.relative_to(root)}: {'/'.join(module)} has no {name}" for module, name in Text(path).imports.values()
                      if module in texts and name not in texts[module].owner]

@@ -210,7 +210,7 @@ fn accept_bill(ledger: &mut Ledger, table: &mut [Party], bill: &Bill) -> AcceptA
 
 // Accept on a ledger that is known to be sound: the book, the request, 4, 5, and then by the verdict.
 // Apart from `accept`, so that a ledger that was just read, and found sound, isn't tested twice.
-#[tactic(auto, using(crate::proofs::Theorems::Plan::plan_priced))]
+#[tactic(auto, using(crate::proofs::Theorems::Plan::plan_priced, charge::proofs::Theorems::PriceEnding::promised_price))]
 pub fn accept_sound(
     ledger: &mut Ledger,
     table: &mut [Party],

@@ -1,6 +1,7 @@
 -- Document 01, 'How calls end': "Pricing (slip): book, request, 4, 5." The pricing of a request by a rate book, from their bytes alone.
 use Rattle.std.specs.Prelude.{ℕ, zero, suc, ◌+◌, List, [], Err, None, Ok, Option, Some, Result, if◌then◌else◌, ◌==◌, slice_index, slice_index_or}
-use Rattle.tagged.specs.File.{fields_part, refusal}
+use Rattle.std.specs.Option.{ok_or}
+use Rattle.tagged.specs.File.{◌>>=◌, fields_part, refusal}
 use Rattle.tagged.specs.Refusals.{zone_not_in_book, bespoke_not_allowed}
 use Rattle.rate_book.specs.Book.{book_of}
 use Rattle.book_zones.specs.Zones.{zone_rates}
@@ -94,23 +95,18 @@ priced_at book posted request distribution transmission =
     (bill_of book (tiers_of posted request) request (incremental_revenue_of book request distribution transmission))
 
 -- "zone not in the book", file 2, place 0
-abbrev pub in_zone : Option ℕ → (ℕ → Pricing) → Pricing
-in_zone None priced = Err (refusal zone_not_in_book 2 0)
-in_zone (Some zone) priced = priced zone
-
 unfoldable pub values_priced : Book → List (List ℕ) → Request → ℕ → ℕ → Pricing
-values_priced book rates request distribution transmission =
-    in_zone (zone_found 0 book.zones book.zone_numbers request.zone)
-    (λ zone. priced_at book (slice_index_or rates zone []) request distribution transmission)
-
-abbrev pub if_stands : {Values : Type 0} → Result Values Refusal → (Values → Pricing) → Pricing
-if_stands (Ok values) priced = priced values
-if_stands (Err r) priced = Err r
+values_priced book rates request distribution transmission = do
+  zone ← ok_or (zone_found 0 book.zones book.zone_numbers request.zone) (refusal zone_not_in_book 2 0)
+  priced_at book (slice_index_or rates zone []) request distribution transmission
 
 -- the year-one revenues are the request's
 unfoldable pub request_priced : Book → List (List ℕ) → List ℕ → Pricing
-request_priced book rates file =
-    if_stands (request_of 2 file) (λ request. values_priced book rates request request.distribution_revenue request.transmission_revenue)
+request_priced book rates file = do
+  request ← request_of 2 file
+  values_priced book rates request request.distribution_revenue request.transmission_revenue
 
 unfoldable pub price_of : List ℕ → List ℕ → Pricing
-price_of book_file request_file = if_stands (book_of 1 book_file) (λ book. request_priced book (zone_rates (fields_part book_file)) request_file)
+price_of book_file request_file = do
+  book ← book_of 1 book_file
+  request_priced book (zone_rates (fields_part book_file)) request_file

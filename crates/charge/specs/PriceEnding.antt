@@ -1,21 +1,24 @@
--- How pricing ends, and the readings before it, by document 01's number and values.
-use Rattle.std.specs.Prelude.{◌≡◌, Bool, true, false, Err, Ok}
-use Rattle.tagged.specs.Ending.{Ending, ends_refused, ends_done}
+-- How pricing ends, by document 01's number and values.
+use Rattle.std.specs.Prelude.{List, [], ◌∷◌, ◌++◌, ℤ, pos}
+use Rattle.tagged.specs.Ending.{Ending, ending_by}
 use Rattle.reconciliation.specs.Figures.{figure_values}
 use Rattle.charge.specs.Price.{Pricing}
+use Rattle.charge.specs.declared.Bill.{Bill}
 
--- the values are the reconciliation's figures; terms and applicant are the files' own
+-- the reconciliation's figures, then the files' own: the book's terms, and who asks for what
+abbrev pub bill_values : Bill → List ℤ
+bill_values bill =
+    figure_values bill.reconciliation
+    ++ (pos bill.terms.threshold ∷
+    pos bill.terms.fee ∷
+    pos bill.terms.minimum ∷
+    pos bill.terms.term ∷
+    pos bill.applicant.person ∷
+    pos bill.applicant.month ∷
+    pos bill.applicant.capacity ∷
+    pos bill.applicant.scheme ∷
+    pos bill.applicant.mark ∷
+    [])
+
 abbrev pub pricing_ending : Pricing → Ending
-pricing_ending (Ok bill) = ends_done (figure_values bill.reconciliation)
-pricing_ending (Err r) = ends_refused r
-
-abbrev pub is_priced : Pricing → Bool
-is_priced (Ok bill) = true
-is_priced (Err r) = false
-
--- ---- the ending tells the refusal, or the reconciliation
-abbrev pub SamePricing : Pricing → Pricing → Type 0
-SamePricing (Ok bill) (Ok other) = bill.reconciliation ≡ other.reconciliation
-SamePricing (Ok bill) (Err s) = ⊥
-SamePricing (Err r) (Ok other) = ⊥
-SamePricing (Err r) (Err s) = r ≡ s
+pricing_ending pricing = ending_by bill_values pricing

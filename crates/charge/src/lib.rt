@@ -2,6 +2,7 @@
 #![tactic(auto)]
 
 ghost use Rattle.std.specs.Prelude.{◌≡◌, ◌<◌, ◌≤◌, ◌==◌, length, position};
+ghost use Rattle.tagged.specs.AnswerPromised.{AnswerPromised};
 ghost use Rattle.capacity.specs.TierLimits.{TiersWithin};
 ghost use Rattle.rate_book.specs.BookLimits.{BookWithin};
 ghost use Rattle.book_zones.specs.ZoneLimits.{RatesWithin};
@@ -10,6 +11,7 @@ ghost use Rattle.field_values.specs.Limits.{most_zones, highest_revenue};
 ghost use Rattle.revenue.specs.RevenueLimits.{highest_incremental_revenue};
 ghost use Rattle.revenue.specs.StreamLimits.{StreamWithin};
 ghost use Rattle.charge.specs.Price.{zone_found, distribution_of, transmission_of, incremental_revenue_of, bill_of, values_priced, request_priced, price_of};
+ghost use Rattle.charge.specs.PriceEnding.{pricing_ending};
 ghost use Rattle.charge.specs.ZonePlaces.{ZoneBelow};
 
 use book_zones::zones::BookFields;
@@ -195,9 +197,9 @@ fn price_request(book: Book, rates: Rates, request: &[u8]) -> Pricing
 
 // The reconciliation of a request by a rate book, or the refusal: book, request, 4, 5.
 // Book and request stay two parameters from here down, as C hands over two files, each with its own name.
-#[tactic(auto, using(rate_book::proofs::Theorems::Book::book_walks), unfolding(crate::specs::Price::price_of, rate_book::specs::Book::book_of))]
+#[tactic(auto, using(rate_book::proofs::Theorems::Book::book_walks, crate::proofs::Theorems::PriceEnding::price_promise), unfolding(crate::specs::Price::price_of, rate_book::specs::Book::book_of))]
 pub fn price(book: &[u8], request: &[u8]) -> Pricing
-    ensures { result ≡ price_of book.now request.now }
+    ensures { AnswerPromised pricing_ending (price_of book.now request.now) result }
 {
     book_zones::rows::book_stands(1, book)?;
     let book = BookFields::new(tagged::file::fields_part(book));

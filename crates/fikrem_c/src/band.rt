@@ -28,7 +28,7 @@ fn band_places(band: Band) -> [i64; BAND]
 
 /// Lowest and highest IR, CC and NC of a request by a rate book, with these figures in cents in place of its field 08. Short figures are 14
 /// before anything else.
-#[tactic(auto, using(price_band::proofs::Theorems::Band::band_fits))]
+#[tactic(auto, using(price_band::proofs::Theorems::Band::band_fits, price_band::proofs::Theorems::BandEnding::promised_band))]
 #[unsafe(no_mangle)]
 pub extern "C" fn fikrem_price_band(
     book: &[u8],

@@ -11,6 +11,7 @@ use quoting_unit::outcomes::{ANSWER, slip_outcome, write_answer};
 use quoting_unit::results::{TOO_SHORT, result_of, result_of_answer};
 
 /// The reconciliation, into the figures. Short figures are 14 before anything else.
+#[tactic(auto, using(charge::proofs::Theorems::PriceEnding::promised_price))]
 #[unsafe(no_mangle)]
 pub extern "C" fn fikrem_price(book: &[u8], request: &[u8], figures: &mut [i64]) -> u64
     ensures { let end = unit_call (price book.now request.now) (lent_figures figures.old) in
@@ -49,6 +50,7 @@ pub extern "C" fn fikrem_slip_text(
 }
 
 /// The page, at the start of the lent output. A short output is 14, after the refusals of pricing.
+#[tactic(auto, using(page_text::proofs::Theorems::PageEnding::promised_page))]
 #[unsafe(no_mangle)]
 pub extern "C" fn fikrem_page(book: &[u8], request: &[u8], out: &mut [u8]) -> u64
     ensures value { result ≡ answer_result (page_written (price_of book.now request.now) out.old) }

@@ -1,5 +1,5 @@
 -- The laws that the functions of src/ are there for, one statement each; the proofs stand beside the definitions that they are of.
-use Rattle.std.specs.Prelude.{ℕ, ◌-◌, ◌^◌, ◌<◌, ◌≤◌, ◌≡◌, ◌⊎◌, true, length, get_or, set, Err, Ok}
+use Rattle.std.specs.Prelude.{ℕ, ◌-◌, ◌^◌, ◌<◌, ◌≤◌, ◌≡◌, ◌⊎◌, true, length, set, Err, Ok, slice_index, slice_index_or}
 use mathlib.Core.List.{List, [], ◌∷◌, ◌++◌}
 use Rattle.numbers.specs.BigEndian.{Bytes, number, bytes_of}
 use Rattle.numbers.specs.Check.{check_from}
@@ -70,7 +70,7 @@ FinderFinds = (rows : List (List ℕ)) (s : List ℕ) (fs : List FieldAt) → wa
 abbrev pub FindsDue : Type 0
 FindsDue =
     (rows : List (List ℕ)) (s : List ℕ) → rising_tags rows ≡ true → FieldsWalk rows s → (k : ℕ) → k < length rows →
-    1 ≤ least_of (row_in neither_form (get_or rows k [])) → Sized (get_or rows k []) s
+    1 ≤ least_of (row_in neither_form (slice_index_or rows k [])) → Sized (slice_index_or rows k []) s
 
 -- fields that stand by the rows walk as themselves when they are written one after the other
 abbrev pub WalkOfEncoded : Type 0
@@ -117,17 +117,17 @@ NeitherInARequest =
 -- ---- one byte of a file is another byte
 abbrev pub AlteredFileRefused : Type 0
 AlteredFileRefused =
-    (rows : List (List ℕ)) (file : ℕ) (s : List ℕ) (i b : ℕ) → Bytes s → i < length s → b < 256 → (get_or s i 0 ≡ b → ⊥) → file_answer rows file s ≡ Ok tt →
+    (rows : List (List ℕ)) (file : ℕ) (s : List ℕ) (i b : ℕ) → Bytes s → i < length s → b < 256 → (slice_index s i ≡ b → ⊥) → file_answer rows file s ≡ Ok tt →
     (file_answer rows file (set s i b) ≡ Err (refusal file_does_not_walk file 0)) ⊎ (file_answer rows file (set s i b) ≡ Err (refusal check_differs file (length s - 2)))
 
 abbrev pub AlteredBookRefused : Type 0
 AlteredBookRefused =
-    (number : ℕ) (file : List ℕ) (i b : ℕ) → answer_of (book_of number file) ≡ Ok tt → Bytes file → i < length file → b < 256 → (get_or file i 0 ≡ b → ⊥) →
+    (number : ℕ) (file : List ℕ) (i b : ℕ) → answer_of (book_of number file) ≡ Ok tt → Bytes file → i < length file → b < 256 → (slice_index file i ≡ b → ⊥) →
     (book_of number (set file i b) ≡ Err (refusal file_does_not_walk number 0)) ⊎ (book_of number (set file i b) ≡ Err (refusal check_differs number (length file - 2)))
 
 abbrev pub AlteredRequestRefused : Type 0
 AlteredRequestRefused =
-    (number : ℕ) (file : List ℕ) (i b : ℕ) → Bytes file → i < length file → b < 256 → (get_or file i 0 ≡ b → ⊥) → answer_of (request_of number file) ≡ Ok tt →
+    (number : ℕ) (file : List ℕ) (i b : ℕ) → Bytes file → i < length file → b < 256 → (slice_index file i ≡ b → ⊥) → answer_of (request_of number file) ≡ Ok tt →
     (request_of number (set file i b) ≡ Err (refusal file_does_not_walk number 0)) ⊎ (request_of number (set file i b) ≡ Err (refusal check_differs number (length file - 2)))
 
 -- ---- what is accepted

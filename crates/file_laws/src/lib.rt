@@ -41,7 +41,6 @@ pub fn encoded_fields()
 {}
 
 /// What a file that stands is, and how a file's answer ends.
-#[tactic(auto, using(tagged::proofs::Theorems::File::stands_means, tagged::proofs::Theorems::Ending::file_answer_by_ending))]
 pub fn file_stands_or_ends()
     ensures stands { StandsMeans }
     ensures ends { FileAnswerByEnding }

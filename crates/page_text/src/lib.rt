@@ -4,8 +4,10 @@
 
 ghost use Rattle.std.specs.Prelude.{◌≡◌, ◌+◌, ◌/◌, ◌<◌, ◌≤◌, ℕ, List, length, drop};
 ghost use mathlib.Core.List.{[], ◌∷◌, ◌++◌};
+ghost use Rattle.tagged.specs.AnswerPromised.{AnswerPromised};
 ghost use Rattle.charge.specs.Price.{price_of};
 ghost use Rattle.page_text.specs.Page.{digit, three_digits_of, first_group, dollars_text, cents_text, amount_text, line, page_lines, page_of, page_size, page_written, page_output};
+ghost use Rattle.page_text.specs.PageEnding.{page_ending};
 
 use charge::Pricing;
 use reconciliation::Reconciliation;
@@ -198,6 +200,7 @@ fn write_lines(r: &Reconciliation, out: &mut [u8])
 }
 
 // `inline(never)`: in a caller's frame the pricing's own figures would stay on the stack below the lines.
+#[tactic(auto, using(charge::proofs::Theorems::PriceEnding::promised_price))]
 #[inline(never)]
 fn priced(book: &[u8], request: &[u8]) -> Pricing
     ensures { result ≡ price_of book.now request.now }
@@ -207,9 +210,9 @@ fn priced(book: &[u8], request: &[u8]) -> Pricing
 
 // The page of a request by a rate book at the start of a lent output, or the refusal: book, request,
 // 4, 5, and 14 where the output is shorter than the page.
-#[tactic(auto, unfolding(crate::specs::Page::page_written, crate::specs::Page::page_output, crate::specs::Page::page_of))]
+#[tactic(auto, using(crate::proofs::Theorems::PageEnding::page_promise), unfolding(crate::specs::Page::page_written, crate::specs::Page::page_output, crate::specs::Page::page_of))]
 pub fn page(book: &[u8], request: &[u8], out: &mut [u8]) -> PageWritten
-    ensures value { result ≡ page_written (price_of book.now request.now) out.old }
+    ensures answer { AnswerPromised page_ending (page_written (price_of book.now request.now) out.old) result }
     ensures out_after { out.new ≡ page_output (price_of book.now request.now) out.old }
 {
     let bill = priced(book, request)?;

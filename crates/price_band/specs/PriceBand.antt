@@ -1,13 +1,13 @@
 -- Document 02, E5, "Usage known only between two figures": lowest and highest IR, CC and NC, from the bytes of the two files and the four figures alone.
 use Rattle.std.specs.Prelude.{ℕ, List, [], ◌∷◌, Bool, ◌&&◌, ℤ, pos, Err, Ok, Result, if◌then◌else◌, nat_le}
-use Rattle.tagged.specs.File.{fields_part, refusal}
+use Rattle.tagged.specs.File.{◌>>=◌, fields_part, refusal}
 use Rattle.tagged.specs.Refusals.{value_not_listed, low_above_high}
 use Rattle.field_values.specs.Limits.{highest_revenue}
 use Rattle.book_zones.specs.Zones.{zone_rates}
 use Rattle.rate_book.specs.Book.{book_of}
 use Rattle.request.specs.Request.{request_of}
 use Rattle.reconciliation.specs.declared.Reconciliation.{Reconciliation}
-use Rattle.charge.specs.Price.{if_stands, values_priced, price_of, Pricing}
+use Rattle.charge.specs.Price.{values_priced, price_of, Pricing}
 use Rattle.price_band.specs.declared.Bands.{Bands}
 use Rattle.price_band.specs.declared.Band.{Band}
 use Rattle.tagged.specs.declared.file.Refusal.{Refusal}
@@ -38,9 +38,10 @@ if_bands bands band =
 
 -- what the request comes to with these year-one revenues in place of its own
 abbrev pub priced_with : List ℕ → List ℕ → ℕ → ℕ → Pricing
-priced_with book_file request_file distribution transmission =
-    if_stands (book_of 1 book_file)
-    (λ book. if_stands (request_of 2 request_file) (λ request. values_priced book (zone_rates (fields_part book_file)) request distribution transmission))
+priced_with book_file request_file distribution transmission = do
+  book ← book_of 1 book_file
+  request ← request_of 2 request_file
+  values_priced book (zone_rates (fields_part book_file)) request distribution transmission
 
 -- "It gives lowest and highest IR, CC and NC." IR and NC never fall with a revenue, and CC never rises.
 abbrev pub band_between : Reconciliation → Reconciliation → Band
@@ -55,24 +56,17 @@ band_between low high =
     }
 
 -- of the pricings with both lows and with both highs; 4 and 5 don't go by the revenues, so that neither is refused where the request is priced
-abbrev pub between_pricings : Pricing → Pricing → BandPricing
-between_pricings (Err r) high = Err r
-between_pricings (Ok low) (Err r) = Err r
-between_pricings (Ok low) (Ok high) = Ok (band_between low.reconciliation high.reconciliation)
-
 abbrev pub band_at_ends : List ℕ → List ℕ → Bands → BandPricing
-band_at_ends book_file request_file bands =
-    between_pricings
-    (priced_with book_file request_file bands.distribution_low bands.transmission_low)
-    (priced_with book_file request_file bands.distribution_high bands.transmission_high)
+band_at_ends book_file request_file bands = do
+  low ← priced_with book_file request_file bands.distribution_low bands.transmission_low
+  high ← priced_with book_file request_file bands.distribution_high bands.transmission_high
+  Ok (band_between low.reconciliation high.reconciliation)
 
 -- book, request, 4 and 5 as the request itself is refused, its own field 08 included
-abbrev pub if_priced : Pricing → BandPricing → BandPricing
-if_priced (Err r) band = Err r
-if_priced (Ok bill) band = band
-
 unfoldable pub band_of : List ℕ → List ℕ → Bands → BandPricing
-band_of book_file request_file bands = if_priced (price_of book_file request_file) (if_bands bands (band_at_ends book_file request_file bands))
+band_of book_file request_file bands = do
+  bill ← price_of book_file request_file
+  if_bands bands (band_at_ends book_file request_file bands)
 
 -- the six figures as one list of values: IR, CC, NC, each lowest then highest
 abbrev pub band_values : Band → List ℤ

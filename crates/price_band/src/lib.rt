@@ -3,12 +3,14 @@
 #![tactic(auto)]
 
 ghost use Rattle.std.specs.Prelude.{◌≡◌, true, ◌≤◌};
+ghost use Rattle.tagged.specs.AnswerPromised.{AnswerPromised};
 ghost use Rattle.field_values.specs.Limits.{highest_revenue};
 ghost use Rattle.rate_book.specs.BookLimits.{BookWithin};
 ghost use Rattle.request.specs.RequestLimits.{RequestWithin};
 ghost use Rattle.reconciliation.specs.CostLimits.{CostsWithin};
 ghost use Rattle.charge.specs.Price.{price_of};
 ghost use Rattle.price_band.specs.PriceBand.{within_limits, low_to_high, band_between, band_at_ends, band_of};
+ghost use Rattle.price_band.specs.BandEnding.{band_ending};
 ghost use Rattle.price_band.specs.EndCosts.{end_costs, end_reconciliation};
 
 use book_zones::zones::BookFields;
@@ -143,9 +145,9 @@ fn band_of_bill(book: &[u8], request: &[u8], bill: Bill, bands: Bands) -> Band
 
 // Lowest and highest IR, CC and NC of a request by a rate book, with these bands in place of field 08,
 // or the refusal: book, request, 4, 5, then 3 and 15 for the bands.
-#[tactic(auto, unfolding(crate::specs::PriceBand::band_of))]
+#[tactic(auto, using(charge::proofs::Theorems::PriceEnding::promised_price, crate::proofs::Theorems::BandEnding::band_promise), unfolding(crate::specs::PriceBand::band_of))]
 pub fn price_band(book: &[u8], request: &[u8], bands: Bands) -> BandPricing
-    ensures { result ≡ band_of book.now request.now bands }
+    ensures { AnswerPromised band_ending (band_of book.now request.now bands) result }
 {
     let bill = charge::price(book, request)?;
     if !bands.within_limits() {

@@ -1,5 +1,5 @@
 -- The laws that the functions of src/ are there for, one statement each; the proofs stand beside the definitions that they are of.
-use Rattle.std.specs.Prelude.{ℕ, suc, ◌+◌, ◌-◌, ◌*◌, ◌/◌, ◌%◌, ◌^◌, ◌<◌, ◌≤◌, ◌≡◌, ◌⊎◌, true, length, get_or, set, ℤ, pos, nat_abs, ◌-ℤ◌, ◌≤ℤ◌, Err, None, Ok}
+use Rattle.std.specs.Prelude.{ℕ, suc, ◌+◌, ◌-◌, ◌*◌, ◌/◌, ◌%◌, ◌^◌, ◌<◌, ◌≤◌, ◌≡◌, ◌⊎◌, true, length, set, ℤ, pos, nat_abs, ◌-ℤ◌, ◌≤ℤ◌, Err, None, Ok, is_ok, slice_index, slice_index_or}
 use mathlib.Core.List.{List, [], ◌++◌}
 use Rattle.numbers.specs.BigEndian.{Bytes, number_at}
 use Rattle.tagged.specs.Refusals.{file_does_not_walk, check_differs}
@@ -7,7 +7,8 @@ use Rattle.tagged.specs.File.{answer_of, fields_part, refusal, file_answer}
 use Rattle.tagged.specs.Find.{first_place, field_value}
 use Rattle.tagged.specs.declared.file.Refusal.{Refusal}
 use Rattle.tagged.specs.FileEnding.{file_ending}
-use Rattle.tagged.specs.EndingTests.{number_is_0, stands}
+use Rattle.tagged.specs.EndingTests.{number_is_0}
+use Rattle.tagged.specs.AnswerPromised.{AnswerPromised}
 use Rattle.field_values.specs.Limits.{highest_share}
 use Rattle.book_zones.specs.BookRows.{book_rows}
 use Rattle.book_zones.specs.Zones.{zone_tag}
@@ -23,25 +24,25 @@ use Rattle.reconciliation.specs.ExactPercent.{ExactPercentages}
 use Rattle.reconciliation.specs.declared.Costs.{Costs}
 use Rattle.reconciliation.specs.declared.Reconciliation.{Reconciliation}
 use Rattle.charge.specs.Price.{price_of, Pricing}
-use Rattle.charge.specs.PriceEnding.{pricing_ending, is_priced, SamePricing}
+use Rattle.charge.specs.PriceEnding.{pricing_ending}
 use Rattle.charge.specs.PriceRefusals.{PricingRefusal}
 use Rattle.charge.specs.BillLimits.{BillWithin}
 use Rattle.charge.specs.declared.Bill.{Bill}
-use Rattle.price_band.specs.BandEnding.{band_ending, has_band, BandRefusal}
+use Rattle.price_band.specs.BandEnding.{band_ending, BandRefusal}
 use Rattle.price_band.specs.BandLimits.{BandFits}
 use Rattle.price_band.specs.BandPromises.{Inside, ReadsWith, PricedBetween, EndsReached}
-use Rattle.price_band.specs.PriceBand.{band_of}
+use Rattle.price_band.specs.PriceBand.{band_of, BandPricing}
 use Rattle.price_band.specs.declared.Band.{Band}
 use Rattle.price_band.specs.declared.Bands.{Bands}
 use Rattle.slip_text.specs.ExactLines.{UnsignedNumber, SignedNumber, SlipExact}
-use Rattle.slip_text.specs.Slip.{decimal, signed_decimal, slip_of, slip_written, slip_buffer}
-use Rattle.slip_text.specs.SlipEnding.{slip_ending, is_written}
+use Rattle.slip_text.specs.Slip.{decimal, signed_decimal, slip_of, slip_written, slip_buffer, SlipWritten}
+use Rattle.slip_text.specs.SlipEnding.{slip_ending}
 use Rattle.slip_text.specs.SlipReading.{ascii}
 use Rattle.slip_text.specs.SlipRoom.{room, longest_slip}
 use Rattle.page_text.specs.AmountGrammar.{OnlyAmount}
-use Rattle.page_text.specs.Page.{label_text, page_of, page_size, page_written, page_output}
+use Rattle.page_text.specs.Page.{label_text, page_of, page_size, page_written, page_output, PageWritten}
 use Rattle.page_text.specs.PageColumns.{names, amounts_of, line_of, label_columns, amount_columns, AmountsFit}
-use Rattle.page_text.specs.PageEnding.{page_ending, is_written as is_page}
+use Rattle.page_text.specs.PageEnding.{page_ending}
 use Rattle.pricing_laws.specs.EarlierPricing.{earlier_price_of, AsBefore}
 use Rattle.pricing_laws.specs.SameValues.{SameBooks, SameRequests, InTwoBytes}
 
@@ -56,9 +57,9 @@ DiscountBounds =
 abbrev pub RecurrenceAtEachEntry : Type 0
 RecurrenceAtEachEntry =
     (table : List (List ℕ)) → table_follows lowest_table_rate table ≡ true → (k : ℕ) → k < length table →
-    let row = get_or table k [] in
-    (get_or row 0 0 ≡ 100000000)
-    × ((n : ℕ) → n < last_year → get_or row (suc n) 0 ≡ get_or row n 0 * 10000 / (10000 + (lowest_table_rate + table_rate_step * k)))
+    let row = slice_index_or table k [] in
+    (slice_index row 0 ≡ 100000000)
+    × ((n : ℕ) → n < last_year → slice_index row (suc n) ≡ slice_index row n * 10000 / (10000 + (lowest_table_rate + table_rate_step * k)))
 
 -- ---- the charge
 
@@ -88,42 +89,46 @@ PricingRefusals = (book request : List ℕ) (r : Refusal) → price_of book requ
 
 -- the number is 0 exactly where a book or a request is read, and where it is priced
 abbrev pub BookByNumber : Type 0
-BookByNumber = (number : ℕ) (file : List ℕ) → number_is_0 (file_ending (answer_of (book_of number file))) ≡ stands (answer_of (book_of number file))
+BookByNumber = (number : ℕ) (file : List ℕ) → number_is_0 (file_ending (answer_of (book_of number file))) ≡ is_ok (answer_of (book_of number file))
 
 abbrev pub RequestByNumber : Type 0
-RequestByNumber = (number : ℕ) (file : List ℕ) → number_is_0 (file_ending (answer_of (request_of number file))) ≡ stands (answer_of (request_of number file))
+RequestByNumber = (number : ℕ) (file : List ℕ) → number_is_0 (file_ending (answer_of (request_of number file))) ≡ is_ok (answer_of (request_of number file))
 
 abbrev pub PricingByNumber : Type 0
-PricingByNumber = (book request : List ℕ) → number_is_0 (pricing_ending (price_of book request)) ≡ is_priced (price_of book request)
+PricingByNumber = (book request : List ℕ) → number_is_0 (pricing_ending (price_of book request)) ≡ is_ok (price_of book request)
 
 -- two different answers never end alike
 abbrev pub PricingByEnding : Type 0
 PricingByEnding =
     (book request book' request' : List ℕ) → pricing_ending (price_of book request) ≡ pricing_ending (price_of book' request') →
-    SamePricing (price_of book request) (price_of book' request')
+    price_of book request ≡ price_of book' request'
+
+-- so the ending that pricing promises tells its answer
+abbrev pub PromisedPrice : Type 0
+PromisedPrice = (book request : List ℕ) (pricing : Pricing) → AnswerPromised pricing_ending (price_of book request) pricing → pricing ≡ price_of book request
 
 -- ---- one byte of a file that was priced is another byte
 
 abbrev pub AlteredBookNotPriced : Type 0
 AlteredBookNotPriced =
-    (book request : List ℕ) (bill : Bill) → price_of book request ≡ Ok bill → (i b : ℕ) → b < 256 → Bytes book → i < length book → (get_or book i 0 ≡ b → ⊥) →
+    (book request : List ℕ) (bill : Bill) → price_of book request ≡ Ok bill → (i b : ℕ) → b < 256 → Bytes book → i < length book → (slice_index book i ≡ b → ⊥) →
     (price_of (set book i b) request ≡ Err (refusal file_does_not_walk 1 0)) ⊎ (price_of (set book i b) request ≡ Err (refusal check_differs 1 (length book - 2)))
 
 abbrev pub AlteredRequestNotPriced : Type 0
 AlteredRequestNotPriced =
-    (book request : List ℕ) (bill : Bill) → price_of book request ≡ Ok bill → (i b : ℕ) → b < 256 → Bytes request → i < length request → (get_or request i 0 ≡ b → ⊥) →
+    (book request : List ℕ) (bill : Bill) → price_of book request ≡ Ok bill → (i b : ℕ) → b < 256 → Bytes request → i < length request → (slice_index request i ≡ b → ⊥) →
     (price_of book (set request i b) ≡ Err (refusal file_does_not_walk 2 0)) ⊎ (price_of book (set request i b) ≡ Err (refusal check_differs 2 (length request - 2)))
 
 -- its slip is then this one line
 abbrev pub AlteredBookSlip : Type 0
 AlteredBookSlip =
-    (book request : List ℕ) (bill : Bill) → price_of book request ≡ Ok bill → (i b : ℕ) → b < 256 → Bytes book → i < length book → (get_or book i 0 ≡ b → ⊥) →
+    (book request : List ℕ) (bill : Bill) → price_of book request ≡ Ok bill → (i b : ℕ) → b < 256 → Bytes book → i < length book → (slice_index book i ≡ b → ⊥) →
     (slip_of (price_of (set book i b) request) ≡ ascii "REFUSED 1 1 0\n")
     ⊎ (slip_of (price_of (set book i b) request) ≡ ascii "REFUSED 2 1 " ++ (decimal (length book - 2) ++ ascii "\n"))
 
 abbrev pub AlteredRequestSlip : Type 0
 AlteredRequestSlip =
-    (book request : List ℕ) (bill : Bill) → price_of book request ≡ Ok bill → (i b : ℕ) → b < 256 → Bytes request → i < length request → (get_or request i 0 ≡ b → ⊥) →
+    (book request : List ℕ) (bill : Bill) → price_of book request ≡ Ok bill → (i b : ℕ) → b < 256 → Bytes request → i < length request → (slice_index request i ≡ b → ⊥) →
     (slip_of (price_of book (set request i b)) ≡ ascii "REFUSED 1 2 0\n")
     ⊎ (slip_of (price_of book (set request i b)) ≡ ascii "REFUSED 2 2 " ++ (decimal (length request - 2) ++ ascii "\n"))
 
@@ -192,12 +197,16 @@ abbrev pub BandRefusals : Type 0
 BandRefusals = (book request : List ℕ) (bands : Bands) (r : Refusal) → band_of book request bands ≡ Err r → BandRefusal r
 
 abbrev pub BandByNumber : Type 0
-BandByNumber = (book request : List ℕ) (bands : Bands) → number_is_0 (band_ending (band_of book request bands)) ≡ has_band (band_of book request bands)
+BandByNumber = (book request : List ℕ) (bands : Bands) → number_is_0 (band_ending (band_of book request bands)) ≡ is_ok (band_of book request bands)
 
 abbrev pub BandByEnding : Type 0
 BandByEnding =
     (book request book' request' : List ℕ) (bands bands' : Bands) → band_ending (band_of book request bands) ≡ band_ending (band_of book' request' bands') →
     band_of book request bands ≡ band_of book' request' bands'
+
+-- so the ending that is promised tells the band
+abbrev pub PromisedBand : Type 0
+PromisedBand = (book request : List ℕ) (bands : Bands) (pricing : BandPricing) → AnswerPromised band_ending (band_of book request bands) pricing → pricing ≡ band_of book request bands
 
 -- ---- the slip
 
@@ -224,12 +233,15 @@ abbrev pub RefusedSlipChangesNothing : Type 0
 RefusedSlipChangesNothing = (pricing : Pricing) (out : List ℕ) (r : Refusal) → slip_written pricing out ≡ Err r → slip_buffer pricing out ≡ out
 
 abbrev pub SlipByNumber : Type 0
-SlipByNumber = (pricing : Pricing) (out : List ℕ) → number_is_0 (slip_ending (slip_written pricing out)) ≡ is_written (slip_written pricing out)
+SlipByNumber = (pricing : Pricing) (out : List ℕ) → number_is_0 (slip_ending (slip_written pricing out)) ≡ is_ok (slip_written pricing out)
 
 abbrev pub SlipByEnding : Type 0
 SlipByEnding =
     (pricing pricing' : Pricing) (out out' : List ℕ) → slip_ending (slip_written pricing out) ≡ slip_ending (slip_written pricing' out') →
     slip_written pricing out ≡ slip_written pricing' out'
+
+abbrev pub PromisedSlip : Type 0
+PromisedSlip = (pricing : Pricing) (out : List ℕ) (written : SlipWritten) → AnswerPromised slip_ending (slip_written pricing out) written → written ≡ slip_written pricing out
 
 -- ---- the page
 
@@ -237,29 +249,32 @@ SlipByEnding =
 abbrev pub PageOneWay : Type 0
 PageOneWay =
     (book request out : List ℕ) (bill : Bill) → Bytes book → Bytes request → price_of book request ≡ Ok bill → page_size ≤ length out → (i : ℕ) → i < 12 →
-    OnlyAmount (amount_columns (line_of i (page_output (price_of book request) out))) (get_or (amounts_of bill.reconciliation) i (pos 0))
+    OnlyAmount (amount_columns (line_of i (page_output (price_of book request) out))) (slice_index_or (amounts_of bill.reconciliation) i (pos 0))
 
 -- 768 bytes, the listed labels, byte 0A at the end of each line and nowhere else
 abbrev pub PageSize : Type 0
 PageSize = (r : Reconciliation) → length (page_of r) ≡ page_size
 
 abbrev pub LabelsListed : Type 0
-LabelsListed = (r : Reconciliation) (i : ℕ) → i < 12 → label_columns (line_of i (page_of r)) ≡ label_text (get_or names i [])
+LabelsListed = (r : Reconciliation) (i : ℕ) → i < 12 → label_columns (line_of i (page_of r)) ≡ label_text (slice_index_or names i [])
 
 abbrev pub LineEnds : Type 0
-LineEnds = (r : Reconciliation) (i : ℕ) → i < 12 → get_or (line_of i (page_of r)) 63 0 ≡ 10
+LineEnds = (r : Reconciliation) (i : ℕ) → i < 12 → slice_index (line_of i (page_of r)) 63 ≡ 10
 
 abbrev pub NoOtherEnd : Type 0
-NoOtherEnd = (r : Reconciliation) → AmountsFit r → (k : ℕ) → k < page_size → get_or (page_of r) k 0 ≡ 10 → k % 64 ≡ 63
+NoOtherEnd = (r : Reconciliation) → AmountsFit r → (k : ℕ) → k < page_size → slice_index (page_of r) k ≡ 10 → k % 64 ≡ 63
 
 abbrev pub RefusedPageChangesNothing : Type 0
 RefusedPageChangesNothing = (pricing : Pricing) (out : List ℕ) (r : Refusal) → page_written pricing out ≡ Err r → page_output pricing out ≡ out
 
 abbrev pub PageByNumber : Type 0
-PageByNumber = (book request out : List ℕ) → number_is_0 (page_ending (page_written (price_of book request) out)) ≡ is_page (page_written (price_of book request) out)
+PageByNumber = (book request out : List ℕ) → number_is_0 (page_ending (page_written (price_of book request) out)) ≡ is_ok (page_written (price_of book request) out)
 
 abbrev pub PageByEnding : Type 0
 PageByEnding =
     (book request book' request' out out' : List ℕ) →
     page_ending (page_written (price_of book request) out) ≡ page_ending (page_written (price_of book' request') out') →
     page_written (price_of book request) out ≡ page_written (price_of book' request') out'
+
+abbrev pub PromisedPage : Type 0
+PromisedPage = (book request out : List ℕ) (written : PageWritten) → AnswerPromised page_ending (page_written (price_of book request) out) written → written ≡ page_written (price_of book request) out

@@ -1,6 +1,6 @@
 -- Document 02, E6: "a two-byte number up to 255 means the same zone as the one-byte number". Books and requests that have the same values, whatever bytes their
 -- zone numbers take.
-use Rattle.std.specs.Prelude.{ℕ, ◌+◌, ◌≡◌, cond, take, drop, eqb, None, Ok, Some, Option}
+use Rattle.std.specs.Prelude.{ℕ, ◌+◌, ◌≡◌, take, drop, None, Ok, Some, Option, if◌then◌else◌, ◌==◌}
 use mathlib.Core.List.{List, ◌∷◌, map}
 use Rattle.numbers.specs.BigEndian.{Bytes}
 use Rattle.tagged.specs.File.{fields_part, file_answer}
@@ -10,7 +10,7 @@ use Rattle.book_zones.specs.Zones.{number_width, zone_starts}
 
 -- a value that begins with a zone number of so many bytes, with the number in two
 abbrev pub in_two_bytes : ℕ → List ℕ → List ℕ
-in_two_bytes width value = cond (eqb width 1) (0 ∷ value) value
+in_two_bytes width value = if width == 1 then 0 ∷ value else value
 
 -- the zones of the fields s: number and rates, each number in two bytes
 abbrev pub zone_in_two_bytes_at : List ℕ → ℕ → List ℕ

@@ -3,7 +3,7 @@
 #![tactic(auto)]
 
 ghost use Rattle.pricing_laws.specs.Cases.Slip.{SlipOfDocument01};
-ghost use Rattle.pricing_laws.specs.Laws.{AlteredBookNotPriced, AlteredBookSlip, AlteredRequestNotPriced, AlteredRequestSlip, BandByEnding, BandByNumber, BandHolds, BandReached, BandRefusals, BookByNumber, BookInTwoBytes, CCNeverRises, DecimalOneWay, DiscountBounds, EitherFormAccepted, EitherFormPricesAlike, EveryBandFits, LabelsListed, LineEnds, LongestSlip, NCNeverFalls, NoOtherEnd, OlderPriced, OlderZone, OlderZones, PageByEnding, PageByNumber, PageOneWay, PageSize, PricedPercentagesExact, PricedReconciles, PricedWithin, PricingByEnding, PricingByNumber, PricingRefusals, Reconciles, RecurrenceAtEachEntry, RefusedPageChangesNothing, RefusedSlipChangesNothing, RequestByNumber, RequestInTwoBytes, SignedOneWay, SlipByEnding, SlipByNumber, SlipFits, SlipSaysExact};
+ghost use Rattle.pricing_laws.specs.Laws.{AlteredBookNotPriced, AlteredBookSlip, AlteredRequestNotPriced, AlteredRequestSlip, BandByEnding, BandByNumber, BandHolds, BandReached, BandRefusals, BookByNumber, BookInTwoBytes, CCNeverRises, DecimalOneWay, DiscountBounds, EitherFormAccepted, EitherFormPricesAlike, EveryBandFits, LabelsListed, LineEnds, LongestSlip, NCNeverFalls, NoOtherEnd, OlderPriced, OlderZone, OlderZones, PageByEnding, PageByNumber, PageOneWay, PageSize, PricedPercentagesExact, PricedReconciles, PricedWithin, PricingByEnding, PricingByNumber, PricingRefusals, PromisedBand, PromisedPage, PromisedPrice, PromisedSlip, Reconciles, RecurrenceAtEachEntry, RefusedPageChangesNothing, RefusedSlipChangesNothing, RequestByNumber, RequestInTwoBytes, SignedOneWay, SlipByEnding, SlipByNumber, SlipFits, SlipSaysExact};
 
 /// Discount factors, by document 01's recurrence.
 pub fn discount_factors()
@@ -21,13 +21,14 @@ pub fn charge_reconciles()
 {}
 
 /// How pricing ends.
-#[tactic(auto, using(charge::proofs::Theorems::PriceRefusals::pricing_refusal, charge::proofs::Theorems::PriceEnding::book_by_number, charge::proofs::Theorems::PriceEnding::request_by_number, charge::proofs::Theorems::PriceEnding::pricing_by_number, charge::proofs::Theorems::PriceEnding::pricing_by_ending))]
+#[tactic(auto, using(charge::proofs::Theorems::PriceRefusals::pricing_refusal, charge::proofs::Theorems::PriceEnding::book_by_number, charge::proofs::Theorems::PriceEnding::request_by_number, charge::proofs::Theorems::PriceEnding::pricing_by_number))]
 pub fn pricing_ends()
     ensures refusals { PricingRefusals }
     ensures book { BookByNumber }
     ensures request { RequestByNumber }
     ensures number { PricingByNumber }
     ensures ending { PricingByEnding }
+    ensures promised { PromisedPrice }
 {}
 
 /// With one byte of a file altered, what was priced is refused, and the slip says so.
@@ -67,11 +68,12 @@ pub fn band_is_exact()
 {}
 
 /// How pricing between two figures ends.
-#[tactic(auto, using(price_band::proofs::Theorems::BandEnding::band_refusal, price_band::proofs::Theorems::BandEnding::band_by_number, price_band::proofs::Theorems::BandEnding::band_by_ending))]
+#[tactic(auto, using(price_band::proofs::Theorems::BandEnding::band_refusal, price_band::proofs::Theorems::BandEnding::band_by_number))]
 pub fn band_ends()
     ensures refusals { BandRefusals }
     ensures number { BandByNumber }
     ensures ending { BandByEnding }
+    ensures promised { PromisedBand }
 {}
 
 /// What is read off a slip.
@@ -84,13 +86,14 @@ pub fn slip_reads()
 {}
 
 /// How long a slip is, and how its writing ends.
-#[tactic(auto, using(slip_text::proofs::Theorems::SlipSize::longest_slip_lem, slip_text::proofs::Theorems::Slip::slip_fits, slip_text::proofs::Theorems::Slip::refused_slip_changes_nothing, slip_text::proofs::Theorems::SlipEnding::slip_by_number, slip_text::proofs::Theorems::SlipEnding::slip_by_ending))]
+#[tactic(auto, using(slip_text::proofs::Theorems::SlipSize::longest_slip_lem, slip_text::proofs::Theorems::Slip::slip_fits))]
 pub fn slip_ends()
     ensures longest { LongestSlip }
     ensures fits { SlipFits }
     ensures refused { RefusedSlipChangesNothing }
     ensures number { SlipByNumber }
     ensures ending { SlipByEnding }
+    ensures promised { PromisedSlip }
 {}
 
 /// What is read off a page.
@@ -109,4 +112,5 @@ pub fn page_ends()
     ensures refused { RefusedPageChangesNothing }
     ensures number { PageByNumber }
     ensures ending { PageByEnding }
+    ensures promised { PromisedPage }
 {}

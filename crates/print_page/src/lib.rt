@@ -2,9 +2,11 @@
 #![tactic(auto)]
 
 ghost use Rattle.std.specs.Prelude.{◌≡◌, Err, Ok};
+ghost use Rattle.tagged.specs.AnswerPromised.{AnswerPromised};
 ghost use Rattle.charge.specs.Price.{price_of};
 ghost use Rattle.slip_text.specs.Slip.{slip_written, slip_buffer};
 ghost use Rattle.page_text.specs.Page.{page_size, page_written, page_output};
+ghost use Rattle.slip_text.specs.SlipEnding.{slip_ending};
 ghost use Rattle.print_page.specs.PageOrLine.{page_or_line};
 ghost use Rattle.print_slip.specs.Counted.{counted};
 
@@ -23,10 +25,10 @@ fn files_page(book: &[u8], request: &[u8], out: &mut [u8]) -> PageWritten
 }
 
 // The page, or the line `REFUSED n file place` as a slip has it, at the start of a lent buffer.
-#[tactic(auto, unfolding(page_text::specs::Page::page_written, page_text::specs::Page::page_output))]
+#[tactic(auto, using(crate::proofs::Lines::line_promise, slip_text::proofs::Theorems::SlipEnding::promised_slip), unfolding(page_text::specs::Page::page_written, page_text::specs::Page::page_output))]
 fn page_or_refusal(book: &[u8], request: &[u8], text: &mut [u8]) -> SlipWritten
-    ensures value { let pricing = price_of (counted book.now) (counted request.now) in
-        result ≡ page_or_line (page_written pricing text.old) (Ok page_size) (λ r. slip_written (Err r) text.old) }
+    ensures answer { let pricing = price_of (counted book.now) (counted request.now) in
+        AnswerPromised slip_ending (page_or_line (page_written pricing text.old) (Ok page_size) (λ r. slip_written (Err r) text.old)) result }
     ensures text_after { let pricing = price_of (counted book.now) (counted request.now) in
         text.new ≡ page_or_line (page_written pricing text.old) (page_output pricing text.old) (λ r. slip_buffer (Err r) text.old) }
 {

@@ -2,8 +2,10 @@
 #![tactic(auto)]
 
 ghost use Rattle.std.specs.Prelude.{◌≡◌};
+ghost use Rattle.tagged.specs.AnswerPromised.{AnswerPromised};
 ghost use Rattle.charge.specs.Price.{price_of};
 ghost use Rattle.slip_text.specs.Slip.{slip_written, slip_buffer};
+ghost use Rattle.slip_text.specs.SlipEnding.{slip_ending};
 ghost use Rattle.print_slip.specs.Counted.{counted};
 
 use arrayvec::ArrayVec;
@@ -30,7 +32,7 @@ pub fn counted<'a>(file: &'a [u8]) -> &'a [u8]
 
 // The slip of a rate book and a request by what counts of them, at the start of a lent buffer.
 fn files_slip(book: &[u8], request: &[u8], text: &mut [u8]) -> SlipWritten
-    ensures value { result ≡ slip_written (price_of (counted book.now) (counted request.now)) text.old }
+    ensures answer { AnswerPromised slip_ending (slip_written (price_of (counted book.now) (counted request.now)) text.old) result }
     ensures text_after { text.new ≡ slip_buffer (price_of (counted book.now) (counted request.now)) text.old }
 {
     slip_text::slip_text(charge::price(counted(book), counted(request)), text)

@@ -3,7 +3,9 @@
 
 ghost use Rattle.std.specs.Prelude.{◌≡◌, ◌+◌, ◌<◌, ◌≤◌, nat_abs, length};
 ghost use mathlib.Core.List.{[], ◌∷◌, ◌++◌, flatten};
+ghost use Rattle.tagged.specs.AnswerPromised.{AnswerPromised};
 ghost use Rattle.slip_text.specs.Slip.{decimal, signed_decimal, line, reconciliation_lines, refusal_text, slip_of, slip_written, slip_buffer};
+ghost use Rattle.slip_text.specs.SlipEnding.{slip_ending};
 ghost use Rattle.slip_text.specs.SlipRoom.{room};
 ghost use Rattle.slip_text.specs.FigureRoom.{figure_text, figure_room};
 
@@ -194,8 +196,9 @@ fn pricing_text(pricing: &Pricing) -> Text
 }
 
 // The slip at the start of a lent buffer, and its length; refused where the buffer is shorter.
+#[tactic(auto, using(crate::proofs::Theorems::SlipEnding::slip_promise))]
 pub fn slip_text(pricing: Pricing, out: &mut [u8]) -> SlipWritten
-    ensures value { result ≡ slip_written pricing out.old }
+    ensures answer { AnswerPromised slip_ending (slip_written pricing out.old) result }
     ensures out_after { out.new ≡ slip_buffer pricing out.old }
 {
     let text = pricing_text(&pricing);

@@ -15,6 +15,12 @@ abbrev pub answer_of : {Values : Type 0} → Result Values Refusal → FileAnswe
 answer_of (Ok values) = Ok tt
 answer_of (Err r) = Err r
 
+-- the `?` of the code: the next step, where this one has a value
+infixl 10 ◌>>=◌
+abbrev pub ◌>>=◌ : {A B : Type 0} → Result A Refusal → (A → Result B Refusal) → Result B Refusal
+Ok value >>= next = next value
+Err r >>= next = Err r
+
 -- "The last field is FF, length 2: the check."
 abbrev pub tail_stands : List ℕ → Bool
 tail_stands s =

@@ -1,10 +1,11 @@
 -- Pricing refuses a book with 1 to 3, a request with 1 to 5, and with no other number.
 use Rattle.std.specs.Prelude.{ℕ, ◌≤◌, ◌≡◌, refl, List, [], get_or, Err, None, Ok, Option, Some, Result}
+use Rattle.std.specs.Option.{ok_or}
 use Rattle.std.proofs.Common.{subst, inl, inr, ⊎_elim, arith}
-use Rattle.tagged.specs.File.{answer_of}
+use Rattle.tagged.specs.File.{◌>>=◌, answer_of, refusal}
 use Rattle.tagged.specs.FileStands.{RefusalTo}
 use Rattle.tagged.proofs.Theorems.File.{RefusesTo}
-use Rattle.tagged.specs.Refusals.{value_not_listed, bespoke_not_allowed}
+use Rattle.tagged.specs.Refusals.{value_not_listed, zone_not_in_book, bespoke_not_allowed}
 use Rattle.tagged.specs.declared.file.Refusal.{Refusal}
 use Rattle.rate_book.specs.Book.{book_of}
 use Rattle.rate_book.proofs.Theorems.Book.{book_refusal_numbers}
@@ -13,7 +14,7 @@ use Rattle.request.specs.Request.{request_of}
 use Rattle.request.proofs.Theorems.Request.{request_refusal_numbers}
 use Rattle.request.specs.declared.values.Request.{Request}
 use Rattle.capacity.specs.Capacity.{first_not_allowed}
-use Rattle.charge.specs.Price.{zone_found, tiers_of, if_allowed, in_zone, if_stands, values_priced, request_priced, price_of, Pricing}
+use Rattle.charge.specs.Price.{zone_found, tiers_of, if_allowed, values_priced, request_priced, price_of, Pricing}
 use Rattle.charge.specs.PriceRefusals.{PricingRefusal}
 use Rattle.charge.specs.declared.Bill.{Bill}
 
@@ -25,12 +26,13 @@ if_allowed_lem : (allowed : Option ℕ) (bill : Bill) → PricingRefuses (if_all
 if_allowed_lem None bill = tt
 if_allowed_lem (Some tier) bill = inr (omega arith, omega arith, refl)
 
-in_zone_lem : (zone : Option ℕ) (priced : ℕ → Pricing) → ((zone : ℕ) → PricingRefuses (priced zone)) → PricingRefuses (in_zone zone priced)
+in_zone_lem : (zone : Option ℕ) (priced : ℕ → Pricing) → ((zone : ℕ) → PricingRefuses (priced zone)) →
+    PricingRefuses (ok_or zone (refusal zone_not_in_book 2 0) >>= priced)
 in_zone_lem None priced h = inr (omega arith, omega arith, refl)
 in_zone_lem (Some zone) priced h = h zone
 
 if_stands_lem : {Values : Type 0} (file : ℕ) (read : Result Values Refusal) (priced : Values → Pricing) → ((r : Refusal) → RefusalTo value_not_listed file r → PricingRefusal r) →
-    RefusesTo value_not_listed file (answer_of read) → ((values : Values) → PricingRefuses (priced values)) → PricingRefuses (if_stands read priced)
+    RefusesTo value_not_listed file (answer_of read) → ((values : Values) → PricingRefuses (priced values)) → PricingRefuses (read >>= priced)
 if_stands_lem file (Ok values) priced told h p = p values
 if_stands_lem file (Err r) priced told h p = told r h
 

@@ -5,6 +5,8 @@ use Rattle.book_zones.specs.BookRows.{book_rows}
 use Rattle.rate_book.specs.Book.{book_of}
 use Rattle.rate_book.proofs.Theorems.Book.{book_judged}
 use Rattle.rate_book.proofs.Theorems.BookLimits.{book_within_limits, rates_within_limits}
+use Rattle.charge.specs.Price.{price_of}
+use Rattle.charge.proofs.Theorems.PriceEnding.{price_promise}
 use Rattle.charge.proofs.price.Goals as goal
 
 pub price_request-requires : goal.price_request-requires
@@ -16,3 +18,11 @@ price_request-requires c =
       book_within_limits 1 file read (λ k. (c.type_inv.book k).fits),
       rw (c.zone_rates-rates.ensures, c.new-book.ensures, c.fields_part.ensures.0) (rates_within_limits 1 file read),
     )
+
+pub returns-in_err-values : goal.returns-in_err-values
+unfolding price_of book_of
+returns-in_err-values c = price_promise c.args.book.now c.args.request.now (search rules)
+
+pub returns : goal.returns
+unfolding price_of book_of
+returns c = price_promise c.args.book.now c.args.request.now (search rules)

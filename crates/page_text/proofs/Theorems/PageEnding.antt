@@ -1,40 +1,46 @@
--- The ending tells the answer: written or refused by the number, and two different answers never end alike.
-use Rattle.std.specs.Prelude.{ℕ, ◌≤◌, ◌≡◌, List, Bool, cond, length, Err, Ok}
+-- The ending tells the answer: written or refused by the number, and two different answers never end alike. So what is promised of the ending tells the answer.
+use Rattle.std.specs.Prelude.{ℕ, ◌≡◌, List, [], cond, length, is_ok, Err, Ok}
 use Rattle.std.proofs.Math.Path.{refl}
-use Rattle.std.proofs.Common.{sym, ap, ◌∙◌}
-use Rattle.std.proofs.Math.Bool.{true, false}
+use Rattle.std.proofs.Common.{arith}
+use Rattle.std.proofs.Math.Bool.{Bool, true, false}
 use Rattle.std.proofs.Math.Dec.{ltb}
-use Rattle.tagged.specs.Ending.{Ending}
-use Rattle.tagged.specs.EndingTests.{number_is_0}
-use Rattle.tagged.proofs.Theorems.Ending.{refusal_in, refused_by_number}
-use Rattle.tagged.specs.declared.file.Refusal.{Refusal}
+use Rattle.tagged.specs.File.{refusal}
+use Rattle.tagged.specs.Refusals.{output_too_short}
+use Rattle.tagged.specs.EndingTests.{number_is_0, Numbered}
+use Rattle.tagged.specs.AnswerPromised.{AnswerPromised}
+use Rattle.tagged.proofs.Theorems.Ending.{answer_by_number, answer_by_ending, promised_by_ending, answer_promise}
 use Rattle.charge.specs.Price.{price_of, Pricing}
-use Rattle.charge.proofs.Theorems.PriceRefusals.{pricing_refusal_numbers}
+use Rattle.charge.proofs.Theorems.PriceEnding.{price_numbered}
 use Rattle.page_text.specs.Page.{page_size, page_written, PageWritten}
-use Rattle.page_text.specs.PageEnding.{page_ending, is_written}
+use Rattle.page_text.specs.PageEnding.{page_ending}
 
 module _ (book request out : List ℕ) where
-  -- number 0 exactly where the page is written
-  pub page_by_number : number_is_0 (page_ending (page_written (price_of book request) out)) ≡ is_written (page_written (price_of book request) out)
+  pub page_numbered : Numbered (page_written (price_of book request) out)
   unfolding page_written
-  page_by_number = by (price_of book request) (λ r refused. (pricing_refusal_numbers book request r refused).0) (ltb (length out) page_size) refl
+  page_numbered = by (price_of book request) (price_numbered book request)
     where
-      by : (pricing : Pricing) → ((r : Refusal) → pricing ≡ Err r → 1 ≤ r.number) → (short : Bool) → ltb (length out) page_size ≡ short →
-          number_is_0 (page_ending (page_written pricing out)) ≡ is_written (page_written pricing out)
-      by (Err r) numbers short e = refused_by_number r (numbers r refl)
-      by (Ok bill) numbers true e = rw e
-      by (Ok bill) numbers false e = rw e
+      of_length : (short : Bool) → Numbered {Value = Unit {0}} (cond short (Err (refusal output_too_short 0 0)) (Ok tt))
+      of_length true = omega arith
+      of_length false = tt
+
+      by : (pricing : Pricing) → Numbered pricing → Numbered (page_written pricing out)
+      by (Err r) numbered = numbered
+      by (Ok bill) numbered = of_length (ltb (length out) page_size)
+
+  -- number 0 exactly where the page is written
+  pub page_by_number : number_is_0 (page_ending (page_written (price_of book request) out)) ≡ is_ok (page_written (price_of book request) out)
+  page_by_number = answer_by_number (λ _. []) (page_written (price_of book request) out) page_numbered
 
 -- ---- the ending tells the answer
-abbrev page_from : Ending → PageWritten
-page_from ending = cond (number_is_0 ending) (Ok tt) (Err (refusal_in ending))
-
-page_from_lem : (written : PageWritten) → number_is_0 (page_ending written) ≡ is_written written → page_from (page_ending written) ≡ written
-page_from_lem (Ok _) numbered = refl
-page_from_lem (Err r) numbered = rw numbered
-
 pub page_by_ending : (book request other_book other_request out other_out : List ℕ) →
     page_ending (page_written (price_of book request) out) ≡ page_ending (page_written (price_of other_book other_request) other_out) →
     page_written (price_of book request) out ≡ page_written (price_of other_book other_request) other_out
-page_by_ending book request other_book other_request out other_out e =
-    sym (page_from_lem _ (page_by_number book request out)) ∙ ap page_from e ∙ page_from_lem _ (page_by_number other_book other_request other_out)
+page_by_ending book request other_book other_request out other_out =
+    answer_by_ending (λ _. []) (λ _ _ _. refl) _ _ (page_numbered book request out) (page_numbered other_book other_request other_out)
+
+module _ (book request out : List ℕ) where
+  pub page_promise : {written : PageWritten} → written ≡ page_written (price_of book request) out → AnswerPromised page_ending (page_written (price_of book request) out) written
+  page_promise = answer_promise page_ending (page_numbered book request out)
+
+  pub promised_page : (written : PageWritten) → AnswerPromised page_ending (page_written (price_of book request) out) written → written ≡ page_written (price_of book request) out
+  promised_page written = promised_by_ending (λ _. []) (λ _ _ _. refl) _ _ (page_numbered book request out)

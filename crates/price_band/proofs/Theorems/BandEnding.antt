@@ -1,20 +1,21 @@
 -- Pricing between two figures refuses as pricing does, or with 3 or 15 for its bands; its ending tells its answer.
-use Rattle.std.specs.Prelude.{ℕ, ◌≤◌, ◌≡◌, List, pos, nat_abs, get_or, Err, Ok}
+use Rattle.std.specs.Prelude.{ℕ, ◌≤◌, ◌≡◌, List, pos, nat_abs, get_or, is_ok, Err, Ok}
 use Rattle.std.proofs.Math.Path.{refl, ap}
 use Rattle.std.proofs.Common.{sym, ◌∙◌, ⊎_elim, arith}
 use Rattle.std.proofs.Math.Logic.{inl, inr}
-use Rattle.tagged.specs.Ending.{Ending}
-use Rattle.tagged.specs.EndingTests.{number_is_0}
+use Rattle.tagged.specs.EndingTests.{number_is_0, Numbered}
+use Rattle.tagged.specs.AnswerPromised.{AnswerPromised}
+use Rattle.tagged.specs.File.{◌>>=◌}
 use Rattle.tagged.specs.Refusals.{value_not_listed, low_above_high}
-use Rattle.tagged.proofs.Theorems.Ending.{refused_by_number, refused_not_done, refusal_by_ending}
+use Rattle.tagged.proofs.Theorems.Ending.{answer_by_number, answer_by_ending, promised_by_ending, answer_promise}
 use Rattle.tagged.proofs.Theorems.Impossible.{impossible}
 use Rattle.tagged.proofs.Theorems.Walk.{by_test}
 use Rattle.tagged.specs.declared.file.Refusal.{Refusal}
 use Rattle.charge.specs.Price.{price_of, Pricing}
 use Rattle.charge.proofs.Theorems.Bill.{priced_by}
 use Rattle.charge.proofs.Theorems.PriceRefusals.{pricing_refusal}
-use Rattle.price_band.specs.PriceBand.{within_limits, low_to_high, if_bands, band_at_ends, if_priced, band_of, band_values, BandPricing}
-use Rattle.price_band.specs.BandEnding.{band_ending, has_band, BandRefusal}
+use Rattle.price_band.specs.PriceBand.{within_limits, low_to_high, if_bands, band_at_ends, band_of, band_values, BandPricing}
+use Rattle.price_band.specs.BandEnding.{band_ending, BandRefusal}
 use Rattle.price_band.proofs.Theorems.PriceBand.{ends_priced}
 use Rattle.price_band.specs.declared.Bands.{Bands}
 use Rattle.price_band.specs.declared.Band.{Band}
@@ -24,7 +25,7 @@ module _ (book_file request_file : List ℕ) (bands : Bands) where
   unfolding band_of
   band_refusal r = by_pricing (price_of book_file request_file) refl
     where
-      by_pricing : (pricing : Pricing) → price_of book_file request_file ≡ pricing → if_priced pricing (if_bands bands (band_at_ends book_file request_file bands)) ≡ Err r →
+      by_pricing : (pricing : Pricing) → price_of book_file request_file ≡ pricing → (pricing >>= λ bill. if_bands bands (band_at_ends book_file request_file bands)) ≡ Err r →
           BandRefusal r
       by_pricing (Err s) p e = let same : s ≡ r = cc in inl (pricing_refusal book_file request_file r (p ∙ ap Err same))
       by_pricing (Ok bill) p e =
@@ -35,19 +36,22 @@ module _ (book_file request_file : List ℕ) (bands : Bands) where
           (λ _ e. inr (inr (cc))))
           (λ _ e. inr (inl (cc))) e
 
-  numbered : (r : Refusal) → band_of book_file request_file bands ≡ Err r → 1 ≤ r.number
-  numbered r e =
+  number_1 : (r : Refusal) → BandRefusal r → 1 ≤ r.number
+  number_1 r told =
       ⊎_elim (λ priced. ⊎_elim (λ h. h.0) (λ h. h.0) priced)
       (⊎_elim (λ same. let is : r.number ≡ value_not_listed = ap (λ s. s.number) same in omega arith) (λ same. let is : r.number ≡ low_above_high = ap (λ s. s.number) same in omega arith))
-      (band_refusal r e)
+      told
+
+  pub band_numbered : Numbered (band_of book_file request_file bands)
+  band_numbered = by (band_of book_file request_file bands) band_refusal
+    where
+      by : (pricing : BandPricing) → ((r : Refusal) → pricing ≡ Err r → BandRefusal r) → Numbered pricing
+      by (Ok band) told = tt
+      by (Err r) told = number_1 r (told r refl)
 
   -- number 0 exactly where there is a band
-  pub band_by_number : number_is_0 (band_ending (band_of book_file request_file bands)) ≡ has_band (band_of book_file request_file bands)
-  band_by_number = by (band_of book_file request_file bands) numbered
-    where
-      by : (pricing : BandPricing) → ((r : Refusal) → pricing ≡ Err r → 1 ≤ r.number) → number_is_0 (band_ending pricing) ≡ has_band pricing
-      by (Ok band) numbers = refl
-      by (Err r) numbers = refused_by_number r (numbers r refl)
+  pub band_by_number : number_is_0 (band_ending (band_of book_file request_file bands)) ≡ is_ok (band_of book_file request_file bands)
+  band_by_number = answer_by_number band_values (band_of book_file request_file bands) band_numbered
 
 -- ---- the ending tells the answer
 band_by_values : (band other : Band) → band_values band ≡ band_values other → band ≡ other
@@ -67,11 +71,11 @@ pub band_by_ending : (book_file request_file other_book other_request : List ℕ
     band_ending (band_of book_file request_file bands) ≡ band_ending (band_of other_book other_request other_bands) →
     band_of book_file request_file bands ≡ band_of other_book other_request other_bands
 band_by_ending book_file request_file other_book other_request bands other_bands =
-    by (band_of book_file request_file bands) (band_of other_book other_request other_bands) (numbered book_file request_file bands) (numbered other_book other_request other_bands)
-  where
-    by : (pricing other : BandPricing) → ((r : Refusal) → pricing ≡ Err r → 1 ≤ r.number) → ((r : Refusal) → other ≡ Err r → 1 ≤ r.number) →
-        band_ending pricing ≡ band_ending other → pricing ≡ other
-    by (Ok band) (Ok other) numbers others e = ap Ok (band_by_values band other (ap (λ (ending : Ending). ending.values) e))
-    by (Ok band) (Err s) numbers others e = absurd (refused_not_done s _ (others s refl) (sym e))
-    by (Err r) (Ok other) numbers others e = absurd (refused_not_done r _ (numbers r refl) e)
-    by (Err r) (Err s) numbers others e = ap Err (refusal_by_ending r s e)
+    answer_by_ending band_values band_by_values _ _ (band_numbered book_file request_file bands) (band_numbered other_book other_request other_bands)
+
+module _ (book_file request_file : List ℕ) (bands : Bands) where
+  pub band_promise : {pricing : BandPricing} → pricing ≡ band_of book_file request_file bands → AnswerPromised band_ending (band_of book_file request_file bands) pricing
+  band_promise = answer_promise band_ending (band_numbered book_file request_file bands)
+
+  pub promised_band : (pricing : BandPricing) → AnswerPromised band_ending (band_of book_file request_file bands) pricing → pricing ≡ band_of book_file request_file bands
+  promised_band pricing = promised_by_ending band_values band_by_values _ _ (band_numbered book_file request_file bands)

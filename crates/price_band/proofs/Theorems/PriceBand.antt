@@ -1,9 +1,9 @@
 -- Pricing between two figures by its cases, in order: as the request itself is refused, 3, 15, the band; and what a band comes from.
-use Rattle.std.specs.Prelude.{ℕ, ◌≤◌, ◌≡◌, refl, List, [], Bool, true, false, cond, get_or, leb, Err, Ok}
+use Rattle.std.specs.Prelude.{ℕ, ◌≤◌, ◌≡◌, refl, List, [], Bool, true, false, ◌&&◌, get_or, Err, Ok}
 use Rattle.std.proofs.Common.{sym, ap, ap₂, ◌∙◌, arith, leb-true}
 use Rattle.std.proofs.lemmas.Bool.{false≢true}
 use Rattle.numbers.specs.BigEndian.{Bytes}
-use Rattle.tagged.specs.File.{fields_part}
+use Rattle.tagged.specs.File.{◌>>=◌, fields_part}
 use Rattle.tagged.proofs.Theorems.Impossible.{impossible}
 use Rattle.tagged.proofs.Theorems.Walk.{by_test}
 use Rattle.tagged.specs.declared.file.Refusal.{Refusal}
@@ -17,7 +17,7 @@ use Rattle.charge.specs.BillLimits.{BillWithin}
 use Rattle.charge.proofs.Theorems.Price.{bill_in_zone}
 use Rattle.charge.proofs.Theorems.Bill.{PricedBy, priced_by, costs_within, bill_within}
 use Rattle.charge.specs.declared.Bill.{Bill}
-use Rattle.price_band.specs.PriceBand.{within_limits, low_to_high, if_bands, priced_with, band_between, between_pricings, band_at_ends, if_priced, band_of}
+use Rattle.price_band.specs.PriceBand.{within_limits, low_to_high, if_bands, priced_with, band_between, band_at_ends, band_of}
 use Rattle.price_band.specs.EndCosts.{end_costs, end_reconciliation}
 use Rattle.price_band.specs.declared.Bands.{Bands}
 use Rattle.price_band.specs.declared.Band.{Band}
@@ -33,9 +33,9 @@ module _ (book_file request_file : List ℕ) (bands : Bands) where
   band_judged bill e = rw e
 
 -- ---- the figures that pass
-both_at_most : (a b : ℕ) (later : Bool) → cond (leb a b) later false ≡ true → (a ≤ b) × (later ≡ true)
-both_at_most a b later =
-    by_test (λ test. test ≡ true → (a ≤ b) × (later ≡ true)) (leb a b) later false (λ l e. (leb-true a b l, e)) (λ _ e. absurd (false≢true e))
+and_parts : (first second : Bool) → first && second ≡ true → (first ≡ true) × (second ≡ true)
+and_parts true second e = (refl, e)
+and_parts false second e = absurd (false≢true e)
 
 pub record LimitsKept (bands : Bands) : Type 0 where
   pub distribution_low : bands.distribution_low ≤ highest_revenue
@@ -45,14 +45,19 @@ pub record LimitsKept (bands : Bands) : Type 0 where
 
 pub limits_kept : (bands : Bands) → within_limits bands ≡ true → LimitsKept bands
 limits_kept bands passes =
-    let first = both_at_most bands.distribution_low highest_revenue _ passes in
-    let second = both_at_most bands.distribution_high highest_revenue _ first.1 in
-    let third = both_at_most bands.transmission_low highest_revenue _ second.1 in
-    record { distribution_low = first.0; distribution_high = second.0; transmission_low = third.0; transmission_high = leb-true _ _ third.1 }
+    let third = and_parts _ _ passes in
+    let second = and_parts _ _ third.0 in
+    let first = and_parts _ _ second.0 in
+    record {
+      distribution_low = leb-true _ _ first.0;
+      distribution_high = leb-true _ _ first.1;
+      transmission_low = leb-true _ _ second.1;
+      transmission_high = leb-true _ _ third.1;
+    }
 
 pub low_to_high_lem : (bands : Bands) → low_to_high bands ≡ true →
     (bands.distribution_low ≤ bands.distribution_high) × (bands.transmission_low ≤ bands.transmission_high)
-low_to_high_lem bands passes = let first = both_at_most bands.distribution_low bands.distribution_high _ passes in (first.0, leb-true _ _ first.1)
+low_to_high_lem bands passes = let both = and_parts _ _ passes in (leb-true _ _ both.0, leb-true _ _ both.1)
 
 -- ---- a request that is priced is priced with any revenues
 module _ (book_file request_file : List ℕ) {bill : Bill} (by : PricedBy book_file request_file bill) where
@@ -68,7 +73,7 @@ module _ (book_file request_file : List ℕ) {bill : Bill} (by : PricedBy book_f
 
   pub ends_priced : (bands : Bands) → band_at_ends book_file request_file bands
       ≡ Ok (band_between (end_bill bands.distribution_low bands.transmission_low).reconciliation (end_bill bands.distribution_high bands.transmission_high).reconciliation)
-  ends_priced bands = ap₂ between_pricings (end_priced _ _) (end_priced _ _)
+  ends_priced bands = ap₂ (λ lows highs. lows >>= λ low. highs >>= λ high. Ok (band_between low.reconciliation high.reconciliation)) (end_priced _ _) (end_priced _ _)
 
   -- from the costs of the bill alone
   pub ends_by_costs : (bands : Bands) →
@@ -108,7 +113,7 @@ pub band_by : (book_file request_file : List ℕ) (bands : Bands) (band : Band) 
 unfolding band_of
 band_by book_file request_file bands band = by_pricing (price_of book_file request_file) refl
   where
-    by_pricing : (pricing : Pricing) → price_of book_file request_file ≡ pricing → if_priced pricing (if_bands bands (band_at_ends book_file request_file bands)) ≡ Ok band →
+    by_pricing : (pricing : Pricing) → price_of book_file request_file ≡ pricing → (pricing >>= λ bill. if_bands bands (band_at_ends book_file request_file bands)) ≡ Ok band →
         BandBy book_file request_file bands band
     by_pricing (Err r) p e = impossible cc
     by_pricing (Ok bill) p e =

@@ -6,7 +6,7 @@ use mathlib.Core.List.{Memᴰ}
 use Rattle.numbers.specs.BigEndian.{number_at}
 use Rattle.field_walk.specs.Walk.{FieldAt}
 use Rattle.tagged.specs.Find.{fields_of, place_at, first_with, first_place, field_value}
-use Rattle.tagged.specs.File.{fields_part, file_answer, FileAnswer}
+use Rattle.tagged.specs.File.{◌>>=◌, fields_part, file_answer, FileAnswer}
 use Rattle.tagged.specs.declared.file.Refusal.{Refusal}
 use Rattle.tagged.proofs.Theorems.Impossible.{impossible}
 use Rattle.field_values.specs.Judged.{Judged}
@@ -17,7 +17,7 @@ use Rattle.rate_book.specs.declared.book.Book.{Book}
 use Rattle.request.specs.Fields.{zone_in}
 use Rattle.request.specs.Request.{request_of, judge_request, request_values}
 use Rattle.request.specs.declared.values.Request.{Request}
-use Rattle.charge.specs.Price.{if_stands, values_priced, request_priced, price_of, Pricing}
+use Rattle.charge.specs.Price.{values_priced, request_priced, price_of, Pricing}
 use Rattle.pricing_laws.specs.EarlierRows.{earlier_request_rows}
 use Rattle.pricing_laws.specs.EarlierPricing.{earlier_book_of, earlier_request_of, earlier_price_of, AsBefore}
 use Rattle.pricing_laws.proofs.Theorems.OlderBooks.{older_book_same, older_zone_tag}
@@ -68,10 +68,10 @@ older_priced book request b r = rw (older_book book b) (by (earlier_book_of book
     rates = zone_rates (fields_part book)
 
     priced : Book → Result Request Refusal → Pricing
-    priced values asked = if_stands asked (λ r. values_priced values rates r r.distribution_revenue r.transmission_revenue)
+    priced values asked = asked >>= λ r. values_priced values rates r r.distribution_revenue r.transmission_revenue
 
     by : (values : Result Book Refusal) →
-        AsBefore (if_stands values (λ b. priced b (earlier_request_of request))) (if_stands values (λ b. priced b (request_of 2 request)))
+        AsBefore (values >>= λ b. priced b (earlier_request_of request)) (values >>= λ b. priced b (request_of 2 request))
     by (Err refused) = inl refl
     by (Ok values) =
         ⊎_elim

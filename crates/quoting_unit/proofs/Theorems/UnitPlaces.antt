@@ -3,11 +3,12 @@ use Prim.Native.Nat.{ℕ, zero, suc, ◌+◌, ◌≤◌}
 use Rattle.std.specs.Prelude.{◌≡◌, refl, List, [], ◌∷◌, Bool, true, false, cond, ltb, leb, eqb, length, get_or, take, Err, None, Ok, Option, Some, Result}
 use Rattle.std.proofs.Common.{sym, subst, ap, ◌∙◌}
 use native.Mathlib.Omega.{arith}
-use Rattle.tagged.specs.File.{file_answer, answer_of, fields_part, refusal, FileAnswer}
+use Rattle.std.specs.Option.{ok_or}
+use Rattle.tagged.specs.File.{◌>>=◌, file_answer, answer_of, fields_part, refusal, FileAnswer}
 use Rattle.tagged.specs.Find.{field_start, field_value}
 use Rattle.tagged.proofs.Theorems.Walk.{by_test}
 use Rattle.tagged.proofs.Theorems.Impossible.{impossible}
-use Rattle.tagged.specs.Refusals.{bespoke_not_allowed, no_entry_left, pay_out_above_credit, ledger_unsound, output_too_short}
+use Rattle.tagged.specs.Refusals.{zone_not_in_book, bespoke_not_allowed, no_entry_left, pay_out_above_credit, ledger_unsound, output_too_short}
 use Rattle.tagged.specs.declared.file.Refusal.{Refusal}
 use Rattle.field_values.specs.Judged.{judge, same_bytes}
 use Rattle.rate_book.specs.Book.{book_of}
@@ -15,7 +16,7 @@ use Rattle.rate_book.specs.declared.book.Book.{Book}
 use Rattle.request.specs.Request.{request_of}
 use Rattle.request.specs.declared.values.Request.{Request}
 use Rattle.capacity.specs.Capacity.{tier_allowed, first_not_allowed}
-use Rattle.charge.specs.Price.{zone_found, tiers_of, if_allowed, in_zone, if_stands, values_priced, request_priced, price_of, Pricing}
+use Rattle.charge.specs.Price.{zone_found, tiers_of, if_allowed, values_priced, request_priced, price_of, Pricing}
 use Rattle.charge.proofs.Theorems.PriceRefusals.{pricing_refusal_numbers}
 use Rattle.charge.specs.declared.Bill.{Bill}
 use Rattle.slip_text.specs.Slip.{slip_of}
@@ -81,15 +82,15 @@ module _ (size : ℕ) (five : 5 ≤ size) where
   if_allowed_lem (Some tier) bill h = (omega arith, omega arith)
 
   in_zone_lem : (k zones : ℕ) (numbers : List ℕ) (number : ℕ) (priced : ℕ → Pricing) → ((zone : ℕ) → PricingBy size (priced zone)) →
-      PricingBy size (in_zone (zone_found k zones numbers number) priced)
+      PricingBy size (ok_or (zone_found k zones numbers number) (refusal zone_not_in_book 2 0) >>= priced)
   unfolding zone_found
   in_zone_lem k zero numbers number priced h = (omega arith, omega arith)
   in_zone_lem k (suc zones) numbers number priced h =
-      by_test (λ zone. PricingBy size (in_zone zone priced)) (eqb (get_or numbers k 0) number) _ _ (λ _. h k)
+      by_test (λ zone. PricingBy size (ok_or zone (refusal zone_not_in_book 2 0) >>= priced)) (eqb (get_or numbers k 0) number) _ _ (λ _. h k)
       (λ _. in_zone_lem (k + 1) zones numbers number priced h)
 
   if_stands_lem : {Values : Type 0} (low : ℕ) (read : Result Values Refusal) (priced : Values → Pricing) → low ≤ size → FileAnswerBy low (answer_of read) →
-      ((values : Values) → PricingBy size (priced values)) → PricingBy size (if_stands read priced)
+      ((values : Values) → PricingBy size (priced values)) → PricingBy size (read >>= priced)
   if_stands_lem low (Ok values) priced within h p = p values
   if_stands_lem low (Err r) priced within h p = (h.0, omega (arith, h.1))
 
