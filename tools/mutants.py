@@ -44,7 +44,7 @@ MOST_MODULES = 400
 SECONDS = 420
 SECONDS_IN_ALL = 3600
 # cases that take seconds each: they are tried where the lighter ones of the crate hold
-HEAVY = (("ledger", "Cases.Sound", "full_cases_hold"),)
+HEAVY = (("ledger", "Cases.Sound", "full_cases_hold"), ("event_file", "Cases.EventFile", "longest_event_walks"))
 NOT_DEFINITIONS = ("Lib", "Laws", "Cases", "Theorems")
 # refused and unreadable by the cases of its own crate or of one above; the others have passed them all
 REFUSED, ABOVE, UNREADABLE, LIMIT, EXPLAINED_AS, PROOFS_ALONE, SURVIVES = "refused", "refused above", "unreadable", "at a limit", "explained", "proofs alone", "survives"

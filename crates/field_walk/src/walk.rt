@@ -65,7 +65,8 @@ fn most_in(row: &Row, form: u16) -> usize
     0
 }
 
-fn permitted(row: &Row, len: usize) -> bool
+// Whether a row permits a length.
+pub fn permitted(row: &Row, len: usize) -> bool
     ensures { result ≡ permitted_by row.now len }
 {
     let lowest = usize::from(row[1]);

@@ -3,10 +3,10 @@ use Rattle.std.specs.Prelude.{ℕ, ◌-◌, ◌^◌, ◌<◌, ◌≤◌, ◌≡�
 use mathlib.Core.List.{List, [], ◌∷◌, ◌++◌}
 use Rattle.numbers.specs.BigEndian.{Bytes, number, bytes_of}
 use Rattle.numbers.specs.Check.{check_from}
-use Rattle.field_walk.specs.Walk.{least_of, FieldAt, fields, first_form, second_form, neither_form, row_in, rows_in, walk_by, walk}
+use Rattle.field_walk.specs.Walk.{least_of, FieldAt, Walk, fields, first_form, second_form, neither_form, row_in, rows_in, walk_by, walk}
 use Rattle.field_walk.specs.FieldsWalk.{FieldsWalk}
 use Rattle.tagged.specs.Refusals.{file_does_not_walk, check_differs}
-use Rattle.tagged.specs.File.{tail_stands, check_stands, answer_of, fields_part, refusal, file_answer, FileAnswer}
+use Rattle.tagged.specs.File.{tail_stands, check_stands, answer_of, fields_part, refusal, answer_by_walk, file_answer, FileAnswer}
 use Rattle.tagged.specs.Find.{fields_of, first_with, first_place, field_start}
 use Rattle.tagged.specs.Encoded.{encoded_parts}
 use Rattle.tagged.specs.RisingTags.{rising_tags}
@@ -115,6 +115,14 @@ NeitherInARequest =
     Stand (rows_in neither_form request_rows) 0 fs → file_answer request_rows number file ≡ Err (refusal file_does_not_walk number (field_start 5 (fields_part file) - 3))
 
 -- ---- one byte of a file is another byte
+
+-- whatever its kind: however the fields of the two files walk
+abbrev pub AlteredRefused : Type 0
+AlteredRefused =
+    (file : ℕ) (walked other_walked : Walk) (s : List ℕ) (i b : ℕ) → Bytes s → i < length s → b < 256 → (slice_index s i ≡ b → ⊥) → answer_by_walk file s walked ≡ Ok tt →
+    (answer_by_walk file (set s i b) other_walked ≡ Err (refusal file_does_not_walk file 0)) ⊎
+    (answer_by_walk file (set s i b) other_walked ≡ Err (refusal check_differs file (length s - 2)))
+
 abbrev pub AlteredFileRefused : Type 0
 AlteredFileRefused =
     (rows : List (List ℕ)) (file : ℕ) (s : List ℕ) (i b : ℕ) → Bytes s → i < length s → b < 256 → (slice_index s i ≡ b → ⊥) → file_answer rows file s ≡ Ok tt →

@@ -2,7 +2,7 @@
 // Each function is there for its contract alone, a law on the definitions of the crates below.
 #![tactic(auto)]
 
-ghost use Rattle.file_laws.specs.Laws.{AcceptedBookSizes, AcceptedRequestSizes, AlteredBookRefused, AlteredFileRefused, AlteredRequestRefused, BookWithinLimits, BothInABook, BothInARequest, BytesWriteBack, CheckOfOneByte, FileAnswerByEnding, FinderFinds, FinderGoesOver, FindsDue, LoadingIsSpecial, NeitherInABook, NeitherInARequest, NumberReadsBack, PartsOfEncoded, RatesWithinLimits, RequestWithinLimits, StandsMeans, WalkFields, WalkOfEncoded, WalkStands, WalkTiles};
+ghost use Rattle.file_laws.specs.Laws.{AcceptedBookSizes, AcceptedRequestSizes, AlteredBookRefused, AlteredFileRefused, AlteredRefused, AlteredRequestRefused, BookWithinLimits, BothInABook, BothInARequest, BytesWriteBack, CheckOfOneByte, FileAnswerByEnding, FinderFinds, FinderGoesOver, FindsDue, LoadingIsSpecial, NeitherInABook, NeitherInARequest, NumberReadsBack, PartsOfEncoded, RatesWithinLimits, RequestWithinLimits, StandsMeans, WalkFields, WalkOfEncoded, WalkStands, WalkTiles};
 
 /// A number and its bytes tell each other.
 #[tactic(auto, using(numbers::proofs::Theorems::BigEndian::number_of_bytes_of, numbers::proofs::Theorems::BigEndian::bytes_of_number))]
@@ -56,8 +56,9 @@ pub fn both_forms_or_neither()
 {}
 
 /// With one byte altered, a file that was accepted is refused with 1 at 0 or with 2 at the check.
-#[tactic(auto, using(tagged::proofs::Theorems::AlteredByte::altered_file_refused, rate_book::proofs::Theorems::Book::altered_book_refused, request::proofs::Theorems::Request::altered_request_refused))]
+#[tactic(auto, using(tagged::proofs::Theorems::AlteredByte::altered_refused, tagged::proofs::Theorems::AlteredByte::altered_file_refused, rate_book::proofs::Theorems::Book::altered_book_refused, request::proofs::Theorems::Request::altered_request_refused))]
 pub fn altered_files_refused()
+    ensures any { AlteredRefused }
     ensures file { AlteredFileRefused }
     ensures book { AlteredBookRefused }
     ensures request { AlteredRequestRefused }

@@ -1,5 +1,6 @@
 -- Document 01, 'How calls end': "Order for a file: 1 for its last five bytes, 2, 1 for the rest". The rest, 3, is each reader's.
 use Rattle.std.specs.Prelude.{ℕ, ◌-◌, List, Bool, false, length, take, Err, Ok, Result, if◌then◌else◌, ◌==◌, nat_lt, slice_index}
+use Rattle.std.specs.Result.{result_and}
 use Rattle.numbers.specs.BigEndian.{number, number_at}
 use Rattle.numbers.specs.Check.{check}
 use Rattle.field_walk.specs.Walk.{Walk, walk, fields, stops}
@@ -41,13 +42,22 @@ fields_part s = take (length s - 5) s
 abbrev pub refusal : ℕ → ℕ → ℕ → Refusal
 refusal number file place = record { number = number; file = file; place = place }
 
+-- 1 for its last five bytes, then 2
+abbrev pub closing_answer : ℕ → List ℕ → FileAnswer
+closing_answer file s =
+    if tail_stands s then
+    (if check_stands s then Ok tt else Err (refusal check_differs file (length s - 2)))
+    else Err (refusal file_does_not_walk file 0)
+
 -- 1 for the rest: the offset of the first field that can't stand there
 abbrev pub of_walk : ℕ → Walk → FileAnswer
 of_walk file (fields fs) = Ok tt
 of_walk file (stops at) = Err (refusal file_does_not_walk file at)
 
+-- a file's answer by how its fields walk, whatever its kind
+abbrev pub answer_by_walk : ℕ → List ℕ → Walk → FileAnswer
+answer_by_walk file s walked = result_and (closing_answer file s) (of_walk file walked)
+
+-- of a kind by rows
 abbrev pub file_answer : List (List ℕ) → ℕ → List ℕ → FileAnswer
-file_answer rows file s =
-    if tail_stands s then
-    (if check_stands s then of_walk file (walk rows (fields_part s)) else Err (refusal check_differs file (length s - 2)))
-    else Err (refusal file_does_not_walk file 0)
+file_answer rows file s = answer_by_walk file s (walk rows (fields_part s))

@@ -1,16 +1,20 @@
 -- What a file that stands is, and the refusals of one.
 use Rattle.std.specs.Prelude.{ℕ, ◌≤◌, List, true, ◌≡◌, length}
-use Rattle.numbers.specs.BigEndian.{number}
-use Rattle.field_walk.specs.Walk.{walk, fields, FieldAt}
+use Rattle.field_walk.specs.Walk.{Walk, walk, fields, FieldAt}
 use Rattle.tagged.specs.declared.file.Refusal.{Refusal}
 use Rattle.tagged.specs.File.{tail_stands, check_stands, fields_part}
 
-pub record FileStands (rows : List (List ℕ)) (s : List ℕ) : Type 0 where
+-- by how its fields walk, whatever its kind
+pub record StandsBy (walked : Walk) (s : List ℕ) : Type 0 where
   pub size : 5 ≤ length s
   pub tail : tail_stands s ≡ true
   pub right_check : check_stands s ≡ true
   pub field_list : List FieldAt
-  pub walks : walk rows (fields_part s) ≡ fields field_list
+  pub walks : walked ≡ fields field_list
+
+-- of a kind by rows
+abbrev pub FileStands : List (List ℕ) → List ℕ → Type 0
+FileStands rows s = StandsBy (walk rows (fields_part s)) s
 
 -- a refusal of this file, with a number from 1 to `most`
 abbrev pub RefusalTo : ℕ → ℕ → Refusal → Type 0

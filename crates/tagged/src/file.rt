@@ -1,6 +1,6 @@
 // A whole file's first steps, in document 01's order: its last five bytes, its check, its fields.
 ghost use Rattle.std.specs.Prelude.{◌≡◌, ◌≤◌, length};
-ghost use Rattle.tagged.specs.File.{tail_stands, check_stands, file_answer, fields_part, refusal};
+ghost use Rattle.tagged.specs.File.{tail_stands, check_stands, closing_answer, file_answer, fields_part, refusal};
 
 use crate::refusals::{CHECK_DIFFERS, FILE_DOES_NOT_WALK};
 use field_walk::walk::Row;
@@ -70,10 +70,10 @@ pub fn fields_part<'a>(file: &'a [u8]) -> &'a [u8]
     &file[..end]
 }
 
-// Whether a file of the kind with these rows stands; `number` is the file's in a refusal.
+// Whether a file ends as it should and has its right check, whatever its kind; `number` is the file's in a refusal.
 // The number comes beside the bytes: a pair would be made for this one call and taken apart in it.
-pub fn file_stands(rows: &[Row], number: u8, file: &[u8]) -> FileAnswer
-    ensures { result ≡ file_answer rows.now number file.now }
+pub fn closing_stands(number: u8, file: &[u8]) -> FileAnswer
+    ensures { result ≡ closing_answer number file.now }
 {
     if !tail_stands(file) {
         return Err(Refusal::of_file(FILE_DOES_NOT_WALK, number, 0));
@@ -82,6 +82,14 @@ pub fn file_stands(rows: &[Row], number: u8, file: &[u8]) -> FileAnswer
     if !check_stands(file) {
         return Err(Refusal::of_file(CHECK_DIFFERS, number, checked));
     }
+    Ok(())
+}
+
+// Whether a file of the kind with these rows stands.
+pub fn file_stands(rows: &[Row], number: u8, file: &[u8]) -> FileAnswer
+    ensures { result ≡ file_answer rows.now number file.now }
+{
+    closing_stands(number, file)?;
     field_walk::walk::walk(rows, fields_part(file)).map_err(|at| Refusal::of_file(
         FILE_DOES_NOT_WALK,
         number,

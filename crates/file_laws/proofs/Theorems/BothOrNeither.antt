@@ -327,14 +327,14 @@ module _ (s : List ℕ) (fs : List FieldAt) (stand : Fields s 0 fs) where
 
 module _ (number : ℕ) (file : List ℕ) (fs : List FieldAt) (tail : tail_stands file ≡ true) (checked : check_stands file ≡ true) (stand : Fields (fields_part file) 0 fs) where
   pub both_in_a_book : Stand book_rows 0 fs → file_answer book_rows number file ≡ Err (refusal file_does_not_walk number (field_start 9 (fields_part file) - 3))
-  both_in_a_book x = walk_decides book_rows number file tail checked ∙ ap (of_walk number) (book_of_both (fields_part file) fs stand x)
+  both_in_a_book x = walk_decides number file (walk book_rows (fields_part file)) tail checked ∙ ap (of_walk number) (book_of_both (fields_part file) fs stand x)
 
   pub both_in_a_request : Stand request_rows 0 fs → file_answer request_rows number file ≡ Err (refusal file_does_not_walk number (field_start 13 (fields_part file) - 3))
-  both_in_a_request x = walk_decides request_rows number file tail checked ∙ ap (of_walk number) (request_of_both (fields_part file) fs stand x)
+  both_in_a_request x = walk_decides number file (walk request_rows (fields_part file)) tail checked ∙ ap (of_walk number) (request_of_both (fields_part file) fs stand x)
 
   pub neither_in_a_book : Stand (rows_in neither_form book_rows) 0 fs → file_answer book_rows number file ≡ Err (refusal file_does_not_walk number (length (fields_part file)))
-  neither_in_a_book x = walk_decides book_rows number file tail checked ∙ ap (of_walk number) (book_of_neither (fields_part file) fs stand x)
+  neither_in_a_book x = walk_decides number file (walk book_rows (fields_part file)) tail checked ∙ ap (of_walk number) (book_of_neither (fields_part file) fs stand x)
 
   pub neither_in_a_request : Stand (rows_in neither_form request_rows) 0 fs →
       file_answer request_rows number file ≡ Err (refusal file_does_not_walk number (field_start 5 (fields_part file) - 3))
-  neither_in_a_request x = walk_decides request_rows number file tail checked ∙ ap (of_walk number) (request_of_neither (fields_part file) fs stand x)
+  neither_in_a_request x = walk_decides number file (walk request_rows (fields_part file)) tail checked ∙ ap (of_walk number) (request_of_neither (fields_part file) fs stand x)

@@ -251,7 +251,7 @@ module _ (rows : List (List ℕ)) (number : ℕ) (parts : List (ℕ × List ℕ)
   made_walks = walk_of_encoded (rows_in second_form rows) parts rising (places_stand stand 0) (written_short 0 parts written)
 
   made_stands : file_answer rows number (closed parts) ≡ Ok tt
-  made_stands = closed_stands parts rows number (places_from 0 parts) (walk_in_form rows (encoded_parts parts) (places_from 0 parts) (inr made_walks))
+  made_stands = closed_stands parts (walk rows) number (places_from 0 parts) (walk_in_form rows (encoded_parts parts) (places_from 0 parts) (inr made_walks))
 
   made_value : (tag : ℕ) → field_value tag (encoded_parts parts) ≡ value_in tag parts
   made_value tag =

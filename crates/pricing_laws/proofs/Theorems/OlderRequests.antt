@@ -1,6 +1,7 @@
 -- Document 02, E6: "Older books and requests price as before": a request without a field 0D is answered as by the rows that document 01 gives, but that a
 -- place of 1 may be a later one, since a field after 04 can stand where 0D is still to come.
-use Rattle.std.specs.Prelude.{ℕ, ◌-◌, ◌≤◌, ◌≡◌, refl, List, [], Bool, true, false, cond, length, get_or, take, ltb, Err, None}
+use Rattle.std.specs.Prelude.{ℕ, ◌-◌, ◌≤◌, ◌≡◌, refl, List, [], Bool, true, false, cond, length, get_or, take, ltb, Err, Ok, None}
+use Rattle.std.specs.Result.{result_and}
 use Rattle.std.proofs.Common.{sym, ap, ◌∙◌, arith, inl, inr, lit<, lit≤, ltb-true}
 use Rattle.numbers.specs.BigEndian.{number_at}
 use Rattle.field_walk.specs.Walk.{FieldAt, Walk, fields, stops, first_form, second_form, neither_form, rows_in, walk_by, by_forms, walk}
@@ -61,9 +62,12 @@ older_request_stands file tags =
     (by (tail_stands file) (check_stands file) (of_walk 2 (walk_by earlier_request_rows (fields_part file))) (of_walk 2 (walk request_rows (fields_part file)))
     (older_walk (fields_part file) tags))
   where
+    closing : Bool → Bool → FileAnswer
+    closing tail checked = cond tail (cond checked (Ok tt) (Err (refusal check_differs 2 (length file - 2)))) (Err (refusal file_does_not_walk 2 0))
+
     by : (tail checked : Bool) (before now : FileAnswer) → AsBefore before now →
-        AsBefore (cond tail (cond checked before (Err (refusal check_differs 2 (length file - 2)))) (Err (refusal file_does_not_walk 2 0)))
-        (cond tail (cond checked now (Err (refusal check_differs 2 (length file - 2)))) (Err (refusal file_does_not_walk 2 0)))
+        AsBefore (result_and (closing tail checked) before)
+        (result_and (closing tail checked) now)
     by true true before now same = same
     by true false before now same = inl refl
     by false checked before now same = inl refl

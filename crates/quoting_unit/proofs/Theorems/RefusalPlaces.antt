@@ -1,6 +1,7 @@
 -- Where no file is longer than `size`, no place of a refusal is above it.
 use Prim.Native.Nat.{ℕ, zero, suc, ◌+◌, ◌*◌, ◌-◌, ◌≤◌}
 use Rattle.std.specs.Prelude.{◌≡◌, refl, List, [], ◌∷◌, Bool, true, false, cond, ltb, leb, eqb, length, get_or, take, drop, Err, Ok, Some, None}
+use Rattle.std.specs.Result.{result_and}
 use Rattle.std.proofs.Common.{sym, subst, arith, length-take, length-drop, ltb-false, leb-true}
 use Rattle.numbers.specs.BigEndian.{number}
 use Rattle.field_walk.specs.Walk.{Due, least_of, tag_of, permitted_by, length_at, field_of, front_of, all_had, due_from, FieldAt, Walk, fields, stops, and_then, on_front, walk_from, first_form, second_form, neither_form, row_in, rows_in, walk_by, by_forms, walk}
@@ -212,7 +213,7 @@ file_answer_placed rows number file known =
 
     by : (tail checked : Bool) (w : Walk) → StopsBy (length file) w →
         FileAnswerBy (length file)
-        (cond tail (cond checked (of_walk number w) (Err (refusal check_differs number (length file - 2)))) (Err (refusal file_does_not_walk number 0)))
+        (result_and {T = Unit {0}} (cond tail (cond checked (Ok tt) (Err (refusal check_differs number (length file - 2)))) (Err (refusal file_does_not_walk number 0))) (of_walk number w))
     by false checked w h = (known, omega arith)
     by true false w h = (known, omega arith)
     by true true (fields fs) h = tt

@@ -120,7 +120,7 @@ module _ (ledger : Ledger) (parties : List Party) (count : ledger.count ≤ most
 module _ (ledger : Ledger) (parties : List Party) (handed : FormFits ledger parties) (count : ledger.count ≤ most_schemes) (entries : ledger.entries ≤ most_entries) where
   pub form_stands : file_answer stored_rows 1 (stored_form ledger parties) ≡ Ok tt
   unfolding stored_form
-  form_stands = closed_stands (stored_parts ledger parties) stored_rows 1 _ (form_walks ledger parties count entries)
+  form_stands = closed_stands (stored_parts ledger parties) (walk stored_rows) 1 _ (form_walks ledger parties count entries)
 
   pub schemes_of_form : stored_schemes (encoded_parts (stored_parts ledger parties)) ≡ take ledger.count ledger.schemes
   unfolding stored_schemes scheme_parts party_parts

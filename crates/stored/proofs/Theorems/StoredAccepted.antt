@@ -16,6 +16,7 @@ use Rattle.field_walk.specs.FieldsWalk.{FieldsWalk}
 use Rattle.tagged.specs.Find.{place_at, fields_of, first_with, first_place, part_of, field_start, field_value}
 use Rattle.tagged.specs.File.{fields_part, FileAnswer}
 use Rattle.tagged.proofs.Theorems.File.{stands_means}
+use Rattle.tagged.proofs.Theorems.Walk.{walk_fields}
 use Rattle.tagged.specs.Encoded.{closed}
 use Rattle.tagged.specs.WalkEncoded.{parts_of}
 use Rattle.tagged.proofs.Theorems.FoundFields.{walk_inside, walk_fields_of, Bytes-part}
@@ -170,4 +171,4 @@ form_of_accepted room file others bytes accepted =
     let parts : stored_parts (stored_ledger s) (at_start (stored_entries s) others) ≡ front (map scheme_part (stored_schemes s) ++ map party_part (stored_entries s)) =
     ap₂ (λ schemes parties. front (map scheme_part schemes ++ map party_part parties)) (take_at_start (stored_schemes s) no_schemes)
     (take_at_start (stored_entries s) others) in
-    ap closed (parts ∙ sym (rw accepted.lettered at walked) ∙ ap (parts_of s) found) ∙ sym (stands_closed stored_rows file bytes stands)
+    ap closed (parts ∙ sym (rw accepted.lettered at walked) ∙ ap (parts_of s) found) ∙ sym (stands_closed file bytes stands (walk_fields stored_rows s fs stands.walks))

@@ -1,4 +1,4 @@
--- A file that stands and then has exactly one byte altered is refused, whatever its rows: with 1 for its last five bytes, or with 2.
+-- A file that stands and then has exactly one byte altered is refused, whatever its kind: with 1 for its last five bytes, or with 2.
 use Rattle.std.specs.Prelude.{ℕ, ◌+◌, ◌-◌, ◌<◌, ◌≤◌, ◌≡◌, ◌⊎◌, List, true, false, length, get_or, set, take, drop, ltb, Err, Ok}
 use Rattle.std.proofs.Common.{sym, ap, ◌∙◌, inl, inr, ⊎_elim, arith, length-take, length-set, get_or-take, get_or-drop, get_or-set_same, drop-set-lt, ltb-true, ltb-false, eqb-true, ne_eqb}
 use mathlib.Mathlib.Data.Bool.Basic.{dichotomy}
@@ -8,9 +8,10 @@ use Rattle.numbers.specs.BigEndian.{Bytes, number, number_at}
 use Rattle.numbers.proofs.Theorems.BigEndian.{Bytes-set, number_at_injective}
 use Rattle.numbers.specs.Check.{check}
 use Rattle.numbers.proofs.Theorems.Check.{check_set_byte}
-use Rattle.tagged.specs.File.{tail_stands, check_stands, refusal, file_answer}
+use Rattle.field_walk.specs.Walk.{Walk, walk}
+use Rattle.tagged.specs.File.{tail_stands, check_stands, fields_part, refusal, answer_by_walk, file_answer}
 use Rattle.tagged.specs.Refusals.{file_does_not_walk, check_differs}
-use Rattle.tagged.proofs.Theorems.File.{bad_tail, bad_check, stands_means}
+use Rattle.tagged.proofs.Theorems.File.{bad_tail, bad_check, stands_by}
 
 -- The altered byte is one of those that the check is over, or one of the check itself.
 module _ (s : List ℕ) (i b : ℕ) (bytes : Bytes s) (within : i < length s) (below : b < 256) (other : get_or s i 0 ≡ b → ⊥) where
@@ -44,12 +45,19 @@ module _ (s : List ℕ) (i b : ℕ) (bytes : Bytes s) (within : i < length s) (b
           let l : i < n = ltb-true _ _ f in
           altered_covered n l (sym q ∙ ap (λ x. number (take 2 x)) (drop-set-lt n s i b l) ∙ eqb-true _ _ e)
 
+-- However the fields of the two files walk.
+pub altered_refused : (file : ℕ) (walked other_walked : Walk) (s : List ℕ) (i b : ℕ) → Bytes s → i < length s → b < 256 → (get_or s i 0 ≡ b → ⊥)
+    → answer_by_walk file s walked ≡ Ok tt
+    → (answer_by_walk file (set s i b) other_walked ≡ Err (refusal file_does_not_walk file 0))
+    ⊎ (answer_by_walk file (set s i b) other_walked ≡ Err (refusal check_differs file (length s - 2)))
+altered_refused file walked other_walked s i b bytes within below other e =
+    let checked = altered_check s i b bytes within below other (stands_by file s walked e).right_check in
+    ⊎_elim
+    (λ tail. inl (bad_tail file (set s i b) other_walked tail))
+    (λ tail. inr (bad_check file (set s i b) other_walked tail checked ∙ ap (λ n. Err (refusal check_differs file (n - 2))) (length-set s i b)))
+    (dichotomy (tail_stands (set s i b)))
+
 pub altered_file_refused : (rows : List (List ℕ)) (file : ℕ) (s : List ℕ) (i b : ℕ) → Bytes s → i < length s → b < 256 → (get_or s i 0 ≡ b → ⊥)
     → file_answer rows file s ≡ Ok tt
     → (file_answer rows file (set s i b) ≡ Err (refusal file_does_not_walk file 0)) ⊎ (file_answer rows file (set s i b) ≡ Err (refusal check_differs file (length s - 2)))
-altered_file_refused rows file s i b bytes within below other e =
-    let checked = altered_check s i b bytes within below other (stands_means rows file s e).right_check in
-    ⊎_elim
-    (λ tail. inl (bad_tail rows file (set s i b) tail))
-    (λ tail. inr (bad_check rows file (set s i b) tail checked ∙ ap (λ n. Err (refusal check_differs file (n - 2))) (length-set s i b)))
-    (dichotomy (tail_stands (set s i b)))
+altered_file_refused rows file s i b = altered_refused file (walk rows (fields_part s)) (walk rows (fields_part (set s i b))) s i b

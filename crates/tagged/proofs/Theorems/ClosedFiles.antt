@@ -6,13 +6,14 @@ use Rattle.numbers.specs.BigEndian.{Bytes, number, bytes_of}
 use Rattle.numbers.proofs.Theorems.BigEndian.{Bytes-take, Bytes-drop, length_bytes_of, number_of_bytes_of, bytes_of_number}
 use Rattle.numbers.specs.Check.{check}
 use Rattle.numbers.proofs.Theorems.Check.{check_below}
-use Rattle.field_walk.specs.Walk.{FieldAt, fields, walk}
+use Rattle.field_walk.specs.Walk.{FieldAt, Walk, fields}
 use Rattle.tagged.specs.Encoded.{encoded_parts, closed}
 use Rattle.tagged.specs.WalkEncoded.{parts_of}
-use Rattle.tagged.proofs.Theorems.FoundFields.{walk_tiles}
+use Rattle.tagged.specs.WalkRelations.{Fields}
+use Rattle.tagged.proofs.Theorems.FoundFields.{Fields-encoded}
 use Rattle.tagged.proofs.Theorems.Walk.{by_test}
-use Rattle.tagged.specs.File.{tail_stands, check_stands, fields_part, of_walk, file_answer}
-use Rattle.tagged.specs.FileStands.{FileStands}
+use Rattle.tagged.specs.File.{tail_stands, check_stands, fields_part, of_walk, answer_by_walk}
+use Rattle.tagged.specs.FileStands.{StandsBy}
 use Rattle.tagged.proofs.Theorems.File.{walk_decides}
 
 -- what the check of a closed file is over
@@ -58,11 +59,11 @@ module _ (parts : List (ℕ × List ℕ)) where
       eq-eqb _ _ (ap number two ∙ spelt ∙ ap check (sym (take_at (checked parts) last place size)))
 
   -- The file of fields that walk stands.
-  pub closed_stands : (rows : List (List ℕ)) (file : ℕ) (fs : List FieldAt) → walk rows (encoded_parts parts) ≡ fields fs →
-      file_answer rows file (closed parts) ≡ Ok tt
-  closed_stands rows file fs walks =
-      walk_decides rows file (closed parts) closed_tail closed_check
-      ∙ ap (λ s. of_walk file (walk rows s)) fields_of_closed
+  pub closed_stands : (walk : List ℕ → Walk) (file : ℕ) (fs : List FieldAt) → walk (encoded_parts parts) ≡ fields fs →
+      answer_by_walk file (closed parts) (walk (fields_part (closed parts))) ≡ Ok tt
+  closed_stands walk file fs walks =
+      walk_decides file (closed parts) (walk (fields_part (closed parts))) closed_tail closed_check
+      ∙ ap (λ s. of_walk file (walk s)) fields_of_closed
       ∙ ap (of_walk file) walks
 
 -- the three bytes before the check of a file that ends as it should
@@ -90,14 +91,14 @@ tail_bytes s size tail =
         (ap₂ ◌∷◌ first (ap₂ ◌∷◌ (rw fourth at second) (ap (λ byte. byte ∷ []) (rw fifth at third))))
 
 -- A file of bytes that stands is the file of its fields.
-pub stands_closed : (rows : List (List ℕ)) (s : List ℕ) → Bytes s → (stands : FileStands rows s) →
+pub stands_closed : {walked : Walk} (s : List ℕ) → Bytes s → (stands : StandsBy walked s) → Fields (fields_part s) 0 stands.field_list →
     s ≡ closed (parts_of (fields_part s) stands.field_list)
-stands_closed rows s bytes stands =
+stands_closed s bytes stands follow =
     let parts = parts_of (fields_part s) stands.field_list in
     let last = drop (length s - 2) s in
     let until : length s - 2 ≡ length s - 5 + 3 = omega (arith, stands.size) in
     let walked : fields_part s ≡ encoded_parts parts =
-    walk_tiles rows (fields_part s) stands.field_list stands.walks (Bytes-take (length s - 5) s bytes) in
+    Fields-encoded follow (Bytes-take (length s - 5) s bytes) in
     let before : take (length s - 2) s ≡ checked parts =
     ap (λ n. take n s) until ∙ take-add (length s - 5) 3 s ∙ ap₂ ◌++◌ walked (tail_bytes s stands.size stands.tail) in
     let long : length last ≡ 2 = simp length-drop (omega (arith, stands.size)) in

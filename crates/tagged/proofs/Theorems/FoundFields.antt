@@ -95,7 +95,7 @@ Fields-found {s} (first {at} {f} {fs} x r) (suc most) h =
     let y = walk_seen s at f x in
     rw (y.whole, y.len, drop-drop, ih) (λ i. record { tag = y.tag i; start = sym x.start i; len = f.len } ∷ fs)
 
-Fields-encoded : {s : List ℕ} {at : ℕ} {fs : List FieldAt} → Fields s at fs → Bytes s → drop at s ≡ encoded_parts (parts_of s fs)
+pub Fields-encoded : {s : List ℕ} {at : ℕ} {fs : List FieldAt} → Fields s at fs → Bytes s → drop at s ≡ encoded_parts (parts_of s fs)
 unfolding flat_map
 Fields-encoded {s} (none l) b = drop_of_length-le s l
 Fields-encoded {s} (first {at} {f} x r) b = field_encoded s at f x b ∙ ap (λ l. encoded f.tag (value_of s f) ++ l) (Fields-encoded r b)

@@ -150,7 +150,7 @@ module _ (s : List ℕ) (at : ℕ) (part : ℕ × List ℕ) (parts : List (ℕ �
         within = omega (arith, length-drop at s, simp (length-append, length_bytes_of) at (ap length are));
       }
 
-encoded_fields : (s : List ℕ) (at : ℕ) (parts : List (ℕ × List ℕ)) → drop at s ≡ encoded_parts parts → Short (places_from at parts) → Fields s at (places_from at parts)
+pub encoded_fields : (s : List ℕ) (at : ℕ) (parts : List (ℕ × List ℕ)) → drop at s ≡ encoded_parts parts → Short (places_from at parts) → Fields s at (places_from at parts)
 unfolding places_from flat_map
 encoded_fields s at [] e h = none {at = at} (omega (arith, length-drop at s, ap length e))
 encoded_fields s at (part ∷ parts) e h =

@@ -214,7 +214,7 @@ field_replaced rows tag value file {start} rising bytes spelt stands found withi
     let tiles : s' ≡ encoded_parts parts = walk_tiles rows s' fs walks (Bytes-written s start value fields_bytes spelt) in
     let last = bytes_of 2 (check (s ++ check_head)) in
     let split : file ≡ (s ++ check_head) ++ last =
-    stands_closed rows file bytes stands
+    stands_closed file bytes stands (walk_fields rows s fs stands.walks)
     ∙ ap (λ l. (l ++ check_head) ++ bytes_of 2 (check (l ++ check_head))) (sym (walk_tiles rows s fs stands.walks fields_bytes)) in
     let changed : written file start value ≡ (s' ++ check_head) ++ last =
     ap (λ l. written l start value) split
@@ -230,7 +230,7 @@ field_replaced rows tag value file {start} rising bytes spelt stands found withi
     let part_kept : (other : ℕ) → (tag ≡ other → ⊥) → part_of (first_place other s) s' ≡ part_of (first_place other s) s =
     λ other apart. rw (walk_first_place rows s fs stands.walks other) (kept.others other apart) in
     record {
-      stands = λ number. ap (file_answer rows number) is_closed ∙ closed_stands parts rows number fs (ap (walk rows) (sym tiles) ∙ walks);
+      stands = λ number. ap (file_answer rows number) is_closed ∙ closed_stands parts (walk rows) number fs (ap (walk rows) (sym tiles) ∙ walks);
       found = λ other. ap (first_place other) its_fields ∙ place other;
       places = λ other. ap (field_start other) its_fields ∙ ap start_of (place other);
       replaced = ap (field_value tag) its_fields ∙ ap (λ p. part_of p s') (place tag ∙ found) ∙ value_there s value start within;

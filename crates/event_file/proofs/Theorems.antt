@@ -1,0 +1,2 @@
+pub mod EventFile
+pub mod WrittenEvents
