@@ -91,6 +91,24 @@ static uint64_t hand_over(uint32_t entry, uint32_t person, size_t out_size, size
     return fikrem_hand_over(lent.stored, stored_size, table_size, entry, person, lent.out, out_size, lent.answer, answer_places);
 }
 
+static uint64_t clear(uint16_t month, size_t out_size, size_t answer_places)
+{
+    mark();
+    return fikrem_clear(lent.stored, stored_size, table_size, month, lent.out, out_size, lent.answer, answer_places);
+}
+
+static uint64_t move_to_new(size_t out_size, size_t answer_places)
+{
+    mark();
+    return fikrem_move_to_new(lent.stored, stored_size, lent.out, out_size, lent.answer, answer_places);
+}
+
+static uint64_t move_back(size_t out_size, size_t answer_places)
+{
+    mark();
+    return fikrem_move_back(lent.stored, stored_size, lent.out, out_size, lent.answer, answer_places);
+}
+
 static uint64_t judge_ledger(size_t answer_places)
 {
     mark();
@@ -273,6 +291,43 @@ static void try_judge_ledger(void)
     tell("judging a ledger, 4 places of the answer", judge_ledger(FIKREM_ANSWER - 1));
 }
 
+/* The ledger to the old form and to the new one again, each from what the other wrote. */
+static void try_moves(void)
+{
+    tell("moving back", move_back(sizeof lent.out, FIKREM_ANSWER));
+    size_t size = lent.answer[FIKREM_WRITTEN];
+    tell("moving back, a byte short", move_back(size - 1, FIKREM_ANSWER));
+    tell("moving back, 4 places of the answer", move_back(size, FIKREM_ANSWER - 1));
+    tell("moving the new form to the new form", move_to_new(sizeof lent.out, FIKREM_ANSWER));
+    size = stored_size;
+    move_back(sizeof lent.out, FIKREM_ANSWER);
+    keep();
+    tell("judging a ledger of the old form", judge_ledger(FIKREM_ANSWER));
+    tell("moving to the new form", move_to_new(sizeof lent.out, FIKREM_ANSWER));
+    tell("moving to the new form, a byte short", move_to_new(size - 1, FIKREM_ANSWER));
+    tell("moving to the new form, 4 places of the answer", move_to_new(size, FIKREM_ANSWER - 1));
+    move_to_new(size, FIKREM_ANSWER);
+    keep();
+}
+
+/* The scheme has a standing credit left; once it is paid out, the scheme is cleared in the month in which it ends. */
+static void try_clear(void)
+{
+    tell("clearing, a month before the last", clear(24314, stored_size, FIKREM_ANSWER));
+    tell("clearing, with a standing credit", clear(24399, stored_size, FIKREM_ANSWER));
+    pay_out(1, 99815, stored_size, FIKREM_ANSWER);
+    keep();
+    tell("clearing, the last month in force", clear(24398, stored_size, FIKREM_ANSWER));
+    tell("clearing", clear(24399, stored_size, FIKREM_ANSWER));
+    size_t size = lent.answer[FIKREM_WRITTEN];
+    tell("clearing, a byte short", clear(24399, size - 1, FIKREM_ANSWER));
+    tell("clearing, 4 places of the answer", clear(24399, size, FIKREM_ANSWER - 1));
+    clear(24399, size, FIKREM_ANSWER);
+    keep();
+    tell("pay-out, an entry that was cleared", pay_out(1, 0, stored_size, FIKREM_ANSWER));
+    tell("moving back, after a clearing", move_back(0, FIKREM_ANSWER));
+}
+
 /* The check of the bytes before the stored ledger's last two, which hold it, and of none. */
 static void try_check(void)
 {
@@ -303,6 +358,7 @@ static void try_unread_ledger(void)
     tell("  accept", accept(sizeof lent.out, FIKREM_FIGURES, FIKREM_ANSWER));
     tell("  pay-out", pay_out(1, 0, stored_size, FIKREM_ANSWER));
     tell("  hand-over", hand_over(2, 4712, stored_size, FIKREM_ANSWER));
+    tell("  clearing", clear(24399, stored_size, FIKREM_ANSWER));
     tell("  judging", judge_ledger(FIKREM_ANSWER));
 }
 
@@ -331,8 +387,13 @@ int main(int count, char **names)
     puts("a table of one record, two entries stored");
     table_size = 1;
     try_unread_ledger();
+    table_size = FIKREM_TABLE_SIZE;
     puts("a byte of the stored ledger altered");
     lent.stored[0] ^= 1;
     try_unread_ledger();
+    tell("  moving back", move_back(sizeof lent.out, FIKREM_ANSWER));
+    lent.stored[0] ^= 1;
+    try_moves();
+    try_clear();
     return 0;
 }

@@ -76,6 +76,21 @@ static void hand_over(void)
     result = fikrem_hand_over(stored, stored_size, FIKREM_TABLE_SIZE, 1, 7, out, FIKREM_LEDGER_SIZE, answer, FIKREM_ANSWER);
 }
 
+static void clear(void)
+{
+    result = fikrem_clear(stored, stored_size, FIKREM_TABLE_SIZE, 24399, out, FIKREM_LEDGER_SIZE, answer, FIKREM_ANSWER);
+}
+
+static void move_back(void)
+{
+    result = fikrem_move_back(stored, stored_size, out, FIKREM_OLD_LEDGER_SIZE, answer, FIKREM_ANSWER);
+}
+
+static void move_to_new(void)
+{
+    result = fikrem_move_to_new(stored, stored_size, out, FIKREM_LEDGER_SIZE, answer, FIKREM_ANSWER);
+}
+
 static void judge_ledger(void)
 {
     result = fikrem_judge_ledger(stored, stored_size, FIKREM_TABLE_SIZE, answer, FIKREM_ANSWER);
@@ -163,13 +178,18 @@ int main(int count, char **names)
     tell("slip text", slip_text, 6);
     tell("slip text of a refusal", slip_text_of_a_refusal, 6);
     tell("page", page, 4);
-    tell("new ledger", new_ledger, 2);
+    tell("new ledger", new_ledger, 3);
     fill(511);
-    tell("accept", accept, 28);
+    tell("accept", accept, 32);
     keep();
-    tell("pay-out", pay_out, 28);
-    tell("hand-over", hand_over, 28);
-    tell("judging a ledger", judge_ledger, 28);
+    tell("pay-out", pay_out, 32);
+    tell("hand-over", hand_over, 32);
+    tell("clearing", clear, 32);
+    tell("judging a ledger", judge_ledger, 32);
+    tell("moving back", move_back, 32);
+    keep();
+    tell("moving to the new form", move_to_new, 32);
+    keep();
     tell("judging a book", judge_book, 2);
     tell("judging a request", judge_request, 1);
     tell("check of bytes", check, 1);

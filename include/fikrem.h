@@ -11,8 +11,8 @@
  * Money is in whole cents, capacity in hundredths of a kVA; a month is year * 12 + (month - 1), so that April 2026 is 24315.
  *
  * A call takes at most this much stack, in KiB, as c/stack.c measures it on a painted stack with the longest ledger: price 4, price
- * band 4, page 4, slip text 6, new ledger 2, accept 28, pay-out 28, hand-over 28, judging a ledger 28, a book 2, a request 1, check of
- * bytes 1, version 1.
+ * band 4, page 4, slip text 6, new ledger 3, accept 32, pay-out 32, hand-over 32, clearing 32, judging a ledger 32, moving to the new
+ * form 32, moving back 32, judging a book 2, a request 1, check of bytes 1, version 1.
  */
 #ifndef FIKREM_H
 #define FIKREM_H
@@ -49,14 +49,15 @@ enum fikrem_number {
     FIKREM_BESPOKE_NOT_ALLOWED = 5,    /* a bespoke rate is not allowed */
     FIKREM_SCHEME_NEVER_OPENED = 6,    /* the scheme that the request joins was never opened */
     FIKREM_MONTH_BEFORE_LAST = 7,      /* the month is before the last accepted */
-    FIKREM_NO_SCHEME_LEFT = 8,         /* there are 64 schemes, and one must open */
+    FIKREM_NO_SCHEME_LEFT = 8,         /* there are 64 schemes, or the next would be the 65,536th, and one must open */
     FIKREM_NO_ENTRY_LEFT = 9,          /* the table has fewer records than the stored ledger has entries, or than it would have after accept */
     FIKREM_NO_CONNECTION_LEFT = 10,    /* 1,000,000 connections are taken */
     FIKREM_NO_SUCH_ENTRY = 11,         /* there is no such entry */
     FIKREM_PAY_OUT_ABOVE_CREDIT = 12,  /* the pay-out is above the standing credit */
     FIKREM_LEDGER_UNSOUND = 13,        /* the stored ledger is unsound */
     FIKREM_OUTPUT_TOO_SHORT = 14,      /* the output, the answer or the figures are too short */
-    FIKREM_LOW_ABOVE_HIGH = 15         /* a low revenue is above its high */
+    FIKREM_LOW_ABOVE_HIGH = 15,        /* a low revenue is above its high */
+    FIKREM_NUMBERS_NOT_COUNTS = 16     /* the next scheme or entry number is not its count plus one */
 };
 
 /* The answer of a done call: at least FIKREM_ANSWER places. Where it has fewer, or the figures fewer than FIKREM_FIGURES, the
@@ -80,7 +81,7 @@ enum fikrem_joining {
     FIKREM_NO_JOINING = 0,     /* the request names no scheme */
     FIKREM_JOINED = 1,         /* the applicant joined a scheme: G was collected, and earlier entries are credited */
     FIKREM_SMALL = 2,          /* G would be below the scheme's minimum: nothing is collected */
-    FIKREM_ENDED = 3           /* the scheme's term has ended: nothing is collected */
+    FIKREM_ENDED = 3           /* the scheme's term has ended, or it was cleared: nothing is collected */
 };
 
 /* The figures of a done call: at least FIKREM_FIGURES places, in cents. A percentage has two places: 1 and the percentage, or 0
@@ -134,9 +135,11 @@ enum fikrem_band {
 #define FIKREM_BOOK_SIZE 321
 #define FIKREM_REQUEST_SIZE 206
 
-/* Room for the longest slip, at most 236 bytes, and the longest stored ledger: 7 + 25 + 64 * 27 + 512 * 33 + 5 bytes. */
+/* Room for the longest slip, at most 236 bytes, for the longest stored ledger, 7 + 57 + 64 * 31 + 512 * 37 + 5 bytes, and for the longest
+ * one of the old form, 7 + 25 + 64 * 27 + 512 * 33 + 5 bytes. */
 #define FIKREM_TEXT_SIZE 256
-#define FIKREM_LEDGER_SIZE 18661
+#define FIKREM_LEDGER_SIZE 20997
+#define FIKREM_OLD_LEDGER_SIZE 18661
 
 /* A page: 12 lines of 64 bytes. */
 #define FIKREM_PAGE_SIZE 768
@@ -183,7 +186,11 @@ uint64_t fikrem_judge_request(const uint8_t *request, size_t request_size);
 
 /* The calls on a ledger take its stored form and write the ledger after them into out, FIKREM_LEDGER_SIZE bytes at most. After a
  * done call out holds the ledger: its first answer[FIKREM_WRITTEN] bytes are the next call's stored, and that number is its
- * stored_size. After a refused one stored is still the ledger. */
+ * stored_size. After a refused one stored is still the ledger.
+ *
+ * The stored form is the one that starts PIO2. A ledger of the old form, which starts PION, is refused by 1 at place 7:
+ * fikrem_move_to_new makes a new one of it. Schemes and entries are named by their numbers, which are given from 1 on and never again:
+ * what is cleared leaves its numbers unused. */
 
 /* The stored form of a new ledger into out. Refusals: 14. */
 uint64_t fikrem_new_ledger(uint8_t *out, size_t out_size, uint64_t *answer, size_t answer_places);
@@ -195,7 +202,7 @@ uint64_t fikrem_accept(const uint8_t *stored, size_t stored_size, size_t table_s
                        const uint8_t *request, size_t request_size, uint8_t *out, size_t out_size,
                        int64_t *figures, size_t figures_places, uint64_t *answer, size_t answer_places);
 
-/* Pays an amount in cents out to an entry, numbered from 1: the ledger after it into out. Refusals in turn: 14 for the answer; the
+/* Pays an amount in cents out to an entry, by its number: the ledger after it into out. Refusals in turn: 14 for the answer; the
  * stored ledger's 1, 2, 3, 9, 13; 11, 12; 14 for out. */
 uint64_t fikrem_pay_out(const uint8_t *stored, size_t stored_size, size_t table_size, uint32_t entry, uint64_t amount,
                         uint8_t *out, size_t out_size, uint64_t *answer, size_t answer_places);
@@ -205,10 +212,28 @@ uint64_t fikrem_pay_out(const uint8_t *stored, size_t stored_size, size_t table_
 uint64_t fikrem_hand_over(const uint8_t *stored, size_t stored_size, size_t table_size, uint32_t entry, uint32_t person,
                           uint8_t *out, size_t out_size, uint64_t *answer, size_t answer_places);
 
+/* Clears every scheme that has ended by the month, month >= opening + term, and whose entries all have standing credit 0, and those
+ * entries: the ledger after it into out. The month becomes the last accepted one, also where no scheme goes; the running sums of what
+ * cleared schemes collected, paid out and took in fees stand in the stored ledger. Refusals in turn: 14 for the answer; the stored
+ * ledger's 1, 2, 3, 9, 13; 7; 14 for out. */
+uint64_t fikrem_clear(const uint8_t *stored, size_t stored_size, size_t table_size, uint16_t month,
+                      uint8_t *out, size_t out_size, uint64_t *answer, size_t answer_places);
+
 /* Whether a stored ledger can be read; where it can, the answer has what it holds. Refusals in turn: 14; the stored ledger's 1, 2,
  * 3, 9, 13. */
 uint64_t fikrem_judge_ledger(const uint8_t *stored, size_t stored_size, size_t table_size,
                              uint64_t *answer, size_t answer_places);
+
+/* Moves a stored ledger of the old form, PION, to the new one, PIO2, into out, FIKREM_LEDGER_SIZE bytes at most; how many in
+ * FIKREM_WRITTEN. Places become numbers. Refusals in turn: 14 for the answer; the file's 1, 2, 3, 13; 14 for out. */
+uint64_t fikrem_move_to_new(const uint8_t *file, size_t file_size, uint8_t *out, size_t out_size,
+                            uint64_t *answer, size_t answer_places);
+
+/* Moves a stored ledger of the new form back to the old one, as long as its numbers are its places: both next numbers are the counts plus
+ * one, so that nothing was cleared. Into out, FIKREM_OLD_LEDGER_SIZE bytes at most; how many in FIKREM_WRITTEN. A file that
+ * fikrem_move_to_new made comes back as the same bytes. Refusals in turn: 14 for the answer; the file's 1, 2, 3, 13; 16; 14 for out. */
+uint64_t fikrem_move_back(const uint8_t *file, size_t file_size, uint8_t *out, size_t out_size,
+                          uint64_t *answer, size_t answer_places);
 
 /* The check of these bytes, 0 to 65520, for whoever writes a book or a request: of all its bytes before the last two, which are
  * the check, high byte first. No refusals. */

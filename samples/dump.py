@@ -1,5 +1,5 @@
 #!/usr/bin/env python3
-"""The annotated dumps of three sample files, as docs/FORMAT.md has them: offset, bytes, and what they say.
+"""The annotated dumps of four sample files, as docs/FORMAT.md has them: offset, bytes, and what they say.
 
 dump.py          prints them
 dump.py --check  fails where docs/FORMAT.md has another
@@ -40,16 +40,21 @@ REQUEST = {
     0x0C: ("connection", [(2, "month"), (4, "capacity"), (2, "scheme joined"), (1, "mark")]),
     0x0D: ("zone", [(2, "zone number")]),
 }
-LEDGER = {
+OLD_LEDGER = {
     0x01: ("identity", [(4, None)]),
     0x02: ("counts and sums", [(2, "last accepted month"), (4, "connections"), (8, "charged"), (8, "borne")]),
     0x03: ("scheme", [(4, "cost"), (4, "fee"), (4, "minimum"), (2, "opening"), (2, "term"), (8, "fees")]),
     0x04: ("entry", [(2, "scheme"), (4, "person"), (4, "capacity"), (4, "put in"), (8, "credited"), (8, "paid out")]),
 }
+NUMBERS = [(4, "next scheme"), (4, "next entry"), (8, "cleared collected"), (8, "cleared paid out"), (8, "cleared fees")]
+# Field 02 of the new form adds these at its end; a scheme and an entry begin with their number.
+LEDGER = {tag: (name, ([(4, "number")] if tag > 0x02 else []) + layout) for tag, (name, layout) in OLD_LEDGER.items()}
+LEDGER[0x02] = ("counts and sums", OLD_LEDGER[0x02][1] + NUMBERS)
 DUMPED = [
     ("crates/slip/data/rates.bin", BOOK),
     ("crates/slip/data/job.bin", REQUEST),
     ("crates/stored_ledgers/data/one_scheme.bin", LEDGER),
+    ("crates/stored_ledgers/data/old_one_scheme.bin", OLD_LEDGER),
 ]
 
 

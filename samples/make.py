@@ -69,12 +69,13 @@ def wide_request(zone=1_400):
 
 def listed_files():
     """What the program list_fields walks. Every damaged file but three has a right check, so that the walk is what refuses it."""
-    book, request, ledger = slip_book(), slip_request(), ledgers.one_scheme()
+    book, request, ledger = slip_book(), slip_request(), ledgers.new_form(*ledgers.one_scheme())
     whole = closed(book)
     return {
         "book.bin": whole,
         "request.bin": closed(request),
         "ledger.bin": closed(ledger),
+        "old_ledger.bin": closed(ledgers.old_form(*ledgers.one_scheme())),
         "empty.bin": b"",
         "one_byte.bin": b"\xff",
         "five_times_ff.bin": b"\xff" * 5,
@@ -185,12 +186,8 @@ def scenario_files():
         return request(person, month, capacity, scheme, mark, extension=extension, tiers=[(0, 0, 0)] * 5, revenue=0)
 
     def ledger(connections, schemes, entries):
-        fields = [field(0x01, b"PION"), field(0x02, number(2, 24_320) + number(4, connections) + numbers(8, [0, 0]))]
-        for cost, fees in schemes:
-            fields.append(field(0x03, numbers(4, [cost, 20_000, 20_000]) + numbers(2, [24_315, 84]) + number(8, fees)))
-        for scheme, person, capacity, put_in, credited in entries:
-            fields.append(field(0x04, number(2, scheme) + numbers(4, [person, capacity, put_in]) + numbers(8, [credited, 0])))
-        return fields
+        schemes, entries = [ledgers.scheme(*scheme) for scheme in schemes], [ledgers.entry(*entry) for entry in entries]
+        return ledgers.new_form(ledgers.totals(connections, 0, 0), schemes, entries)
 
     bespoke = POSTED_TIERS[:2] + [(2, 200, 12_750)] + POSTED_TIERS[3:]
     # 510 joined a scheme of 6,000,000 with 30,000 each; after the fees the rest is the first entry's credit

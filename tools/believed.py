@@ -1,6 +1,7 @@
 """Finds what a reviewer must believe: the definitions that the contracts of the public calls and of the laws come to, name by name.
 
-The public calls are the functions that docs/PROMISES.md names under 'Every call and its definition'. A law is a function without parameters and code, which is there for its
+The public calls are the functions that docs/PROMISES.md names under 'Every call and its definition'; a public function whose contract it names elsewhere, and that is no law and
+has no `requires`, is missing there. A law is a function without parameters and code, which is there for its
 contract alone; its statement stands in its crate's specs/Laws.antt, but for a demand's, which stands among the definitions, and for a table of cases. From what the clauses
 cite, and from the ghost fields of the types that they name, every definition's own text is followed through the imports of its file.
 
@@ -23,6 +24,7 @@ FUNCTION = re.compile(r"^( *)(?:pub )?(?:extern \"C\" )?fn (\w+)((?:(?!\bfn ).)*
 CLAUSES = re.compile(r"\n\s+(?:requires|ensures)\b.*", re.DOTALL)
 # a type, or what is implemented for one, with its lines
 TYPE = re.compile(r"^(?:pub )?(?:struct|enum|impl\b[^{\n]*? for) (\w+)[^{;\n]*\{\n(.*?)^\}", re.MULTILINE | re.DOTALL)
+CONTRACTS = re.compile(r"contracts? of ((?:`\w+`(?:, and |, | and )?)+) in `(crates/[^`]+\.rt)`")
 GHOST = re.compile(r"^ +ghost .*$", re.MULTILINE)
 
 
@@ -112,11 +114,25 @@ def functions(path):
 def public_calls():
     """The functions that PROMISES names as the calls, as pairs of path and name."""
     section = (root / "docs/PROMISES.md").read_text().split("### Every call and its definition\n")[1].split("\n### ")[0]
-    for names, path in re.findall(r"contracts? of ((?:`\w+`(?:, | and )?)+) in `(crates/[^`]+\.rt)`", section):
-        yield from ((root / path, name) for name in re.findall(r"`(\w+)`", names))
+    yield from contracts_named(section)
     for paths in re.findall(r"contracts of the functions of ((?:`crates/[^`]+`(?:, )?)+)", section):
         for path in re.findall(r"`(crates/[^`]+)`", paths):
             yield from ((root / path, name) for name, *_ in functions(root / path))
+
+
+def contracts_named(text):
+    """The functions whose contracts a text names, as pairs of path and name."""
+    for names, path in CONTRACTS.findall(re.sub(r"\s+", " ", text)):
+        yield from ((root / path, name) for name in re.findall(r"`(\w+)`", names))
+
+
+def calls_left_out():
+    """The public functions whose contracts PROMISES names, and not among the calls; a law is none, and one with a `requires` is what a call rests on."""
+    for path, name in sorted(set(contracts_named((root / "docs/PROMISES.md").read_text())) - set(public_calls())):
+        public = re.search(rf"(?m)^ *pub (?:const )?(?:extern \"C\" )?fn {name}\b", path.read_text())
+        clauses = next(((clauses, law) for other, _, clauses, law in functions(path) if other == name), None) if public else None
+        if clauses and not clauses[1] and "requires" not in clauses[0]:
+            yield f"docs/PROMISES.md names the contract of {name} in {path.relative_to(root)}, and not among the calls"
 
 
 def sources():
@@ -150,6 +166,7 @@ def believed():
     texts = {module_of(path): Text(path) for crate in crates() for path in sorted((root / "crates" / crate / "specs").rglob("*.antt"))}
     of_types = ghost_fields()
     cited, missing = roots(of_types)
+    missing += calls_left_out()
     found, of_laws_alone = {}, set()
     statements = [pair for pair in cited if pair[0][0][1] == "Laws" or "." in pair[0][0][1]]
     for laws, waiting in ((False, [pair for pair in cited if pair not in statements]), (True, statements)):

@@ -4,7 +4,7 @@
 A rule that is wrong in code and definition alike passes every proof; only a literal case or a theorem stands against it. So this takes the functions, the proofs
 and the edits away: on a copy in a temporary folder it makes one crate of the types, the definitions and the literal cases of all crates, and alters one
 definition at a time there. An alteration (a mutant) is one of: a comparison's direction or strictness, a number one more or less, a letter, a name, a field, a
-constant or a constructor taken for its neighbour of the same type, arguments or branches exchanged, an element, a summand or a branch left out, a list without its
+constant or a constructor taken for its neighbour of the same type, arguments or branches exchanged, an element, a summand, a conjunct, a branch or a line of a `do` left out, a list without its
 first or its last element or with its first alone, a sum capped at 16 or 32 bits, a recursion that ends after the first element, a test or a limit
 that counts for one class alone.
 
@@ -15,8 +15,8 @@ says the same), or is of a file that only proofs use (the last table of docs/ARC
 Not altered are propositions: records, data and definitions of a type, which no case computes.
 
 Results stand in target/mutants/CRATE.json. With --resume a mutant is tried again only where what was read of it has changed: its definitions, for one that was
-refused the lines of the file of the case that refused it (more lines don't count), for one that survived any case. --list prints the crates with their mutants by kind and tries none, --table the results so far as rows of docs/MUTANTS.md. With no name it takes every crate, in the order of
-crates.txt. Ends with 1 where a mutant survives.
+refused the lines of the file of the case that refused it (more lines don't count), for one that survived any case. --list prints the crates with their mutants by kind, and what of them isn't read and so not altered, and tries none, --table the results so far as rows of docs/MUTANTS.md.
+With no name it takes every crate, in the order of crates.txt. Ends with 1 where a mutant survives, and where a line of tools/mutants_explained.txt is of no mutant.
 """
 import argparse
 import collections
@@ -53,14 +53,20 @@ REFUSED, ABOVE, UNREADABLE, LIMIT, EXPLAINED_AS, PROOFS_ALONE, SURVIVES = "refus
 
 TOKEN = re.compile(r"""(?P<space>\s+|(?<![^\s(){}.;,"])--[^\n]*)|(?P<string>"(?:[^"\\]|\\.)*")|(?P<word>\[\]|&&|[^\s(){}\[\],;:.&«»⌜⌝λ"]+)|(?P<mark>.)""", re.S)
 # how tightly an infix binds; the ones to the right of which the same may stand
-BINDS = {"→": 0, "×": 1, "≡": 2, "≤": 2, "<": 2, "&&": 3, "∷": 4, "++": 4, "+": 5, "-": 5, "-ℤ": 5, "*": 6, "/": 6, "%": 6, "^": 7}
-TO_THE_RIGHT = ("→", "×", "&&", "∷", "++", "^")
+BINDS = {"→": 0, "×": 1, "≡": 2, "≤": 2, "<": 2, "||": 3, "&&": 4, "==": 5, "∷": 6, "++": 6, "+": 7, "-": 7, "+ℤ": 7, "-ℤ": 7, "*": 8, "/": 8, "%": 8, "*ℤ": 8, "^": 9}
+TO_THE_RIGHT = ("→", "×", "||", "&&", "∷", "++", "^")
+# what an argument can't be, and what begins an expression that is the last argument
+ENDS = (")", ",", ";", "}", "in", "=", "then", "else", "where", "")
+BEGINS = ("λ", "let", "if", "do")
 MODIFIERS = r"(?:(?:abbrev|unfoldable|pub) )*"
+# how tightly an operator binds, in the line before its own
+BINDING = r"infix[lr]? \d+ (\S+)$"
 SIGNATURE = re.compile(rf"^{MODIFIERS}([^\s(){{}}.;,:=]+) : ", re.M)
 MODULE = re.compile(r"\bRattle\.(\w+)\.specs\.(declared\.)?((?:Cases\.|ProvedCases\.)?\w+)")
 IMPORT = re.compile(r"^(?:pub )?use ([\w.]+?)(?:\.\{([^}]*)\})?(?: as (\w+))?$", re.M)
 
-Token = collections.namedtuple("Token", "kind text start end after_space")
+# a token; its column where it is the first of a line, else None
+Token = collections.namedtuple("Token", "kind text start end after_space column")
 # an expression: its kind, where it stands in the file, and what it is made of
 Node = collections.namedtuple("Node", "kind start end parts")
 
@@ -71,7 +77,8 @@ def tokens_of(text, start, end):
         if token.lastgroup == "space":
             after_space = True
             continue
-        found.append(Token(token.lastgroup, token[0], token.start(), token.end(), after_space))
+        before = text[text.rfind("\n", 0, token.start()) + 1 : token.start()]
+        found.append(Token(token.lastgroup, token[0], token.start(), token.end(), after_space, None if before.strip() else len(before)))
         after_space = False
     return found
 
@@ -87,7 +94,7 @@ class Reader:
         self.tokens, self.at = tokens, 0
 
     def peek(self):
-        return self.tokens[self.at] if self.at < len(self.tokens) else Token("end", "", 0, 0, True)
+        return self.tokens[self.at] if self.at < len(self.tokens) else Token("end", "", 0, 0, True, None)
 
     def take(self, text=None):
         token = self.peek()
@@ -120,6 +127,14 @@ class Reader:
             self.take("in")
             body = self.expression()
             return Node("let", first.start, body.end, (name, value, body))
+        if first.text == "if":
+            parts = []
+            for word in ("if", "then", "else"):
+                self.take(word)
+                parts.append(self.expression())
+            return Node("if", first.start, parts[-1].end, tuple(parts))
+        if first.text == "do":
+            return self.lines(self.take().start)
         left = self.application()
         while self.peek().text in BINDS and BINDS[self.peek().text] >= binds:
             infix = self.take()
@@ -129,14 +144,31 @@ class Reader:
 
     def application(self):
         head, arguments = self.atom(), []
-        while self.peek().text not in BINDS and self.peek().text not in (")", ",", ";", "}", "in", "=", "") and self.peek().kind != "end":
+        while self.peek().text not in BINDS and self.peek().text not in ENDS and self.peek().kind != "end":
             if self.peek().text == "{":
                 self.skip_braces()
-            elif self.peek().text in ("λ", "let"):
+            elif self.peek().text in BEGINS:
                 arguments.append(self.expression())
             else:
                 arguments.append(self.atom())
         return Node("call", head.start, arguments[-1].end, (head, tuple(arguments))) if arguments else head
+
+    def lines(self, start):
+        """The lines of a `do`, each with the name that it binds, if any; a line that stands further in goes on with the one above."""
+        column, lines = self.peek().column, []
+        while column is not None and self.peek().column == column:
+            first = self.peek()
+            at = next((at for at in range(self.at + 1, len(self.tokens)) if self.tokens[at].column is not None and self.tokens[at].column <= column), len(self.tokens))
+            inner = Reader(self.tokens[self.at : at])
+            name = inner.take().text if inner.tokens[1:2] and inner.tokens[1].text == "←" else ""
+            if name:
+                inner.take("←")
+            value = inner.expression()
+            self.at += inner.at
+            lines.append(Node("line", first.start, value.end, (name, value)))
+        if not lines:
+            raise Unread("do")
+        return Node("do", start, lines[-1].end, tuple(lines))
 
     def skip_braces(self):
         depth = 0
@@ -207,12 +239,16 @@ COMMENT = re.compile(r"(?m)(?<![^\s(){}.;,])--.*$")
 
 def blocks_of(text):
     """The declarations of a file in order, each with its clauses; a module is one declaration."""
-    starts, name = [], None
+    starts, name, binding = [], None, False
     for line in re.finditer(r"(?m)^(?!use |pub use |--|unfolding )(\S.*)$", text):
-        found = re.match(rf"{MODIFIERS}(?:record |data )?([^\s(){{}}.;,:=]+)", line[1])
-        if found and (not name or found[1] != name or re.match(rf"{MODIFIERS}\S+ : ", line[1])):
-            starts.append((line.start(), found[1]))
-            name = found[1]
+        found = re.match(rf"{BINDING}|{MODIFIERS}(?:record |data )?([^\s(){{}}.;,:]+)", line[1])
+        signs = re.match(rf"{MODIFIERS}\S+ : ", line[1])
+        # a clause of an operator has its sign between the arguments
+        of_operator = name and "◌" in name and not signs and all(part in WORD.findall(line[1]) for part in name.split("◌") if part)
+        if found and not of_operator and (found[1] or found[2] != name or (signs and not binding)):
+            name = found[1] or found[2]
+            starts.append((line.start(), name))
+        binding = bool(found and found[1])
     for (start, name), (end, _) in zip(starts, [*starts[1:], (len(text), "")]):
         block = text[start:end]
         inside = re.findall(r"(?m)^  ([^\s(){}.;,:=]+) : ", block) if re.match(r"(?:pub )?data ", block) else []
@@ -220,10 +256,14 @@ def blocks_of(text):
 
 
 def words_of(text):
-    return set(WORD.findall(COMMENT.sub("", text))) | {mark for mark in ("[]", "&&") if mark in text}
+    """The words of a text, an operator also by its full name; the lines of a `do` are joined by one."""
+    words = set(WORD.findall(COMMENT.sub("", text))) | {mark for mark in ("[]", "&&") if mark in text}
+    words |= {">>="} if "do" in words else set()
+    return words | {f"◌{word}◌" for word in words if not word[0].isalnum()}
 
 
-Clause = collections.namedtuple("Clause", "patterns start end")
+# a clause: its patterns, where its value stands, and the definitions of its `where`
+Clause = collections.namedtuple("Clause", "patterns start end inner")
 Definition = collections.namedtuple("Definition", "name types clauses")
 
 
@@ -236,20 +276,40 @@ def definitions_of(text):
         types = top_arrows(re.sub(r"(?m)--.*$", "", text[found.end() : lines[0]]))
         if not re.match(rf"^{MODIFIERS}", found[0])[0].strip() or bare(types[-1]).startswith("Type"):
             continue
-        clauses = []
-        for start, end in zip(lines, lines[1:] + [len(text)]):
-            line = text[start:end]
-            if re.match(r"unfolding|--", line):
-                continue
-            if not line.startswith(name + " "):
-                break
-            tokens = tokens_of(text, start, end)
-            equals = next((at for at, token in enumerate(tokens) if token.text == "="), None)
-            if equals is None:
-                break
-            clauses.append(Clause(tuple(tokens[1:equals]), tokens[equals].end, tokens[-1].end))
+        clauses = list(clauses_of(text, name, lines))
         if clauses:
             yield Definition(name, types, clauses)
+
+
+def clauses_of(text, name, lines):
+    """The clauses of a definition, which these places begin one after the other, up to the first that is none of its."""
+    for start, end in zip(lines, lines[1:]):
+        line = text[start:end]
+        if re.match(r"\s*(?:unfolding|--)", line):
+            continue
+        if not line.lstrip().startswith(name + " "):
+            break
+        where = re.search(r"^ *where\n", line, re.M)
+        tokens = tokens_of(text, start, start + where.start() if where else end)
+        equals = next((at for at, token in enumerate(tokens) if token.text == "="), None)
+        if equals is None:
+            break
+        inner = tuple(inner_definitions(text, start + where.end(), end)) if where else ()
+        yield Clause(tuple(tokens[1:equals]), tokens[equals].end, tokens[-1].end, inner)
+
+
+def inner_definitions(text, start, end):
+    """The definitions of a `where`."""
+    indent = re.match(r" *", text[start:end])[0]
+    lines = [start + found.start() for found in re.finditer(rf"^{indent}(?=\S)", text[start:end], re.M)] + [end]
+    for at, place in enumerate(lines):
+        found = re.match(r" *(\S+) : (.*)\n", text[place:end])
+        if found:
+            yield Definition(found[1], top_arrows(found[2]), list(clauses_of(text, found[1], lines[at + 1 :])))
+
+
+# a comparison of two numbers, and the same of the other strictness
+COMPARISONS = {"leb": "ltb", "ltb": "leb", "nat_le": "nat_lt", "nat_lt": "nat_le", "eqb": None}
 
 
 # ---- the crates
@@ -369,8 +429,8 @@ class Sources:
                 self.places[crate, module, definition.name] = definition
         for path, text in self.items.items():
             self.rust_kinds(path[-1], re.sub(r"//.*", "", text))
-        self.types.update({"true": ["Bool"], "false": ["Bool"], "length": ["List A", "ℕ"], "pos": ["ℕ", "ℤ"], "suc": ["ℕ", "ℕ"], "leb": ["ℕ", "ℕ", "Bool"],
-                           "ltb": ["ℕ", "ℕ", "Bool"], "eqb": ["ℕ", "ℕ", "Bool"], "min": ["ℕ", "ℕ", "ℕ"]})
+        self.types.update({"true": ["Bool"], "false": ["Bool"], "length": ["List A", "ℕ"], "pos": ["ℕ", "ℤ"], "suc": ["ℕ", "ℕ"], "min": ["ℕ", "ℕ", "ℕ"],
+                           "not": ["Bool", "Bool"], "slice_index": ["List ℕ", "ℕ", "ℕ"], **{name: ["ℕ", "ℕ", "Bool"] for name in COMPARISONS}})
         self.values["Bool"] = ["true", "false"]
 
     def rust_kinds(self, name, text):
@@ -427,7 +487,7 @@ def imports_of(text):
 
 
 def is_theorem(text):
-    return not re.match(r"(?:pub )?(?:abbrev|unfoldable|record|data|module) ", text)
+    return not re.match(r"(?:infix.*\n)?(?:pub )?(?:abbrev|unfoldable|record|data|module) ", text)
 
 
 def is_case(module):
@@ -437,6 +497,8 @@ def is_case(module):
 # ---- the mutants
 
 Mutant = collections.namedtuple("Mutant", "name crate module kind start end text")
+# a list's element at a place
+AT_A_PLACE = ("get_or", "slice_index", "slice_index_or")
 # helps that a changed text may name
 HELPS = """use Rattle.std.specs.Prelude.{ℕ, ◌-◌, List, length, take, drop, cond, leb}
 
@@ -453,7 +515,7 @@ abbrev pub at_most : ℕ → ℕ → ℕ
 at_most highest n = cond (leb n highest) n highest
 """
 HELP_NAMES = ("without_first", "without_last", "first_alone", "at_most")
-PRELUDE_NAMES = ("leb", "ltb", "eqb", "cond", "true", "false")
+PRELUDE_NAMES = ("leb", "ltb", "eqb", "nat_le", "nat_lt", "cond", "true", "false")
 
 
 class Maker:
@@ -462,6 +524,8 @@ class Maker:
     def __init__(self, sources, key, definition):
         self.sources, self.key, self.text, self.definition = sources, key, sources.texts[key], definition
         self.found, self.seen, self.one_place = [], collections.Counter(), False
+        # what the rest of an empty list is, and the clauses that the reader doesn't know
+        self.base, self.unread = None, []
         # the types of the names that the file has, of its own, of its imports and of constructors
         self.types = {name: types for name, types in sources.types.items() if isinstance(name, str)}
         self.constructors = set(self.types)
@@ -480,7 +544,7 @@ class Maker:
     def said(self, node):
         return self.text[node.start : node.end]
 
-    def add(self, kind, node, text):
+    def add(self, kind, node, text, brackets=True):
         if text == self.said(node):
             return
         short = lambda words: re.sub(r"\s+", " ", words)
@@ -488,7 +552,7 @@ class Maker:
         self.seen[name] += 1
         if self.seen[name] > 1:
             name += f" ({self.seen[name]})"
-        self.found.append(Mutant(name, *self.key, kind, node.start, node.end, f"({text})"))
+        self.found.append(Mutant(name, *self.key, kind, node.start, node.end, f"({text})" if brackets else text))
 
     # types
 
@@ -517,6 +581,8 @@ class Maker:
             head = parts[0].parts[0]
             if head == "cond" and len(parts[1]) == 3:
                 return self.type_of(parts[1][1], scope) or self.type_of(parts[1][2], scope)
+            if head in ("is_some", "is_ok"):
+                return "Bool"
             if head in ("take", "drop", "map", "replicate"):
                 return self.type_of(parts[1][1], scope) if head in ("take", "drop") else "List A"
             types = self.types.get(head, ())
@@ -526,7 +592,9 @@ class Maker:
                 return "ℕ"
             if parts[0].text in ("∷", "++"):
                 return self.type_of(parts[2], scope) or "List A"
-            return {"&&": "Bool", "-ℤ": "ℤ"}.get(parts[0].text, "")
+            return {"&&": "Bool", "||": "Bool", "==": "Bool", "+ℤ": "ℤ", "-ℤ": "ℤ", "*ℤ": "ℤ"}.get(parts[0].text, "")
+        if kind == "if":
+            return self.type_of(parts[1], scope) or self.type_of(parts[2], scope)
         if kind == "let":
             return self.type_of(parts[2], {**scope, parts[0]: self.type_of(parts[1], scope)})
         return ""
@@ -534,10 +602,10 @@ class Maker:
     def fields_of(self, node, scope):
         return self.sources.fields.get(self.type_of(node, scope), {})
 
-    def bound(self, patterns):
+    def bound(self, patterns, types):
         """The variables of a clause's patterns with their types."""
         scope, reader = {}, Reader(list(patterns))
-        for kind in self.definition.types[:-1]:
+        for kind in types[:-1]:
             try:
                 if reader.peek().kind != "end":
                     self.bind(reader.atom(), kind, scope)
@@ -566,18 +634,21 @@ class Maker:
     # what is altered
 
     def mutants(self):
-        base = None
-        for clause in self.definition.clauses:
+        self.clauses(self.definition, {})
+        return self.found
+
+    def clauses(self, definition, scope):
+        for clause in definition.clauses:
+            inside = {**scope, **self.bound(clause.patterns, definition.types)}
             try:
                 node = Reader(tokens_of(self.text, clause.start, clause.end)).whole()
-            except Unread:
-                continue
-            scope = self.bound(clause.patterns)
-            if any(token.text in ("[]", "zero") for token in clause.patterns):
-                base = base or self.said(node)
-            self.base = base
-            self.walk(node, scope)
-        return self.found
+                if any(token.text in ("[]", "zero") for token in clause.patterns):
+                    self.base = self.base or self.said(node)
+                self.walk(node, inside)
+            except Unread as unread:
+                self.unread.append(f"{'/'.join(self.key)} {definition.name}: {unread}")
+            for inner in clause.inner:
+                self.clauses(inner, inside)
 
     def walk(self, node, scope):
         kind, parts = node.kind, node.parts
@@ -613,10 +684,39 @@ class Maker:
         elif kind == "let":
             self.walk(parts[1], scope)
             self.walk(parts[2], {**scope, parts[0]: self.type_of(parts[1], scope)})
+        elif kind == "if":
+            test, one, other = map(self.said, parts)
+            self.branches(node, f"if {test} then {other} else {one}", one, other)
+            for part in parts:
+                self.walk(part, scope)
+        elif kind == "do":
+            self.lines(node, scope)
         elif kind == "call":
             self.call(node, scope)
         elif kind == "infix":
             self.infix(node, scope)
+
+    def branches(self, node, exchanged, one, other):
+        self.add("exchange", node, exchanged)
+        self.add("left out", node, one)
+        self.add("left out", node, other)
+
+    def lines(self, node, scope):
+        """The lines of a `do`: one that binds no name that is used is left out; two of which the second doesn't use the first's are exchanged."""
+        lines = node.parts
+        for at, line in enumerate(lines[:-1]):
+            name, after = line.parts[0], lines[at + 1]
+            if not any(name in words_of(self.said(later)) for later in lines[at + 1 :]):
+                self.add("left out", Node("line", line.start, after.start, ()), "", False)
+            if after is not lines[-1] and name not in words_of(self.said(after)):
+                between = self.text[line.end : after.start]
+                self.add("exchange", Node("line", line.start, after.end, ()), f"{self.said(after)}{between}{self.said(line)}", False)
+        scope = dict(scope)
+        for line in lines:
+            name, value = line.parts
+            self.walk(value, scope)
+            found = re.fullmatch(r"Result (\w+|\(.*\)) \S+", self.type_of(value, scope))
+            scope.update({name: self.resolved(found[1]) if found else ""} if name else {})
 
     def guess(self, name):
         """The type of a lambda's variable, by the names that definitions give such values."""
@@ -662,48 +762,58 @@ class Maker:
         head, arguments = node.parts
         name = head.parts[0] if head.kind == "name" else ""
         said = [self.said(argument) for argument in arguments]
-        if name in ("leb", "ltb") and len(arguments) == 2:
-            self.add("strictness", node, f"{'ltb' if name == 'leb' else 'leb'} {said[0]} {said[1]}")
+        if COMPARISONS.get(name) and len(arguments) == 2:
+            self.add("strictness", node, f"{COMPARISONS[name]} {said[0]} {said[1]}")
             self.add("direction", node, f"{name} {said[1]} {said[0]}")
         elif name == "eqb" and len(arguments) == 2:
-            for one, other in (said, said[::-1]):
-                if other != "0":
-                    self.add("strictness", node, f"leb {one} {other}")
+            self.equality(node, "leb", said)
         elif name == "cond" and len(arguments) == 3:
-            self.add("exchange", node, f"cond {said[0]} {said[2]} {said[1]}")
-            self.add("left out", node, said[1])
-            self.add("left out", node, said[2])
+            self.branches(node, f"cond {said[0]} {said[2]} {said[1]}", said[1], said[2])
         elif name == "min" and len(arguments) == 2:
             self.add("left out", node, said[0])
             self.add("left out", node, said[1])
-        elif name == self.definition.name and getattr(self, "base", None):
+        elif name == "not" and len(arguments) == 1:
+            self.add("left out", node, said[0])
+        elif name == self.definition.name and self.base:
             self.add("recursion", node, self.base)
         elif name:
             types = self.types.get(name, ())
             for at in range(len(arguments) - 1):
                 if len(types) > at + 1 and self.resolved(types[at]) == self.resolved(types[at + 1]) and said[at] != said[at + 1]:
                     self.add("exchange", node, " ".join([name, *said[:at], said[at + 1], said[at], *said[at + 2 :]]))
-        if self.type_of(node, scope) == "Bool" and "class" in scope:
-            for one in "012":
-                self.add("one class", node, f"cond (eqb class {one}) ({self.said(node)}) true")
+        self.test_of_one_class(node, scope)
         for at, argument in enumerate(arguments):
-            # of get_or's list one place counts, which is altered as a number, and what it gives past the end is no rule's
-            if name == "get_or" and at == 2:
+            # of such a list one place counts, which is altered as a number, and what it gives past the end is no rule's
+            if name in AT_A_PLACE and at == 2:
                 break
-            self.one_place = name == "get_or" and at == 0
+            self.one_place = name in AT_A_PLACE and at == 0
             if argument.kind == "brackets" and argument.parts[0].kind == "call":
                 self.lists(argument, scope)
             self.walk(argument, scope)
             self.one_place = False
 
+    def equality(self, node, at_most, sides):
+        """An equality as an order; with 0 on the greater side both say the same."""
+        for one, other in (sides, sides[::-1]):
+            if other != "0":
+                self.add("strictness", node, f"{at_most} {one} {other}")
+
+    def test_of_one_class(self, node, scope):
+        if self.type_of(node, scope) == "Bool" and "class" in scope:
+            for one in "012":
+                self.add("one class", node, f"cond (eqb class {one}) ({self.said(node)}) true")
+
     def infix(self, node, scope):
         infix, left, right = node.parts
         said, other = self.said(left), self.said(right)
-        if infix.text in ("+", "++", "&&", "-", "-ℤ"):
+        if infix.text == "==":
+            self.equality(node, "nat_le", [self.bracketed(left), self.bracketed(right)])
+        self.test_of_one_class(node, scope)
+        if infix.text in ("+", "++", "&&", "||", "-", "+ℤ", "-ℤ"):
             self.add("left out", node, said)
-            if infix.text in ("+", "++", "&&"):
+            if infix.text not in ("-", "-ℤ"):
                 self.add("left out", node, other)
-        if infix.text in ("*", "/", "%"):
+        if infix.text in ("*", "/", "%", "*ℤ"):
             self.add("left out", node, said)
         if infix.text in ("+", "*") and "number" not in (left.kind, right.kind):
             for bits in (16, 32):
@@ -723,16 +833,28 @@ class Maker:
         return node.kind == "call" and node.parts[0].kind == "name" and node.parts[0].parts[0] == self.definition.name
 
     def bracketed(self, node):
-        return f"({self.said(node)})" if node.kind in ("infix", "call", "lambda", "let") else self.said(node)
+        return f"({self.said(node)})" if node.kind in ("infix", "call", "lambda", "let", "if", "do") else self.said(node)
 
 
-def mutants_of(sources, crate):
-    found = []
+def made(sources, crate):
+    """The mutants of a crate, and what the reader doesn't know: clauses, and definitions of which it finds none."""
+    found, unread = [], []
     for (of, module), text in sources.texts.items():
         if of == crate and not is_case(module):
-            for definition in definitions_of(text):
-                found += Maker(sources, (of, module), definition).mutants()
-    return found
+            definitions = list(definitions_of(text))
+            for definition in definitions:
+                maker = Maker(sources, (of, module), definition)
+                found += maker.mutants()
+                unread += maker.unread
+            known = {definition.name for definition in definitions}
+            unread += [f"{of}/{module} {block.names[0]}" for block in sources.blocks[of, module] if defines(block.text) and block.names[0] not in known]
+    return found, unread
+
+
+def defines(block):
+    """Whether a declaration is a definition that is no proposition."""
+    found = re.search(rf"^{MODIFIERS}\S+ : ((?:.*\n(?=\s))*.*)", block, re.M)
+    return bool(found) and not is_theorem(block) and not bare(top_arrows(re.sub(r"--.*", "", found[1]))[-1]).startswith("Type")
 
 
 def altered(block, mutant):
@@ -754,8 +876,8 @@ def renamed(text, crates):
 
 def public(block):
     """A declaration made public, since copies of a part of a file name the rest of it."""
-    found = re.match(r"(abbrev |unfoldable )?(pub |module )?", block)
-    return block if found[2] else f"{found[1] or ''}pub {block[found.end():]}"
+    found = re.match(r"(infix.*\n)?(abbrev |unfoldable )?(pub |module )?", block)
+    return block if found[3] else f"{found[1] or ''}{found[2] or ''}pub {block[found.end():]}"
 
 
 def write_modules(folder, texts):
@@ -903,9 +1025,21 @@ def explanations():
     return found
 
 
+def is_of(line, name):
+    """Whether a line of the explanations is of this mutant."""
+    return name == line or (line.endswith("*") and name.startswith(line[:-1]))
+
+
 def explained(name, found):
     """Why a mutant that no case refuses is none to be refused, or None."""
-    return next((why for line, why in found if name == line or (line.endswith("*") and name.startswith(line[:-1]))), None)
+    return next((why for line, why in found if is_of(line, name)), None)
+
+
+def lacking_mutants(crates, names):
+    """Prints the explanations of these crates, or of crates that there are none of, that are of no mutant; how many."""
+    lines = [line for line, _ in explanations() if line.split("/")[0] in crates and not any(is_of(line, name) for name in names)]
+    print(*(f"explains no mutant: {line}" for line in lines), sep="\n", end="\n" if lines else "")
+    return len(lines)
 
 
 def files_of_proofs():
@@ -923,7 +1057,7 @@ class Tries:
 
     def __init__(self, sources, crate, copies, resume):
         self.sources, self.crate, self.copies = sources, crate, copies
-        self.mutants, self.lock = mutants_of(sources, crate), threading.Lock()
+        (self.mutants, self.unread), self.lock = made(sources, crate), threading.Lock()
         self.path = RESULTS / f"{crate}.json"
         kept = json.loads(self.path.read_text()) if resume and self.path.is_file() else {"mutants": {}, "texts": {}}
         # the texts of the case files that refused a mutant, by their sums
@@ -1062,11 +1196,16 @@ def main():
                 print(row(crate, json.loads((RESULTS / f"{crate}.json").read_text())))
         return
     if asked.list:
+        names, unread = [], []
         for crate in crates:
-            kinds = collections.Counter(mutant.kind for mutant in mutants_of(sources, crate))
+            mutants, unknown = made(sources, crate)
+            kinds = collections.Counter(mutant.kind for mutant in mutants)
             print(f"{crate}: {sum(kinds.values())}: {', '.join(f'{kind} {number}' for kind, number in sorted(kinds.items()))}")
+            names += [mutant.name for mutant in mutants]
+            unread += unknown
         print("no part of the copy, since they rest on theorems:", ", ".join("/".join(key) for key in sources.left_out))
-        return
+        print(f"not read, and so not altered: {len(unread)}:", ", ".join(unread))
+        sys.exit(1 if lacking_mutants(crates if asked.crates else {line.split("/")[0] for line, _ in explanations()}, names) else 0)
     survivors = 0
     with tempfile.TemporaryDirectory(prefix="fikrem-mutants-") as room, concurrent.futures.ThreadPoolExecutor(asked.jobs) as pool:
         import queue
@@ -1078,11 +1217,13 @@ def main():
         for crate in crates:
             tries = Tries(sources, crate, copies, asked.resume)
             tries.run(pool)
+            survivors += lacking_mutants([crate], tries.results)
             reasons = explanations()
             for name, result in tries.results.items():
                 if outcome(name, result, reasons) in (SURVIVES, LIMIT):
                     print(f"{result['result']}: {name}")
             survivors += counts(tries.results)[SURVIVES]
+            print(*(f"not read, and so not altered: {what}" for what in tries.unread), sep="\n", end="\n" if tries.unread else "")
             print(row(crate, json.loads(tries.path.read_text())), flush=True)
     sys.exit(1 if survivors else 0)
 

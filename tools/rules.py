@@ -3,16 +3,19 @@
 A reference of RULES is `path: name, name`, where a path starts in crates/ or is rust/..; a cell is a dash or references with commas between them, and the
 edits have a column of their own. Of PROMISES are checked: `name` in `path`, with names before it; paths that start with crates/; `crate::module::function`;
 and any other name with a dash or an underscore: a theorem's, a function's, a crate's or an edit's, in any file. Every must-fail edit stands in one of the two pages
-with its crate, and so does every public theorem that nothing else uses, since it is there for the reader alone. A theorem that PROMISES names with its file is held by a contract: a function
-without code has it in `using(..)` or in its Answers. PROMISES lists every public function with a `requires`, and no other. A heading that a comment or a page cites as document 01's (`Document 01, 'Accept'`, document 01's
+with its crate. A theorem that PROMISES names with its file is held by a contract: it is one of those that the proof of a function without code is to use, by `using(..)` or its Answers,
+and an `ensures` of that function states it, by its type's name or word for word up to spaces and the variables' names; of a function's theorems that are stated in other words there are
+no more than its other clauses. PROMISES lists every public function with a `requires`, and no other. A heading that a comment or a page cites as document 01's (`Document 01, 'Accept'`, document 01's
 'The slip') is one of RULES, and words that are quoted from document 01 come with theirs. Prints what is missing and ends with 1.
 
 With --gaps it prints the rules that have no theorem or row, and those that have no edit.
 """
-import collections
+import functools
 import pathlib
 import re
 import sys
+
+from believed import Text, WORD as WORD_OF_ANTT, is_comment
 
 root = pathlib.Path(__file__).resolve().parent.parent
 COLUMNS = ["Rule", "Definition", "Contract", "Theorem or row", "Edit", "Test"]
@@ -25,7 +28,11 @@ CITED = re.compile(r"[Dd]ocument 01(?:,|'s(?: \w+)?) ('[^']+'(?:(?:,| and) '[^']
 QUOTED = re.compile(r'[Dd]ocument 01: "')
 SECTION = "## Functions with a `requires`"
 # a function without parameters and code, with what its proof is to use
-LAW = re.compile(r"^(?:#\[tactic\(auto, using\(([^()]*)\)\)\]\n)?pub fn (\w+)\(\)\n(?:    ensures .*\n)+\{\}$", re.MULTILINE)
+LAW = re.compile(r"^(?:#\[tactic\(auto, using\(([^()]*)\)\)\]\n)?pub fn (\w+)\(\)\n((?:    ensures .*\n)+)\{\}$", re.MULTILINE)
+ENSURES = re.compile(r"ensures (?:\w+ )?\{ (.*) \}")
+ATOM = r"(?:\([^()]*\)|[^\s()]+)"
+# a law whose clauses are of two theorems each
+OF_TWO = ("moves_end",)
 THEOREMS = re.compile(r"use Rattle\.(\w+)\.((?:specs|proofs)\.Theorems\.\w+)\.\{(.*)\}")
 CITING = (".antt", ".rt", ".edit", ".rs", ".h", ".md")
 
@@ -133,30 +140,106 @@ def check_promises(failures, cited, everywhere):
     return checked
 
 
+def premises(words):
+    """What a statement takes, each with its name or "", and at last what it says."""
+    while True:
+        words = re.sub(r"^[\s→]+", "", words)
+        depth, ends = 0, []
+        for at, letter in enumerate(words):
+            depth += {"(": 1, "{": 1, ")": -1, "}": -1}.get(letter, 0)
+            ends += [at] if not depth and letter in ")}→" else []
+        named = re.fullmatch(r"((?:[^\s(){}:]+ )+): (.*)", words[1 : ends[0]], re.DOTALL) if ends and words[0] in "({" else None
+        arrow = next((at for at in ends if words[at] == "→"), None)
+        if named:
+            yield from ((name, named[2]) for name in named[1].split())
+            words = words[ends[0] + 1 :]
+        elif arrow is not None:
+            yield "", words[:arrow]
+            words = words[arrow:]
+        else:
+            yield "", words
+            return
+
+
+def form_of(words):
+    """A statement without what it may say in other words: its spaces, its variables' names, names that it doesn't use, and how a list's element is called."""
+    words = re.sub(r"\bget_or(?= )", "slice_index_or", re.sub(rf"\bget_or ({ATOM}) ({ATOM}) 0\b", r"slice_index \1 \2", words))
+    parts, said, names = list(premises(words)), [], {}
+    for at, (name, part) in enumerate(parts):
+        told = re.sub(WORD_OF_ANTT, lambda word: names.get(word[0], word[0]), part)
+        said.append(re.sub(r"\s+", "", told))
+        if any(name in re.findall(WORD_OF_ANTT, later) for _, later in parts[at + 1 :]):
+            names[name] = f"x{at}"
+            said[-1] = f"x{at}:{said[-1]}"
+        else:
+            names.pop(name, None)
+    return "→".join(part[1:-1] if re.fullmatch(r"\([^()]*\)", part) else part for part in said)
+
+
+def signature(text, name):
+    """The type of a name of an .antt file, with what the modules around it take."""
+    first, *rest = [line for line in text.blocks[name] if not is_comment(line)]
+    indent = re.match(" *", first)[0]
+    later = [line for line in rest if not line.startswith(indent + " ")][:1]
+    own = "\n".join([re.split(r" :(?: |$)", first, maxsplit=1)[1], *(rest[: rest.index(later[0])] if later else rest)])
+    taken = [re.sub(r"^ *module \S+|where$", "", head).strip() for head in text.heads[name]]
+    return " → ".join([*(words for words in taken if words), own])
+
+
+def value(text, name):
+    """What a name without arguments of an .antt file is."""
+    found = re.search(rf"(?m)^{name} =((?:.*\n(?= ))*.*)", "\n".join(line for line in text.blocks[name] if not is_comment(line)))
+    return found[1] if found else ""
+
+
+def forms(words, texts):
+    """A statement's form, and where it is a name that of its value in each file that has it."""
+    words = words.strip()
+    values = [value(text, words) for text in texts if words in text.blocks]
+    return {form_of(one) for one in [words, *values] if one}
+
+
+def theorems_of(source, function, using):
+    """The theorems that a law's proof is to use, as their files and names."""
+    crate = source.parts[-3]
+    for *path, name in (lemma.strip().split("::") for lemma in using.split(",") if lemma.strip()):
+        yield f"crates/{'/'.join([crate if path[0] == 'crate' else path[0], *path[1:]])}.antt", name
+    answers = source.parent.parent / "proofs" / function / "Answers.antt"
+    for owner, module, names in THEOREMS.findall(answers.read_text()) if answers.is_file() else []:
+        yield from ((f"crates/{owner}/{module.replace('.', '/')}.antt", name) for name in names.split(", "))
+
+
 def held_theorems():
-    """Each theorem that is the contract of a function without code, as its file and name."""
-    held = set()
+    """Each theorem that a function without code states, as its file and name, and how many of them word for word. Of those that its clauses say in other words
+    there may be no more than clauses that are none of the others'."""
+    held, in_words = set(), 0
+    read = functools.cache(Text)
+    laws = [read(path) for path in sorted((root / "crates").glob("*/specs/**/*.antt"))]
     for source in sorted((root / "crates").glob("*/src/*.rt")):
-        crate = source.parts[-3]
-        for using, function in LAW.findall(source.read_text()):
-            for *path, name in (lemma.strip().split("::") for lemma in using.split(",") if lemma.strip()):
-                held.add((f"crates/{'/'.join([crate if path[0] == 'crate' else path[0], *path[1:]])}.antt", name))
-            answers = source.parent.parent / "proofs" / function / "Answers.antt"
-            for owner, module, names in THEOREMS.findall(answers.read_text()) if answers.is_file() else []:
-                held |= {(f"crates/{owner}/{module.replace('.', '/')}.antt", name) for name in names.split(", ")}
-    return held
+        for using, function, clauses in LAW.findall(source.read_text()):
+            theorems = dict.fromkeys(theorems_of(source, function, using))
+            clauses = [forms(clause, laws) for clause in ENSURES.findall(clauses)]
+            stated = {}
+            for file, name in theorems:
+                said = forms(signature(read(root / file), name), laws)
+                stated.update({(file, name): at for at, clause in enumerate(clauses) if said & clause and at not in stated.values()})
+            others = [theorem for theorem in theorems if theorem not in stated]
+            left = (len(clauses) - len(stated)) * (2 if function in OF_TWO else 1)
+            held |= set(stated) | (set(others) if len(others) <= left else set())
+            in_words += len(stated)
+    return held, in_words
 
 
 def check_held(failures):
     """Holds each theorem that PROMISES names with its file against the contracts of functions without code; how many it names."""
     text = re.sub(r"\s+", " ", (root / "docs/PROMISES.md").read_text())
-    held, named = held_theorems(), set()
+    (held, in_words), named = held_theorems(), set()
     for names, path in NAMED_IN.findall(text):
         if "/Theorems/" in path and (root / path).is_file():
             theorems = {name for name, theorem in definitions((root / path).read_text()) if theorem}
             named |= {(path, name) for name in re.findall(rf"`({WORD})`", names) if name in theorems}
     failures += [f"docs/PROMISES.md: no contract holds {name} of {path}" for path, name in sorted(named - held)]
-    return len(named)
+    return len(named), in_words
 
 
 def requiring(source):
@@ -193,27 +276,6 @@ def sources():
     return {file: re.sub(r"(?m)^\s*(?:--|//).*$", "", file.read_text()) for file in files}
 
 
-def uses(texts):
-    """How often each name stands in the files other than where a line starts to define it."""
-    count = collections.Counter()
-    for text in texts.values():
-        for line in text.splitlines():
-            defined = re.match(rf" *(?:pub )?({WORD})(?: :|.* =(?: |$))", line)
-            count.update(re.findall(WORD, line))
-            count.subtract([defined[1]] if defined else [])
-    return count
-
-
-def theorems_for_readers(texts):
-    """Each public theorem of a crate's specs that nothing uses."""
-    count = uses(texts)
-    for file, text in sorted(texts.items()):
-        if file.parent.name == "specs":
-            for name, theorem in definitions(text):
-                if theorem and not count[name]:
-                    yield file.relative_to(root), name
-
-
 def check_headings(failures):
     """Holds each heading that is cited as document 01's against those of RULES; how many are cited."""
     headings = set(re.findall(r"(?m)^#+ (.+)$", (root / "docs/RULES.md").read_text()))
@@ -243,19 +305,18 @@ def main():
     everywhere |= {path.name for path in (root / "crates").iterdir()} | {edit.stem for edit in (root / "crates").glob("*/must-fail/*.edit")}
     found = check_rules(failures, cited)
     promised = check_promises(failures, cited, everywhere)
-    theorems = check_held(failures)
+    theorems, in_words = check_held(failures)
     check_requires(failures)
     headings = check_headings(failures)
     edits = sorted((root / "crates").glob("*/must-fail/*.edit"))
     failures += [f"{edit.relative_to(root)}: on neither page" for edit in edits if (edit.parts[-3], edit.stem) not in cited]
-    failures += [f"{file}: {name} is used nowhere and on neither page" for file, name in theorems_for_readers(texts) if name not in cited]
     if "--gaps" in sys.argv[1:]:
         print_gaps(found)
     for failure in failures:
         print(failure)
     if failures or not found:
         sys.exit(1)
-    print(f"docs/RULES.md: {len(found)} rules; docs/PROMISES.md: {promised} names with their files, {theorems} theorems of them; {len(edits)} edits; {headings} headings of document 01 cited")
+    print(f"docs/RULES.md: {len(found)} rules; docs/PROMISES.md: {promised} names with their files, {theorems} theorems of them; laws state {in_words} theorems word for word; {len(edits)} edits; {headings} headings of document 01 cited")
 
 
 main()

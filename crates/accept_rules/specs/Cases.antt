@@ -1,3 +1,4 @@
 pub mod Accept
 pub mod BuildingOn
 pub mod MarkedFigures
+pub mod Clearing

@@ -5,7 +5,7 @@ use Rattle.std.specs.Prelude.{ℕ, ◌<◌, ◌≡◌, List, length, get_or, set
 use Rattle.tagged.specs.declared.file.Refusal.{Refusal}
 use Rattle.charge.specs.Price.{price_of, Pricing}
 use Rattle.charge.specs.declared.Bill.{Bill}
-use Rattle.ledger.specs.Limits.{most_schemes, most_entries, most_connections}
+use Rattle.ledger.specs.Limits.{most_schemes, most_entries, most_connections, highest_next_scheme}
 use Rattle.calls.specs.Decision.{accept, CallAnswer, is_refused, Decision, refused, accept_by, answer_to, is_accepted, is_done, Call}
 use Rattle.calls.specs.Carried.{State, books_on, carried_out, booked, joined, opened}
 use Rattle.calls.specs.Calls.{answered, leaves}
@@ -44,6 +44,14 @@ module _ (state : State) where
     pub limit : state.ledger.entries + needed ≤ most_entries
     pub room : state.ledger.entries + needed ≤ length state.table
 
+  -- 8: "64 schemes" stand, or the one that must open would be the 65,536th
+  pub record SchemesLeft (needed : ℕ) : Type 0 where
+    pub place : state.ledger.count + needed ≤ most_schemes
+    pub number : state.ledger.next_scheme + needed ≤ highest_next_scheme
+
+  abbrev pub SchemesLacking : ℕ → Type 0
+  SchemesLacking needed = (most_schemes < state.ledger.count + needed) ⊎ (highest_next_scheme < state.ledger.next_scheme + needed)
+
   abbrev pub EntriesLacking : ℕ → Type 0
   EntriesLacking needed = (most_entries < state.ledger.entries + needed) ⊎ (length state.table < state.ledger.entries + needed)
 
@@ -60,15 +68,15 @@ module _ (state : State) where
       pub month : state.ledger.month ≤ bill.applicant.month
 
   module _ (bill : Bill) where
-    -- a scheme that was opened is joined: not 6
-    pub record MayJoin (scheme : SchemeParticulars) : Type 0 where
+    -- a scheme that was opened is joined: not 6; it stands, or it was cleared
+    pub record MayJoin (scheme : Option SchemeParticulars) : Type 0 where
       pub numbered : 1 ≤ bill.applicant.scheme
-      pub opened : bill.applicant.scheme ≤ state.ledger.count
-      pub is : scheme_at (books_on state) bill.applicant.scheme ≡ Some scheme
+      pub opened : bill.applicant.scheme < state.ledger.next_scheme
+      pub is : scheme_at (books_on state) bill.applicant.scheme ≡ scheme
 
     -- "Joined, in force"
     pub record InForce (scheme : SchemeParticulars) : Type 0 where
-      pub joins : MayJoin scheme
+      pub joins : MayJoin (Some scheme)
       pub not_ended : bill.applicant.month < scheme.opening + scheme.term
 
     -- what becomes of the joining: its answer, how many entries it needs, and what it leaves
@@ -76,14 +84,16 @@ module _ (state : State) where
       -- no scheme joined
       not_asked : bill.applicant.scheme ≡ 0 → JoiningAnswers JoiningAnswer.NotAsked 0 (booked bill state)
       -- "month ≥ opening + term: nothing is collected"
-      ended : {scheme : SchemeParticulars} → MayJoin scheme → scheme.opening + scheme.term ≤ bill.applicant.month →
+      ended : {scheme : SchemeParticulars} → MayJoin (Some scheme) → scheme.opening + scheme.term ≤ bill.applicant.month →
           JoiningAnswers JoiningAnswer.Ended 0 (booked bill state)
+      -- "Joining a cleared scheme gives "ended"" (document 02, E8)
+      cleared : MayJoin None → JoiningAnswers JoiningAnswer.Ended 0 (booked bill state)
       -- "Below the minimum: nothing collected, no entry"
       small : {scheme : SchemeParticulars} → InForce scheme → contribution_of state bill scheme < scheme.minimum →
           JoiningAnswers JoiningAnswer.Small 0 (booked bill state)
       -- "The joiner becomes an entry with G put in."
       joins : {scheme : SchemeParticulars} {G : ℕ} → InForce scheme → scheme.minimum ≤ contribution_of state bill scheme →
-          G ≡ contribution_of state bill scheme → JoiningAnswers (joined_as (state.ledger.entries + 1) G) 1 (joined_with state bill scheme G)
+          G ≡ contribution_of state bill scheme → JoiningAnswers (joined_as state.ledger.next_entry G) 1 (joined_with state bill scheme G)
 
     -- what becomes of the opening, which "comes after its joining is booked": its answer, how many schemes and entries it needs, and what it leaves
     pub data OpeningAnswers (between : State) : Option ℕ → ℕ → State → Type 0 where
@@ -91,7 +101,7 @@ module _ (state : State) where
           OpeningAnswers between None 0 between
       -- "mark 0, and X .. above the threshold": "a scheme of cost X opens .., and the applicant is its first entry with X put in"
       opens : bill.applicant.mark ≡ 0 → bill.terms.threshold < bill.reconciliation.x →
-          OpeningAnswers between (Some (state.ledger.count + 1)) 1 (opened true bill between)
+          OpeningAnswers between (Some state.ledger.next_scheme) 1 (opened true bill between)
 
 -- ---- what accept answers and leaves, and when
 pub data Answers (state : State) (pricing : Pricing) : CallAnswer → State → Type 0 where
@@ -107,20 +117,20 @@ pub data Answers (state : State) (pricing : Pricing) : CallAnswer → State → 
   refused_7 : {bill : Bill} → Billed state pricing bill → state.ledger.connections < most_connections → bill.applicant.month < state.ledger.month →
       Answers state pricing (is_refused (refusal month_before_last 0 0)) state
   -- 6: scheme never opened
-  refused_6 : {bill : Bill} → MayConnect state pricing bill → state.ledger.count < bill.applicant.scheme →
+  refused_6 : {bill : Bill} → MayConnect state pricing bill → state.ledger.next_scheme ≤ bill.applicant.scheme →
       Answers state pricing (is_refused (refusal scheme_never_opened 0 0)) state
   -- "8 and 9 are judged for joining and opening together, before either is booked."
-  -- 8: 64 schemes, one must open
+  -- 8: 64 schemes stand, or the next would be the 65,536th, and one must open
   refused_8 : {bill : Bill} {joining : JoiningAnswer} {opening : Option ℕ} {entries new : ℕ} {between after : State} → MayConnect state pricing bill →
-      JoiningAnswers state bill joining entries between → OpeningAnswers state bill between opening new after → most_schemes < state.ledger.count + new →
+      JoiningAnswers state bill joining entries between → OpeningAnswers state bill between opening new after → SchemesLacking state new →
       Answers state pricing (is_refused (refusal no_scheme_left 0 0)) state
   -- 9: the entries that both need aren't left
   refused_9 : {bill : Bill} {joining : JoiningAnswer} {opening : Option ℕ} {entries new : ℕ} {between after : State} → MayConnect state pricing bill →
-      JoiningAnswers state bill joining entries between → OpeningAnswers state bill between opening new after → state.ledger.count + new ≤ most_schemes →
+      JoiningAnswers state bill joining entries between → OpeningAnswers state bill between opening new after → SchemesLeft state new →
       EntriesLacking state (entries + new) → Answers state pricing (is_refused (refusal no_entry_left 0 0)) state
   -- every joining with every opening; "plain" is none of both
   accepts : {bill : Bill} {joining : JoiningAnswer} {opening : Option ℕ} {entries new : ℕ} {between after : State} → MayConnect state pricing bill →
-      JoiningAnswers state bill joining entries between → OpeningAnswers state bill between opening new after → state.ledger.count + new ≤ most_schemes →
+      JoiningAnswers state bill joining entries between → OpeningAnswers state bill between opening new after → SchemesLeft state new →
       EntriesLeft state (entries + new) → Answers state pricing (accepted_as bill joining opening) after
 
 -- it answers and leaves what `Answers` says

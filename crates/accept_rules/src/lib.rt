@@ -4,6 +4,7 @@
 
 ghost use Rattle.accept_rules.specs.Cases.Accept.{AcceptCasesHold};
 ghost use Rattle.accept_rules.specs.Cases.BuildingOn.{ShortTableCasesHold};
+ghost use Rattle.accept_rules.specs.Cases.Clearing.{ClearingCasesHold};
 ghost use Rattle.accept_rules.specs.Cases.MarkedFigures.{MarkedFigures};
 ghost use Rattle.accept_rules.specs.Laws.{AcceptAnswers, AlteredBookNotAccepted, AlteredRequestNotAccepted, AnsweredByPricing, AnswersOnly, LeavesByPricing, RefusalNumbers, RefusedChangesNothing};
 
@@ -30,6 +31,7 @@ pub fn marked_figures()
 pub fn accept_cases_hold()
     ensures each { AcceptCasesHold }
     ensures short_tables { ShortTableCasesHold }
+    ensures clearing { ClearingCasesHold }
 {}
 
 /// Accept reads its files through pricing alone.

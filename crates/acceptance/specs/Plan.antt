@@ -8,7 +8,7 @@ use Rattle.charge.specs.declared.Bill.{Bill}
 use Rattle.charge.specs.Price.{Pricing}
 use Rattle.ledger.specs.Limits.{most_entries}
 use Rattle.ledger.specs.Records.{no_scheme, no_party}
-use Rattle.ledger.specs.Updates.{with_fees, with_connection, with_entries, with_schemes}
+use Rattle.ledger.specs.Updates.{with_fees, with_connection, with_entry, with_schemes, with_scheme}
 use Rattle.ledger.specs.Lookup.{scheme_place}
 use Rattle.ledger.specs.Sound.{sound}
 use Rattle.ledger.specs.declared.records.Party.{Party}
@@ -30,9 +30,7 @@ booked_ledger bill ledger = with_connection bill.applicant.month bill.reconcilia
 -- the fee taken at a scheme's place, and the joiner's entry counted
 abbrev pub fee_taken : ℕ → ℕ → Ledger → Ledger
 fee_taken at fee ledger =
-    let scheme = get_or ledger.schemes at no_scheme in
-    with_entries (ledger.entries + 1)
-    (with_schemes ledger.count (set ledger.schemes at (with_fees (scheme.fees + fee) scheme)) ledger)
+    let scheme = get_or ledger.schemes at no_scheme in with_entry (with_schemes (set ledger.schemes at (with_fees (scheme.fees + fee) scheme)) ledger)
 
 -- a verdict that accepts has found the scheme, so that the second case doesn't come up
 abbrev pub fee_at_place : Option ℕ → ℕ → Ledger → Ledger
@@ -43,12 +41,11 @@ abbrev pub joined_ledger : Joining → Bill → Ledger → Ledger
 joined_ledger NotAsked bill ledger = ledger
 joined_ledger Ended bill ledger = ledger
 joined_ledger Small bill ledger = ledger
-joined_ledger (Pays paid) bill ledger = fee_at_place (scheme_place ledger.count bill.applicant.scheme) paid.fee ledger
+joined_ledger (Pays paid) bill ledger = fee_at_place (scheme_place bill.applicant.scheme (take ledger.count ledger.schemes)) paid.fee ledger
 
 abbrev pub opened_ledger : Bool → Bill → Ledger → Ledger
 opened_ledger false bill ledger = ledger
-opened_ledger true bill ledger =
-    with_entries (ledger.entries + 1) (with_schemes (ledger.count + 1) (set ledger.schemes ledger.count (new_scheme bill)) ledger)
+opened_ledger true bill ledger = with_entry (with_scheme (set ledger.schemes ledger.count (new_scheme ledger.next_scheme bill)) ledger)
 
 -- ---- what each entry is credited: a figure for each place, nothing for those past the last
 abbrev pub padded : List ℕ → List ℕ
@@ -71,14 +68,16 @@ none_added = record { parties = replicate 2 no_party; count = 0 }
 abbrev pub entry_added : Party → Added → Added
 entry_added party added = record { parties = set added.parties added.count party; count = added.count + 1 }
 
-abbrev pub joiner_added : Bill → Joining → Added
-joiner_added bill NotAsked = none_added
-joiner_added bill Ended = none_added
-joiner_added bill Small = none_added
-joiner_added bill (Pays paid) = entry_added (new_party bill.applicant.scheme bill paid.collected) none_added
+-- `number` is the first that an entry gets
+abbrev pub joiner_added : ℕ → Bill → Joining → Added
+joiner_added number bill NotAsked = none_added
+joiner_added number bill Ended = none_added
+joiner_added number bill Small = none_added
+joiner_added number bill (Pays paid) = entry_added (new_party number bill.applicant.scheme bill paid.collected) none_added
 
-abbrev pub opener_added : ℕ → Bill → Bool → Added → Added
-opener_added number bill opens added = cond opens (entry_added (new_party number bill bill.reconciliation.x) added) added
+abbrev pub opener_added : ℕ → ℕ → Bill → Bool → Added → Added
+opener_added number scheme bill opens added =
+    cond opens (entry_added (new_party (number + added.count) scheme bill bill.reconciliation.x) added) added
 
 -- ---- the plan
 abbrev pub refused_plan : Ledger → Refusal → Plan
@@ -87,7 +86,7 @@ refused_plan ledger r =
 
 abbrev pub course_plan : Ledger → List Party → ℕ → Bill → Course → Plan
 course_plan ledger parties room bill course =
-    let added = opener_added (ledger.count + 1) bill course.opens (joiner_added bill course.joining) in
+    let added = opener_added ledger.next_entry ledger.next_scheme bill course.opens (joiner_added ledger.next_entry bill course.joining) in
     record {
       answer = Ok (acceptance_of (snapshot_books ledger parties room) bill course);
       ledger = opened_ledger course.opens bill (joined_ledger course.joining bill (booked_ledger bill ledger));

@@ -3,7 +3,7 @@ use Rattle.std.specs.Prelude.{ℕ, ◌+◌, ◌*◌, ◌-◌, ◌<◌, ◌≤◌
 use Rattle.charge.specs.BillLimits.{BillWithin}
 use Rattle.field_values.specs.Limits.{highest_minimum, highest_capacity}
 use Rattle.charge.specs.declared.Bill.{Bill}
-use Rattle.ledger.specs.Limits.{most_schemes, most_entries, most_connections, highest_sum}
+use Rattle.ledger.specs.Limits.{most_schemes, most_entries, most_connections, highest_sum, highest_next_scheme, highest_next_entry}
 use Rattle.ledger.specs.Records.{no_scheme}
 use Rattle.ledger.specs.Lookup.{scheme_place}
 use Rattle.ledger.specs.Columns.{scheme_column, sum_over}
@@ -22,16 +22,17 @@ pub record Bookable (ledger : Ledger) : Type 0 where
   pub charged : ledger.charged ≤ highest_sum * most_connections
   pub borne : ledger.borne ≤ highest_sum * most_connections
 
--- a fee to be taken at a scheme's place, where so many entries stand
-pub record FeeDue (many : ℕ) (schemes : List Scheme) (at : ℕ) : Type 0 where
+-- a fee to be taken at a scheme's place, where so many entries stand and the next one gets this number
+pub record FeeDue (many number : ℕ) (schemes : List Scheme) (at : ℕ) : Type 0 where
   pub place : at < most_schemes
   pub entries : many < most_entries
+  pub next_entry : number ≤ highest_next_entry most_connections
   pub fees : (get_or schemes at no_scheme).fees ≤ highest_minimum * (most_entries - 1)
 
 abbrev pub FeesDue : Ledger → Bill → Joining → Type 0
 FeesDue ledger bill joining =
-    (paid : Contribution) (at : ℕ) → joining ≡ Pays paid → scheme_place ledger.count bill.applicant.scheme ≡ Some at →
-    FeeDue ledger.entries ledger.schemes at
+    (paid : Contribution) (at : ℕ) → joining ≡ Pays paid → scheme_place bill.applicant.scheme (take ledger.count ledger.schemes) ≡ Some at →
+    FeeDue ledger.entries ledger.next_entry ledger.schemes at
 
 -- G less the fee, to be credited to the scheme's entries, whose capacity is K
 pub record CreditDue (entries : List Party) (bill : Bill) (paid : Contribution) : Type 0 where
@@ -48,6 +49,7 @@ pub record CourseDue (ledger : Ledger) (parties : List Party) (bill : Bill) (cou
   pub within : BillWithin bill
   pub schemes : ledger.count ≤ most_schemes
   pub entries : ledger.entries ≤ most_entries
+  pub next_entry : ledger.next_entry ≤ highest_next_entry most_connections
   pub fees : FeesDue ledger bill course.joining
   pub credits : CreditsDue (take ledger.entries parties) bill course.joining
-  pub opening : course.opens ≡ true → (ledger.count < most_schemes) × (ledger.entries + entries_needed course ≤ most_entries)
+  pub opening : course.opens ≡ true → (ledger.count < most_schemes) × (ledger.next_scheme < highest_next_scheme) × (ledger.entries + entries_needed course ≤ most_entries)

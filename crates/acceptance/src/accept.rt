@@ -6,13 +6,14 @@ ghost use Rattle.charge.specs.Price.{price_of};
 ghost use Rattle.charge.specs.BillLimits.{BillWithin};
 ghost use Rattle.field_values.specs.Limits.{highest_capacity};
 ghost use Rattle.ledger.specs.declared.records.Party.{Party};
-ghost use Rattle.ledger.specs.Limits.{most_schemes, most_entries, highest_credited};
+ghost use Rattle.ledger.specs.Limits.{most_schemes, most_entries, most_connections, highest_credited, highest_next_scheme, highest_next_entry};
 ghost use Rattle.ledger.specs.Records.{no_party};
 ghost use Rattle.ledger.specs.Books.{Books};
 ghost use Rattle.ledger.specs.Columns.{scheme_column, sum_over};
 ghost use Rattle.ledger.specs.CapacityColumns.{capacity_column};
 ghost use Rattle.ledger.specs.Sound.{sound};
 ghost use Rattle.ledger.specs.Table.{credit_each};
+ghost use Rattle.ledger.specs.Updates.{with_entry};
 ghost use Rattle.calls.specs.ByPlace.{credits_among};
 ghost use Rattle.calls.specs.Carried.{new_party};
 ghost use Rattle.calls.specs.Calls.{state_of, Promised};
@@ -49,13 +50,22 @@ fn book(ledger: &mut Ledger, bill: &Bill)
 
 // ---- joined
 
+// An entry more, which has the next number.
+fn count_entry(ledger: &mut Ledger)
+    requires { (ledger.old.entries < most_entries) × (ledger.old.next_entry ≤ highest_next_entry most_connections + 1) }
+    ensures { ledger.new ≡ with_entry ledger.old }
+{
+    ledger.entries += 1;
+    ledger.next_entry += 1;
+}
+
 // The fee taken at a scheme's place, and the joiner's entry counted.
 fn take_fee(ledger: &mut Ledger, at: usize, fee: u32)
-    requires { FeeDue ledger.old.entries ledger.old.schemes at }
+    requires { FeeDue ledger.old.entries ledger.old.next_entry ledger.old.schemes at }
     ensures { ledger.new ≡ fee_taken at fee ledger.old }
 {
     ledger.schemes[at].fees += u64::from(fee);
-    ledger.entries += 1;
+    count_entry(ledger);
 }
 
 // An amount is credited to the entries of a scheme: each gets what the quotient by the running capacity grows by.
@@ -81,10 +91,11 @@ fn credit_scheme(entries: &mut [Party], scheme: u16, amount: u64, total: u64)
     }
 }
 
-fn new_party(scheme: u16, bill: &Bill, put_in: u32) -> Party
-    ensures { result ≡ new_party scheme bill.now put_in }
+fn new_party(number: u32, scheme: u16, bill: &Bill, put_in: u32) -> Party
+    ensures { result ≡ new_party number scheme bill.now put_in }
 {
     Party {
+        number,
         scheme,
         person: bill.applicant.person,
         capacity: bill.applicant.capacity,
@@ -98,18 +109,20 @@ fn new_party(scheme: u16, bill: &Bill, put_in: u32) -> Party
 fn join(ledger: &mut Ledger, table: &mut [Party], bill: &Bill, joining: Joining)
     requires fees { FeesDue ledger.old bill.now joining }
     requires credits { CreditsDue (take ledger.old.entries table.old) bill.now joining }
-    requires places { (ledger.old.entries ≤ most_entries) × (ledger.old.entries + (joiner_added bill.now joining).count ≤ length table.old) }
+    requires places { (ledger.old.count ≤ most_schemes) × (ledger.old.entries ≤ most_entries) × (ledger.old.entries + (joiner_added ledger.old.next_entry bill.now joining).count ≤ length table.old) }
     requires fits { (i : ℕ) → i < length (take ledger.old.entries table.old) → (get_or (take ledger.old.entries table.old) i no_party).credited ≤ highest_credited }
     ensures ledger { ledger.new ≡ joined_ledger joining bill.now ledger.old }
-    ensures table { table.new ≡ sets (credit_each table.old (credits_by (take ledger.old.entries table.old) bill.now joining)) ledger.old.entries (take (joiner_added bill.now joining).count (joiner_added bill.now joining).parties) }
+    ensures table { table.new ≡ sets (credit_each table.old (credits_by (take ledger.old.entries table.old) bill.now joining)) ledger.old.entries (take (joiner_added ledger.old.next_entry bill.now joining).count (joiner_added ledger.old.next_entry bill.now joining).parties) }
 {
     if let Joining::Pays(paid) = joining {
-        let number = bill.applicant.scheme;
+        let scheme = bill.applicant.scheme;
         let entries = ledger.entries as usize;
         let amount = u64::from(paid.collected - paid.fee);
-        credit_scheme(&mut table[..entries], number, amount, paid.capacity);
-        append_one(table, entries, new_party(number, bill, paid.collected));
-        if let Some(at) = scheme_at(ledger.count, number) {
+        credit_scheme(&mut table[..entries], scheme, amount, paid.capacity);
+        let joiner = new_party(ledger.next_entry, scheme, bill, paid.collected);
+        append_one(table, entries, joiner);
+        let schemes = &ledger.schemes[..ledger.count as usize];
+        if let Some(at) = scheme_at(schemes, u32::from(scheme)) {
             take_fee(ledger, at, paid.fee);
         }
     }
@@ -121,21 +134,20 @@ fn join(ledger: &mut Ledger, table: &mut [Party], bill: &Bill, joining: Joining)
 // is promised in one.
 fn open(ledger: &mut Ledger, table: &mut [Party], bill: &Bill, opens: bool)
     requires places { opens ≡ true → (ledger.old.count < most_schemes) × (ledger.old.entries < most_entries) × (ledger.old.entries < length table.old) }
+    requires numbers { opens ≡ true → (ledger.old.next_scheme < highest_next_scheme) × (ledger.old.next_entry ≤ highest_next_entry most_connections + 1) }
     requires within { BillWithin bill.now }
     ensures ledger { ledger.new ≡ opened_ledger opens bill.now ledger.old }
-    ensures table { table.new ≡ cond opens (set table.old ledger.old.entries (new_party (ledger.old.count + 1) bill.now bill.now.reconciliation.x)) table.old }
+    ensures table { table.new ≡ cond opens (set table.old ledger.old.entries (new_party ledger.old.next_entry ledger.old.next_scheme bill.now bill.now.reconciliation.x)) table.old }
 {
     if !opens {
         return;
     }
     let cost = bill.reconciliation.x as u32;
     let at = ledger.count as usize;
-    append_one(
-        table,
-        ledger.entries as usize,
-        new_party((ledger.count + 1) as u16, bill, cost),
-    );
+    let opener = new_party(ledger.next_entry, ledger.next_scheme as u16, bill, cost);
+    append_one(table, ledger.entries as usize, opener);
     ledger.schemes[at] = Scheme {
+        number: ledger.next_scheme,
         cost,
         fee: bill.terms.fee,
         minimum: bill.terms.minimum,
@@ -144,35 +156,40 @@ fn open(ledger: &mut Ledger, table: &mut [Party], bill: &Bill, opens: bool)
         fees: 0,
     };
     ledger.count += 1;
-    ledger.entries += 1;
+    ledger.next_scheme += 1;
+    count_entry(ledger);
 }
 
 // ---- the answer
 
 // By name and no From: the joiner's number comes from the ledger, beside the joining.
-fn joining_answer(entries: u32, joining: &Joining) -> JoiningAnswer
-    requires { entries ≤ most_entries }
-    ensures { (books : Books) → books.next_entry ≡ entries + 1 → result ≡ joining_answer books joining.now }
+fn joining_answer(next_entry: u32, joining: &Joining) -> JoiningAnswer
+    ensures { (books : Books) → books.next_entry ≡ next_entry → result ≡ joining_answer books joining.now }
 {
     match joining {
         Joining::NotAsked => JoiningAnswer::NotAsked,
         Joining::Ended => JoiningAnswer::Ended,
         Joining::Small => JoiningAnswer::Small,
         Joining::Pays(paid) => JoiningAnswer::Joined(Collected {
-            entry: entries + 1,
+            entry: next_entry,
             contribution: paid.collected,
         }),
     }
 }
 
 fn acceptance_of(ledger: &Ledger, bill: &Bill, course: &Course) -> Acceptance
-    requires { (ledger.now.count ≤ most_schemes) × (ledger.now.entries ≤ most_entries) }
+    requires { course.now.opens ≡ true → ledger.now.next_scheme < highest_next_scheme }
     ensures { (table : List Party) (room : ℕ) → result ≡ acceptance_of (snapshot_books ledger.now table room) bill.now course.now }
 {
     Acceptance {
         reconciliation: bill.reconciliation,
-        joining: joining_answer(ledger.entries, &course.joining),
-        opening: course.opens.then_some((ledger.count + 1) as u16),
+        joining: joining_answer(ledger.next_entry, &course.joining),
+        // No then_some: that the number is below 65,536 is known only where a scheme opens.
+        opening: if course.opens {
+            Some(ledger.next_scheme as u16)
+        } else {
+            None
+        },
     }
 }
 

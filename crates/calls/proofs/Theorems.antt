@@ -2,6 +2,7 @@ pub mod Rules
 pub mod CreditColumns
 pub mod Lists
 pub mod ByPlace
+pub mod ByEntries
 pub mod VerdictConditions
 pub mod Calls
 pub mod CallEnding

@@ -6,7 +6,7 @@ use Rattle.tagged.specs.Refusals.{ledger_unsound}
 use Rattle.ledger.specs.Sound.{sound}
 use Rattle.ledger.specs.declared.records.Party.{Party}
 use Rattle.ledger.specs.declared.records.Ledger.{Ledger}
-use Rattle.calls.specs.Decision.{Call, accept, pay_out, hand_over, Decision, refused, decided, CallAnswer, answer_to}
+use Rattle.calls.specs.Decision.{Call, accept, pay_out, hand_over, clear, Decision, refused, decided, CallAnswer, answer_to}
 use Rattle.calls.specs.Carried.{State, books_on, carried_out}
 use Rattle.calls.specs.CallEnding.{call_ending, Numbered}
 
@@ -42,6 +42,7 @@ abbrev pub Fits : Call → Type 0
 Fits (accept book request) = Bytes book × Bytes request
 Fits (pay_out entry amount) = (entry < 2 ^ 32) × (amount < 2 ^ 64)
 Fits (hand_over entry person) = (entry < 2 ^ 32) × (person < 2 ^ 32)
+Fits (clear month) = month < 2 ^ 16
 
 abbrev pub AllFit : List Call → Type 0
 AllFit [] = Unit {0}

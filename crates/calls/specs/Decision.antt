@@ -1,11 +1,12 @@
 -- The one decision on a call, read off the books alone. The ledger carries it out, and the history of the calls records it.
-use Rattle.std.specs.Prelude.{ℕ, ◌+◌, ◌-◌, List, [], cond, leb, Err, None, Ok, Option, Some, Result}
+use Rattle.std.specs.Prelude.{ℕ, ◌+◌, ◌-◌, List, [], map, filter, Bool, cond, ◌&&◌, leb, ltb, eqb, Err, None, Ok, Option, Some, Result}
+use Rattle.std.specs.List.{list_all}
 use Rattle.tagged.specs.File.{refusal}
-use Rattle.tagged.specs.Refusals.{no_such_entry, pay_out_above_credit}
+use Rattle.tagged.specs.Refusals.{month_before_last, no_such_entry, pay_out_above_credit}
 use Rattle.tagged.specs.declared.file.Refusal.{Refusal}
 use Rattle.charge.specs.Price.{price_of, Pricing}
 use Rattle.charge.specs.declared.Bill.{Bill}
-use Rattle.ledger.specs.Books.{EntryParticulars, Books, entry_at}
+use Rattle.ledger.specs.Books.{SchemeParticulars, EntryParticulars, Books, entry_at, of_scheme}
 use Rattle.calls.specs.Rules.{Credit, parties_of, shared}
 use Rattle.calls.specs.Verdict.{verdict, Verdict}
 use Rattle.calls.specs.declared.courses.Joining.{Joining}
@@ -22,6 +23,8 @@ pub data Call : Type 0 where
   pay_out : ℕ → ℕ → Call
   -- entry and person
   hand_over : ℕ → ℕ → Call
+  -- month
+  clear : ℕ → Call
 
 pub data Decision : Type 0 where
   -- the bill, its joining and its opening, and what a joining credits earlier entries
@@ -30,6 +33,8 @@ pub data Decision : Type 0 where
   paid_out : ℕ → ℕ → ℕ → Decision
   -- the entry, the person
   handed_over : ℕ → ℕ → Decision
+  -- the month, and the numbers of the schemes that go
+  cleared : ℕ → List ℕ → Decision
   refused : Refusal → Decision
 
 -- ---- accept
@@ -63,10 +68,23 @@ abbrev pub hand_over_by : Option EntryParticulars → ℕ → Decision
 hand_over_by None person = refused (refusal no_such_entry 0 0)
 hand_over_by (Some row) person = handed_over row.number person
 
+-- ---- clearing
+
+-- "removes every scheme ended by that month whose entries all have standing credit 0" (document 02, E8)
+abbrev pub goes : Books → ℕ → SchemeParticulars → Bool
+goes books month row =
+    leb (row.opening + row.term) month && list_all (λ entry. eqb entry.credited entry.paid_out) (of_scheme row.number books.entries)
+
+abbrev pub clear_by : Books → ℕ → Decision
+clear_by books month =
+    cond (ltb month books.month) (refused (refusal month_before_last 0 0))
+    (cleared month (map (λ row. row.number) (filter (goes books month) books.schemes)))
+
 abbrev pub decided : Books → Call → Decision
 decided books (accept book request) = accept_by books (price_of book request)
 decided books (pay_out e amount) = pay_out_by (entry_at books e) amount
 decided books (hand_over e person) = hand_over_by (entry_at books e) person
+decided books (clear month) = clear_by books month
 
 -- ---- the answer to it
 
@@ -76,7 +94,7 @@ pub data CallAnswer : Type 0 where
   is_done : CallAnswer
   is_refused : Refusal → CallAnswer
 
--- accept's own answer, and pay-out's and hand-over's
+-- accept's own answer, and that of the other calls
 abbrev pub AcceptAnswer : Type 0
 AcceptAnswer = Result Acceptance Refusal
 
@@ -114,4 +132,5 @@ abbrev pub answer_to : Books → Decision → CallAnswer
 answer_to books (accepted bill course credits) = is_accepted (acceptance_of books bill course)
 answer_to books (paid_out s e amount) = is_done
 answer_to books (handed_over e person) = is_done
+answer_to books (cleared month gone) = is_done
 answer_to books (refused r) = is_refused r

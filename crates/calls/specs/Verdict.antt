@@ -1,10 +1,10 @@
 -- Document 01, 'Accept': what becomes of a priced request, in two parts: the joining that it asks for, and whether a scheme opens.
-use Rattle.std.specs.Prelude.{ℕ, ◌+◌, [], ◌∷◌, Bool, true, false, cond, length, leb, ltb, eqb, Err, Ok, Result, None, Some, Option}
+use Rattle.std.specs.Prelude.{ℕ, ◌+◌, [], ◌∷◌, Bool, true, false, cond, ◌&&◌, ◌||◌, length, leb, ltb, eqb, Err, Ok, Result, None, Some, Option}
 use Rattle.tagged.specs.File.{refusal}
 use Rattle.tagged.specs.Refusals.{scheme_never_opened, month_before_last, no_scheme_left, no_entry_left, no_connection_left}
 use Rattle.tagged.specs.declared.file.Refusal.{Refusal}
 use Rattle.charge.specs.declared.Bill.{Bill}
-use Rattle.ledger.specs.Limits.{most_schemes, most_entries, most_connections}
+use Rattle.ledger.specs.Limits.{most_schemes, most_entries, most_connections, highest_next_scheme}
 use Rattle.ledger.specs.Books.{SchemeParticulars, Books, scheme_at}
 use Rattle.ledger.specs.Sound.{all_hold}
 use Rattle.calls.specs.Rules.{parties_of, capacity_of, contribution}
@@ -27,7 +27,7 @@ joining_of books bill row =
     cond (leb (row.opening + row.term) bill.applicant.month) Ended
     (cond (ltb G row.minimum) Small (Pays (record { collected = G; fee = row.fee; capacity = K })))
 
--- every scheme that was opened stands, so that the first case doesn't come up once 6 is judged
+-- a scheme that was opened and doesn't stand was cleared: "Joining a cleared scheme gives "ended"" (document 02, E8)
 abbrev pub joining_by : Books → Bill → Option SchemeParticulars → Joining
 joining_by books bill None = Ended
 joining_by books bill (Some row) = joining_of books bill row
@@ -59,9 +59,9 @@ entries_of_joining (Pays contribution) = 1
 abbrev pub entries_needed : Course → ℕ
 entries_needed course = entries_of_joining course.joining + cond course.opens 1 0
 
--- a ledger "keeps up to 64 schemes"; where none opens, none is lacking
-abbrev pub schemes_lacking : ℕ → Bool → Bool
-schemes_lacking schemes opens = all_hold (opens ∷ leb most_schemes schemes ∷ [])
+-- a ledger "keeps up to 64 schemes", and "The 65,536th scheme is 8" (document 02, E8); where none opens, none is lacking
+abbrev pub schemes_lacking : ℕ → ℕ → Bool → Bool
+schemes_lacking schemes next_scheme opens = opens && (leb most_schemes schemes || leb highest_next_scheme next_scheme)
 
 -- entries are "at most 512 and at most the table's length"; where none is needed, none is lacking
 abbrev pub entries_lacking : ℕ → ℕ → ℕ → Bool
@@ -69,7 +69,7 @@ entries_lacking entries room needed = cond (eqb needed 0) false (cond (ltb most_
 
 abbrev pub course_verdict : Books → Course → Verdict
 course_verdict books course =
-    cond (schemes_lacking (length books.schemes) course.opens) (Err (refusal no_scheme_left 0 0))
+    cond (schemes_lacking (length books.schemes) books.next_scheme course.opens) (Err (refusal no_scheme_left 0 0))
     (cond (entries_lacking (length books.entries) books.room (entries_needed course)) (Err (refusal no_entry_left 0 0)) (Ok course))
 
 -- the order of the refusals: 10, 7, 6, 8, 9

@@ -63,3 +63,12 @@ pub fn hand_over_sound(
     let records = records_of(room);
     entry_calls::hand_over_sound(ledger, &mut parties[..records], entry, person)
 }
+
+pub fn clear_sound(ledger: &mut Ledger, parties: &mut Parties, room: usize, month: u16) -> Answer
+    requires places { length ledger.old.schemes ≡ most_schemes }
+    requires stands { SoundOnRecords room ledger.old parties.old }
+    ensures { PromisedOnRecords room ledger.old parties.old (Call.clear month) (of_entry_call result) ledger.new parties.new }
+{
+    let records = records_of(room);
+    clearing::clear_sound(ledger, &mut parties[..records], month)
+}

@@ -1,5 +1,5 @@
 -- Pay-out and hand-over on a ledger and its entries: the decision on the call, as a change of one record.
-use Rattle.std.specs.Prelude.{ℕ, ◌+◌, List, cond, length, take, get_or, set, Err, None, Ok, Option, Some}
+use Rattle.std.specs.Prelude.{ℕ, ◌+◌, List, cond, take, get_or, set, Err, None, Ok, Option, Some}
 use Rattle.tagged.specs.File.{refusal}
 use Rattle.tagged.specs.Refusals.{no_such_entry, ledger_unsound}
 use Rattle.tagged.specs.declared.file.Refusal.{Refusal}
@@ -10,7 +10,7 @@ use Rattle.ledger.specs.Sound.{sound}
 use Rattle.ledger.specs.Updates.{with_person, with_paid_out}
 use Rattle.ledger.specs.declared.records.Party.{Party}
 use Rattle.ledger.specs.declared.records.Ledger.{Ledger}
-use Rattle.calls.specs.Decision.{Call, pay_out, hand_over, Decision, accepted, paid_out, handed_over, refused, decided, Answer}
+use Rattle.calls.specs.Decision.{Call, pay_out, hand_over, Decision, accepted, paid_out, handed_over, cleared, refused, decided, Answer}
 
 -- the answer, and an entry's new record with its place; where the call is refused, place 0 and a record of zeros
 pub record EntryChange : Type 0 where
@@ -40,11 +40,12 @@ paid_more amount party = with_paid_out (party.paid_out + amount) party
 abbrev pub handed_to : ℕ → Party → Party
 handed_to person party = with_person person party
 
--- what a decision on these entries changes; neither call decides that a request is accepted
+-- what a decision on these entries changes; neither call decides that a request is accepted, or that schemes go
 abbrev pub change_of : List Party → Decision → EntryChange
 change_of entries (accepted bill course credits) = refused_change 0
-change_of entries (paid_out s e amount) = changed_at entries (paid_more amount) (entry_place (length entries) e)
-change_of entries (handed_over e person) = changed_at entries (handed_to person) (entry_place (length entries) e)
+change_of entries (paid_out s e amount) = changed_at entries (paid_more amount) (entry_place e entries)
+change_of entries (handed_over e person) = changed_at entries (handed_to person) (entry_place e entries)
+change_of entries (cleared month gone) = refused_change 0
 change_of entries (refused r) = refused_by r
 
 -- once 13 is judged

@@ -1,14 +1,15 @@
-// The calls on a ledger that is kept as its stored bytes. Short answer or figures are 14 before anything else. `table_size` is the party
+// The calls on a ledger that is kept as its stored bytes, and the moves between its forms. Short answer or figures are 14 before anything else. `table_size` is the party
 // table's length in records; more than 512 counts as 512.
 
 ghost use Rattle.std.specs.Prelude.{◌≡◌};
-ghost use Rattle.calls.specs.Decision.{accept, hand_over, pay_out};
+ghost use Rattle.calls.specs.Decision.{accept, clear, hand_over, pay_out};
 ghost use Rattle.quoting_unit.specs.Interface.{lent_answer, lent_both, lent_output};
-ghost use Rattle.quoting_unit.specs.Unit.{check_ledger, new_ledger, on_ledger, unit_call};
+ghost use Rattle.quoting_unit.specs.Unit.{check_ledger, move_back, move_to_new, new_ledger, on_ledger, unit_call};
 
 use quoting_unit::figures::{FIGURES, write_figures};
 use quoting_unit::outcomes::{
-    ANSWER, acceptance_outcome, call_outcome, check_outcome, stored_refused, write_answer,
+    ANSWER, acceptance_outcome, call_outcome, check_outcome, move_outcome, stored_refused,
+    write_answer,
 };
 use quoting_unit::results::TOO_SHORT;
 
@@ -97,6 +98,53 @@ pub extern "C" fn fikrem_hand_over(
     }
     let called = stored_calls::hand_over_stored(stored, table_size, entry, person, out);
     write_answer(call_outcome(called), answer)
+}
+
+/// Clearing of the schemes ended by a month on a stored ledger: the new stored form into the lent output.
+#[tactic(auto, using(stored_calls::proofs::Theorems::StoredPromises::promised_stored))]
+#[unsafe(no_mangle)]
+pub extern "C" fn fikrem_clear(
+    stored: &[u8],
+    table_size: usize,
+    month: u16,
+    out: &mut [u8],
+    answer: &mut [u64],
+) -> u64
+    ensures { let call = on_ledger stored.now table_size (clear month) in
+        let end = unit_call call (lent_output out.old answer.old) in
+        (result ≡ end.result) × (out.new ≡ end.lent.output) × (answer.new ≡ end.lent.answer) }
+{
+    if answer.len() < ANSWER {
+        return TOO_SHORT;
+    }
+    let called = stored_calls::clear_stored(stored, table_size, month, out);
+    write_answer(call_outcome(called), answer)
+}
+
+/// A ledger stored in the old form, moved to the new one, into the lent output; its length in bytes in the answer's last place.
+#[unsafe(no_mangle)]
+pub extern "C" fn fikrem_move_to_new(file: &[u8], out: &mut [u8], answer: &mut [u64]) -> u64
+    ensures { let end = unit_call (move_to_new file.now) (lent_output out.old answer.old) in
+        (result ≡ end.result) × (out.new ≡ end.lent.output) × (answer.new ≡ end.lent.answer) }
+{
+    if answer.len() < ANSWER {
+        return TOO_SHORT;
+    }
+    let moved = stored_moves::move_to_new(file, out);
+    write_answer(move_outcome(moved), answer)
+}
+
+/// A ledger stored in the new form, moved back to the old one, into the lent output; its length in bytes in the answer's last place.
+#[unsafe(no_mangle)]
+pub extern "C" fn fikrem_move_back(file: &[u8], out: &mut [u8], answer: &mut [u64]) -> u64
+    ensures { let end = unit_call (move_back file.now) (lent_output out.old answer.old) in
+        (result ≡ end.result) × (out.new ≡ end.lent.output) × (answer.new ≡ end.lent.answer) }
+{
+    if answer.len() < ANSWER {
+        return TOO_SHORT;
+    }
+    let moved = stored_moves::move_back(file, out);
+    write_answer(move_outcome(moved), answer)
 }
 
 /// Whether a stored ledger can be read; schemes, entries, connections and the last accepted month into the answer.

@@ -12,3 +12,4 @@ pub mod Terms
 pub mod CallSteps
 pub mod ShownState
 pub mod EveryListOfCalls
+pub mod Ended

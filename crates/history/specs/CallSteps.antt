@@ -6,6 +6,6 @@ use Rattle.calls.specs.Carried.{carried_out}
 use Rattle.history.specs.History.{History, recorded}
 use Rattle.history.specs.ShownState.{state_in, HistoryStands}
 
-pub record Step (start : List Party) (h : History) (decision : Decision) : Type 0 where
-  pub stands : HistoryStands (length start) (recorded h decision)
-  pub shows : carried_out (state_in start h) decision ≡ state_in start (recorded h decision)
+pub record Step (table : List Party) (h : History) (decision : Decision) : Type 0 where
+  pub stands : HistoryStands (length table) (recorded h decision)
+  pub shows : carried_out (state_in table h) decision ≡ state_in table (recorded h decision)

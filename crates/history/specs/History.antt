@@ -1,15 +1,16 @@
 -- The history of a list of calls: what they come to by document 01's rules, from the calls and the table's length alone. No ledger and no table is read.
 -- One list for each kind of thing, the newest first; schemes and entries go by their numbers.
-use Rattle.std.specs.Prelude.{ℕ, ◌+◌, ◌*◌, ◌-◌, List, [], ◌∷◌, map, Bool, true, false, cond, length, eqb, filter}
+use Rattle.std.specs.Prelude.{ℕ, ◌+◌, ◌*◌, ◌-◌, List, [], ◌∷◌, ◌++◌, map, Bool, true, false, cond, not, length, eqb, filter}
 use Rattle.charge.specs.declared.Bill.{Bill}
 use Rattle.ledger.specs.Lists.{oldest_first, sum_by, at_start}
 use Rattle.ledger.specs.Records.{new_ledger}
+use Rattle.ledger.specs.RefusalNumbers.{one_of}
 use Rattle.ledger.specs.Books.{SchemeParticulars, EntryParticulars, Books}
 use Rattle.ledger.specs.declared.records.Scheme.{Scheme}
 use Rattle.ledger.specs.declared.records.Party.{Party}
 use Rattle.ledger.specs.declared.records.Ledger.{Ledger}
 use Rattle.calls.specs.Rules.{Credit, credit_to}
-use Rattle.calls.specs.Decision.{Call, Decision, accepted, paid_out, handed_over, refused, decided, CallAnswer, answer_to}
+use Rattle.calls.specs.Decision.{Call, Decision, accepted, paid_out, handed_over, cleared, refused, decided, CallAnswer, answer_to}
 use Rattle.calls.specs.declared.courses.Joining.{Joining}
 use Rattle.calls.specs.declared.courses.Joining.TheVariants.{NotAsked, Ended, Small, Pays}
 
@@ -31,21 +32,24 @@ pub record HandOver : Type 0 where
   pub entry : ℕ
   pub person : ℕ
 
-pub record History : Type 0 where
-  -- of every accepted request
-  pub bills : List Bill
-  pub entered : List Entering
-  pub paid : List Payment
-  pub handed : List HandOver
-  -- the last accepted month, and the numbers that the next scheme and the next entry get
-  pub month : ℕ
-  pub next_scheme : ℕ
-  pub next_entry : ℕ
-
 -- one scheme's enterings and pay-outs: all that its figures, its accounts and its bounds are made of
 pub record Account : Type 0 where
   pub entered : List Entering
   pub paid : List Payment
+
+pub record History : Type 0 where
+  -- of every accepted request
+  pub bills : List Bill
+  -- of the schemes that stand
+  pub entered : List Entering
+  pub paid : List Payment
+  pub handed : List HandOver
+  -- the accounts of the schemes that were cleared
+  pub cleared : List Account
+  -- the last month, and the numbers that the next scheme and the next entry get
+  pub month : ℕ
+  pub next_scheme : ℕ
+  pub next_entry : ℕ
 
 abbrev pub enterings_of : ℕ → List Entering → List Entering
 enterings_of s entered = filter (λ e. eqb e.scheme s) entered
@@ -119,6 +123,16 @@ borne history = sum_by (λ bill. bill.reconciliation.borne) history.bills
 abbrev pub cost_entered : History → ℕ
 cost_entered history = sum_by (λ bill. bill.reconciliation.entered) history.bills
 
+-- ---- over the schemes that were cleared: what they "collected, paid out and took in fees" (document 02, E8)
+abbrev pub cleared_collected : History → ℕ
+cleared_collected history = sum_by (λ account. collected account.entered) history.cleared
+
+abbrev pub cleared_paid_out : History → ℕ
+cleared_paid_out history = sum_by (λ account. paid_of account.paid) history.cleared
+
+abbrev pub cleared_fees : History → ℕ
+cleared_fees history = sum_by (λ account. fees account.entered) history.cleared
+
 -- ---- what the rules read
 abbrev pub openings : List Entering → List Entering
 openings entered = filter (λ e. e.opens) entered
@@ -169,6 +183,7 @@ books_in room history =
 abbrev pub scheme_in : History → Entering → Scheme
 scheme_in history e =
     record {
+      number = e.scheme;
       cost = e.put_in;
       fee = e.bill.terms.fee;
       minimum = e.bill.terms.minimum;
@@ -188,6 +203,11 @@ ledger_in history =
       connections = connections history;
       charged = charged history;
       borne = borne history;
+      next_scheme = history.next_scheme;
+      next_entry = history.next_entry;
+      cleared_collected = cleared_collected history;
+      cleared_paid_out = cleared_paid_out history;
+      cleared_fees = cleared_fees history;
       entries = length history.entered;
       count = length (openings history.entered);
       schemes = at_start (schemes_in history) new_ledger.schemes;
@@ -196,6 +216,7 @@ ledger_in history =
 abbrev pub party_by : Account → List HandOver → Entering → Party
 party_by account handed e =
     record {
+      number = e.entry;
       scheme = e.scheme;
       person = person_of e.entry e.bill.applicant.person handed;
       capacity = e.bill.applicant.capacity;
@@ -241,10 +262,21 @@ paid_in payment history = record history { paid = payment ∷ history.paid }
 abbrev pub handed_in : HandOver → History → History
 handed_in hand_over history = record history { handed = hand_over ∷ history.handed }
 
+-- a clearing: the accounts go whole
+abbrev pub cleared_in : ℕ → List ℕ → History → History
+cleared_in month gone history =
+    record history {
+      entered = filter (λ e. not (one_of gone e.scheme)) history.entered;
+      paid = filter (λ p. not (one_of gone p.scheme)) history.paid;
+      cleared = map (λ s. account_of s history) gone ++ history.cleared;
+      month = month;
+    }
+
 abbrev pub recorded : History → Decision → History
 recorded history (accepted bill course credits) = opened_in course.opens bill (joined_in course.joining credits bill (billed_in bill history))
 recorded history (paid_out s e amount) = paid_in (record { scheme = s; entry = e; amount = amount }) history
 recorded history (handed_over e person) = handed_in (record { entry = e; person = person }) history
+recorded history (cleared month gone) = cleared_in month gone history
 recorded history (refused r) = history
 
 abbrev pub with_call : ℕ → History → Call → History
@@ -265,10 +297,19 @@ answers_from room history (call ∷ calls) = answer_by room history call ∷ ans
 
 -- numbers start at 1
 abbrev pub no_history : History
-no_history = record { bills = []; entered = []; paid = []; handed = []; month = 0; next_scheme = 1; next_entry = 1 }
+no_history = record { bills = []; entered = []; paid = []; handed = []; cleared = []; month = 0; next_scheme = 1; next_entry = 1 }
 
 abbrev pub history_of : ℕ → List Call → History
 history_of room calls = history_from room no_history calls
 
 abbrev pub answers_of : ℕ → List Call → List CallAnswer
 answers_of room calls = answers_from room no_history calls
+
+-- The lent table, from call to call: "Each call leaves table records past the last entry at its end as they were", and before them the entries that stand.
+unfoldable pub table_from : History → List Party → List Call → List Party
+table_from history table [] = table
+table_from history table (call ∷ calls) =
+    let after = with_call (length table) history call in table_from after (at_start (parties_in after) table) calls
+
+abbrev pub table_after : List Party → List Call → List Party
+table_after start calls = table_from no_history start calls

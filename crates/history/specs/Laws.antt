@@ -1,13 +1,15 @@
 -- The laws that the functions of src/ are there for, one statement each; the proofs stand in proofs/.
-use Rattle.std.specs.Prelude.{ℕ, ◌≤◌, ◌<◌, ◌≡◌, List, length, Ok, ◌+◌, cond, eqb, None, Option, Some}
+use Rattle.std.specs.Prelude.{ℕ, ◌≤◌, ◌<◌, ◌≡◌, ◌⊎◌, List, [], length, Ok, ◌+◌, cond, eqb, None, Option, Some, Contains}
 use Rattle.ledger.specs.Records.{new_ledger}
 use Rattle.ledger.specs.declared.records.Party.{Party}
-use Rattle.calls.specs.Decision.{Call, CallAnswer, accept, is_accepted, is_done, is_refused}
+use Rattle.calls.specs.Decision.{Call, CallAnswer, accept, pay_out, hand_over, clear, is_accepted, is_done, is_refused}
 use Rattle.calls.specs.Carried.{State}
 use Rattle.calls.specs.Calls.{state_of, Trace, AllFit}
-use Rattle.history.specs.History.{Entering, History, account_of, with_call, answer_by, history_of, credited_to, times, cost, joinings, collected, connections, charged, borne, cost_entered}
-use Rattle.history.specs.DemandThree.{InOrder}
+use Rattle.history.specs.History.{History, account_of, books_in, with_call, answer_by, history_from, history_of, credited_to, cost, joinings, collected, connections, charged, borne, cost_entered}
+use Rattle.history.specs.DemandThree.{GivenOnce, schemes_given, entries_given}
 use Rattle.history.specs.ShownState.{ShownState}
+use Rattle.tagged.specs.Refusals.{scheme_never_opened}
+use Rattle.ledger.specs.Books.{scheme_at}
 use Rattle.charge.specs.Price.{price_of}
 use Rattle.charge.specs.declared.Bill.{Bill}
 use Rattle.calls.specs.declared.answers.Acceptance.{Acceptance}
@@ -62,22 +64,31 @@ pub record CountedByAnswers (before : History) (bill : Bill) (acceptance : Accep
 abbrev pub EveryListShown : Type 0
 EveryListShown =
     (start : List Party) (calls : List Call) (answers : List CallAnswer) (after : State) → AllFit calls →
-    Trace (state_of new_ledger start) calls answers after → ShownState start (history_of (length start) calls) after
+    Trace (state_of new_ledger start) calls answers after → ShownState (length start) (history_of (length start) calls) after
 
 -- every list of calls has a trace, from any ledger and table
 abbrev pub TraceExists : Type 0
 TraceExists =
     (state : State) (calls : List Call) → (answers : List CallAnswer) × (after : State) × Trace state calls answers after
 
--- Numbers from 1 on, each given once and no other: how often one was given is a sum of ones.
-pub record EachOnce {A : Type 0} (number : A → ℕ) (given : List A) : Type 0 where
-  pub once : (n : ℕ) → 1 ≤ n → n ≤ length given → times number n given ≡ 1
-  pub none_past : (n : ℕ) → length given < n → times number n given ≡ 0
-  pub none_at_0 : times number 0 given ≡ 0
+-- no number is given twice in a list of calls: from 1 up to the next each once
+abbrev pub NumbersOnce : Type 0
+NumbersOnce =
+    (room : ℕ) (calls : List Call) → AllFit calls → let h = history_of room calls in
+    GivenOnce h.next_scheme (schemes_given h) × GivenOnce h.next_entry (entries_given h)
 
--- the numbers of schemes and entries, which `HoldsAfter` has in order
-abbrev pub InOrderIsEachOnce : Type 0
-InOrderIsEachOnce = (number : Entering → ℕ) (given : List Entering) → InOrder number given → EachOnce number given
+-- a scheme that was opened and stands no more was cleared: a joining of it is "ended", or the request is refused for something else
+abbrev pub NotJoined : CallAnswer → Type 0
+NotJoined (is_accepted acceptance) = acceptance.joining ≡ Ended
+NotJoined is_done = ⊥
+NotJoined (is_refused r) = r.number ≡ scheme_never_opened → ⊥
+
+abbrev pub ClearedIsEnded : Type 0
+ClearedIsEnded =
+    (room : ℕ) (calls later : List Call) (book request : List ℕ) (bill : Bill) → AllFit calls → AllFit later → price_of book request ≡ Ok bill →
+    let h = history_of room calls in
+    1 ≤ bill.applicant.scheme → bill.applicant.scheme < h.next_scheme → scheme_at (books_in room h) bill.applicant.scheme ≡ None →
+    NotJoined (answer_by room (history_from room h later) (accept book request))
 
 -- every accept in a list of calls
 abbrev pub EveryAcceptCounted : Type 0
@@ -86,8 +97,21 @@ EveryAcceptCounted =
     price_of book request ≡ Ok bill → answer_by room history (accept book request) ≡ is_accepted acceptance →
     CountedByAnswers history bill acceptance (with_call room history (accept book request))
 
--- a call that is not answered "joined" credits no entry of any scheme
+-- a clearing takes accounts whole, to those that were cleared
+abbrev pub ClearedWhole : Type 0
+ClearedWhole =
+    (room : ℕ) (history : History) (month s : ℕ) → let after = with_call room history (clear month) in
+    (account_of s after ≡ account_of s history)
+    ⊎ ((account_of s after ≡ record { entered = []; paid = [] }) × Contains after.cleared (account_of s history))
+
+abbrev pub NoClearing : Call → Type 0
+NoClearing (accept book request) = Unit {0}
+NoClearing (pay_out e amount) = Unit {0}
+NoClearing (hand_over e person) = Unit {0}
+NoClearing (clear month) = ⊥
+
+-- any other call that is not answered "joined" credits no entry of any scheme
 abbrev pub CreditedInJoinings : Type 0
 CreditedInJoinings =
-    (room : ℕ) (history : History) (s e : ℕ) → (call : Call) → (AnswersJoined (answer_by room history call) → ⊥) →
+    (room : ℕ) (history : History) (s e : ℕ) → (call : Call) → NoClearing call → (AnswersJoined (answer_by room history call) → ⊥) →
     credited_to e (account_of s (with_call room history call)).entered ≡ credited_to e (account_of s history).entered

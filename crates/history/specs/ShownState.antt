@@ -9,9 +9,9 @@ use Rattle.calls.specs.Calls.{state_of}
 use Rattle.history.specs.History.{History, openings, ledger_in, parties_in}
 use Rattle.history.specs.SoundHistory.{SoundHistory}
 
--- the ledger and the table that show a history, from this table at the start: past the entries that the history comes to, what stood there
+-- the ledger and the table that show a history, over this table: past the entries that the history comes to, what stands there
 abbrev pub state_in : List Party → History → State
-state_in start h = state_of (ledger_in h) (at_start (parties_in h) start)
+state_in table h = state_of (ledger_in h) (at_start (parties_in h) table)
 
 -- "up to 64 schemes"; entries "at most 512 and at most the table's length"
 pub record CountsWithin (room : ℕ) (h : History) : Type 0 where
@@ -23,7 +23,8 @@ pub record HistoryStands (room : ℕ) (h : History) : Type 0 where
   pub sound : SoundHistory h
   pub within : CountsWithin room h
 
-pub record ShownState (start : List Party) (h : History) (state : State) : Type 0 where
-  pub shows : state ≡ state_in start h
-  pub history : HistoryStands (length start) h
+pub record ShownState (room : ℕ) (h : History) (state : State) : Type 0 where
+  pub shows : state ≡ state_in state.table h
+  pub long : length state.table ≡ room
+  pub history : HistoryStands room h
   pub stands : sound state.ledger state.table (length state.table) ≡ true

@@ -1,9 +1,11 @@
 -- What is known of a history between calls. One scheme's enterings, newest first, are joinings, each right over the tail, and at the end the opening: all the
 -- accounts and bounds follow from this.
-use Rattle.std.specs.Prelude.{ℕ, ◌+◌, ◌-◌, ◌≤◌, ◌<◌, ◌≡◌, List, [], ◌∷◌, map, true, false, length}
+use Rattle.std.specs.Prelude.{ℕ, ◌+◌, ◌-◌, ◌≤◌, ◌<◌, ◌≡◌, List, [], ◌∷◌, map, true, false}
 use Rattle.ledger.specs.Lists.{oldest_first, sum_by, All}
 use Rattle.calls.specs.Rules.{Holding, contribution, shared}
 use Rattle.history.specs.History.{Entering, Account, History, account_of, cost, fee, paid_of, capacity, credited_to, paid_to, charged, borne, cost_entered, openings}
+use Rattle.history.specs.DemandThree.{Falls, GivenOnce, entries_given, schemes_given}
+use Rattle.history.specs.Split.{Numbered}
 
 -- ---- one scheme
 
@@ -35,26 +37,27 @@ pub record SoundAccount (account : Account) : Type 0 where
   pub paid_whole : paid_of account.paid ≡ sum_by (λ e. paid_to e.entry account.paid) account.entered
   pub paid_within : All (λ e. paid_to e.entry account.paid ≤ credited_to e.entry account.entered) account.entered
 
+-- of a scheme that was cleared: as it stood, with its parties below some number
+pub record ClearedAccount (account : Account) : Type 0 where
+  pub next : ℕ
+  pub in_order : Numbered next account.entered
+  pub sound : SoundAccount account
+
 -- ---- all schemes
 
--- each has the number of its place from the oldest on
-abbrev pub Counted : {A : Type 0} → (A → ℕ) → List A → Type 0
-Counted number [] = Unit {0}
-Counted number (x ∷ older) = (number x ≡ length older + 1) × Counted number older
-
--- schemes are "numbered from 1 in order of opening", entries "are added at the end, numbered from 1"
-pub record Numbers (entered : List Entering) (next_scheme next_entry : ℕ) : Type 0 where
-  pub entries_counted : Counted (λ e. e.entry) entered
-  pub next_entry_is : next_entry ≡ length entered + 1
-  pub schemes_counted : Counted (λ e. e.scheme) (openings entered)
-  pub next_scheme_is : next_scheme ≡ length (openings entered) + 1
-  pub schemes_made : All (λ e. e.scheme < next_scheme) entered
+pub record Numbers (h : History) : Type 0 where
+  pub entries_in_order : Falls (λ e. e.entry) h.next_entry h.entered
+  pub schemes_in_order : Falls (λ e. e.scheme) h.next_scheme (openings h.entered)
+  pub entries_once : GivenOnce h.next_entry (entries_given h)
+  pub schemes_once : GivenOnce h.next_scheme (schemes_given h)
+  pub schemes_made : All (λ e. e.scheme < h.next_scheme) h.entered
 
 pub record SoundHistory (h : History) : Type 0 where
   pub accounts : (s : ℕ) → SoundAccount (account_of s h)
-  pub numbers : Numbers h.entered h.next_scheme h.next_entry
+  pub numbers : Numbers h
   -- numbers not given yet stand nowhere
   pub paid_schemes : All (λ p. p.scheme < h.next_scheme) h.paid
   pub paid_made : All (λ p. p.entry < h.next_entry) h.paid
   pub handed_made : All (λ x. x.entry < h.next_entry) h.handed
+  pub cleared_sound : All ClearedAccount h.cleared
   pub bills_add_up : cost_entered h ≡ charged h + borne h

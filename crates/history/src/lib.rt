@@ -4,9 +4,10 @@
 
 ghost use Rattle.history.specs.Cases.Accounts.{MarkedHistory};
 ghost use Rattle.history.specs.Cases.BuildingOn.{BuiltOnHistory};
+ghost use Rattle.history.specs.Cases.Cleared.{ClearedHistory};
 ghost use Rattle.history.specs.Cases.Fair.{TightBounds};
 ghost use Rattle.history.specs.DemandThree.{EveryListOfCalls};
-ghost use Rattle.history.specs.Laws.{CreditedInJoinings, EveryAcceptCounted, EveryListShown, InOrderIsEachOnce, TraceExists};
+ghost use Rattle.history.specs.Laws.{ClearedIsEnded, ClearedWhole, CreditedInJoinings, EveryAcceptCounted, EveryListShown, NumbersOnce, TraceExists};
 
 /// After every list of calls all of `HoldsAfter` holds; each list of calls has such a trace.
 pub fn every_list_of_calls()
@@ -15,21 +16,27 @@ pub fn every_list_of_calls()
     ensures exists { TraceExists }
 {}
 
-/// Numbers given in order are given once each.
+/// No number of a scheme or an entry is given twice in a list of calls: from 1 up to the next each is given once.
 pub fn numbers_once()
-    ensures { InOrderIsEachOnce }
+    ensures { NumbersOnce }
+{}
+
+/// A joining of a scheme that was cleared is "ended", whatever was called between: never 6, small or joined.
+pub fn cleared_is_ended()
+    ensures { ClearedIsEnded }
 {}
 
 /// What a call adds to the figures, by its answer alone.
-#[tactic(auto, using(crate::proofs::Theorems::CreditedGrows::credited_in_joinings))]
 pub fn counted_by_answers()
     ensures accepts { EveryAcceptCounted }
     ensures others { CreditedInJoinings }
+    ensures cleared { ClearedWhole }
 {}
 
-/// M7 and a joiner who builds on, as histories from bytes with literal figures, and what narrower bounds would come to.
+/// M7, a joiner who builds on and a clearing, as histories from bytes with literal figures, and what narrower bounds would come to.
 pub fn marked_history()
     ensures marked { MarkedHistory }
     ensures built_on { BuiltOnHistory }
+    ensures cleared { ClearedHistory }
     ensures bounds { TightBounds }
 {}

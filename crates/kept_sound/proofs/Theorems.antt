@@ -4,5 +4,8 @@ pub mod Entering
 pub mod EntryChanged
 pub mod Lengths
 pub mod SoundSteps
+pub mod Parted
+pub mod Clearing
+pub mod ClearsExactly
 pub mod KeptSound
 pub mod KeptByCalls

@@ -1,12 +1,11 @@
 -- A sound ledger with its table, and what the steps of a call ask of it.
-use Rattle.std.specs.Prelude.{ℕ, ◌+◌, ◌≤◌, ◌≡◌, List, length}
+use Rattle.std.specs.Prelude.{ℕ, ◌+◌, ◌<◌, ◌≤◌, ◌≡◌, List, length}
 use Rattle.charge.specs.declared.Bill.{Bill}
-use Rattle.ledger.specs.Limits.{most_schemes, most_entries}
+use Rattle.ledger.specs.Limits.{most_schemes, most_entries, highest_next_scheme, highest_next_entry}
 use Rattle.ledger.specs.SoundConditions.{SoundLedger}
 use Rattle.ledger.specs.declared.records.Scheme.{Scheme}
 use Rattle.calls.specs.Carried.{State}
 use Rattle.calls.specs.VerdictConditions.{PaysAt}
-use Rattle.calls.specs.declared.courses.Contribution.{Contribution}
 use Rattle.calls.specs.declared.courses.Joining.{Joining}
 use Rattle.calls.specs.declared.courses.Joining.TheVariants.{NotAsked, Ended, Small, Pays}
 
@@ -18,20 +17,20 @@ pub record WholeState (state : State) : Type 0 where
   pub places : length state.ledger.schemes ≡ most_schemes
   pub sound : SoundState state
 
--- so many entries more fit
+-- so many entries more fit, and so many numbers may be given
 pub record RoomFor (needed : ℕ) (state : State) : Type 0 where
   pub limit : state.ledger.entries + needed ≤ most_entries
   pub in_table : state.ledger.entries + needed ≤ length state.table
+  pub numbers : state.ledger.next_entry + needed ≤ highest_next_entry state.ledger.connections
 
--- of a joiner that pays: a scheme that was opened, its fee, at least its minimum and at most its cost
-pub record CanJoin (count : ℕ) (schemes : List Scheme) (bill : Bill) (paid : Contribution) : Type 0 where
-  pub numbered : 1 ≤ bill.applicant.scheme
-  pub opened : bill.applicant.scheme ≤ count
-  pub pays : PaysAt schemes bill paid
+-- a scheme more has its place and its number
+pub record PlaceLeft (state : State) : Type 0 where
+  pub place : state.ledger.count < most_schemes
+  pub number : state.ledger.next_scheme < highest_next_scheme
 
--- what a joining needs of these schemes
-abbrev pub Joinable : ℕ → List Scheme → Bill → Joining → Type 0
-Joinable count schemes bill NotAsked = Unit {0}
-Joinable count schemes bill Ended = Unit {0}
-Joinable count schemes bill Small = Unit {0}
-Joinable count schemes bill (Pays paid) = CanJoin count schemes bill paid
+-- what a joining needs of the schemes that stand: of a joiner that pays its scheme's place, its fee, at least its minimum and at most its cost
+abbrev pub Joinable : List Scheme → Bill → Joining → Type 0
+Joinable schemes bill NotAsked = Unit {0}
+Joinable schemes bill Ended = Unit {0}
+Joinable schemes bill Small = Unit {0}
+Joinable schemes bill (Pays paid) = PaysAt schemes bill paid

@@ -2,7 +2,7 @@
 // contract alone, a law on those definitions.
 #![tactic(auto)]
 
-ghost use Rattle.kept_sound.specs.Laws.{BookedKeepsSound, CallKeepsSound, JoinedKeepsSound, LeavesLength, LeavesPlaces, OpenedKeepsSound};
+ghost use Rattle.kept_sound.specs.Laws.{BookedKeepsSound, CallKeepsSound, ClearKeepsSound, ClearsExactly, JoinedKeepsSound, LeavesLength, LeavesPlaces, OpenedKeepsSound};
 
 /// From a sound ledger with 64 places every call leaves a sound one, with 64 places.
 pub fn every_call_keeps_sound()
@@ -11,9 +11,15 @@ pub fn every_call_keeps_sound()
     ensures keeps_table { LeavesLength }
 {}
 
-/// The three steps of an accept leave a sound ledger sound.
+/// The three steps of an accept leave a sound ledger sound, and so does a clearing.
 pub fn each_step_keeps_sound()
     ensures booking { BookedKeepsSound }
     ensures joining { JoinedKeepsSound }
     ensures opening { OpenedKeepsSound }
+    ensures clearing { ClearKeepsSound }
+{}
+
+/// A clearing removes exactly the schemes that ended by its month with no standing credit, and their entries; the rest stay as they are.
+pub fn clears_exactly()
+    ensures { ClearsExactly }
 {}

@@ -16,12 +16,13 @@ use Rattle.ledger.proofs.Theorems.Columns.{ones_again, of_own, of_other}
 use Rattle.std.proofs.lemmas.Bool.{cond-true, cond-false}
 use Rattle.std.proofs.lemmas.List.{take_all}
 use Rattle.ledger.specs.Limits.{most_schemes, most_entries, highest_put_in, highest_credited}
-use Rattle.ledger.specs.Records.{no_party}
+use Rattle.ledger.specs.Records.{no_scheme, no_party}
 use Rattle.ledger.specs.Lookup.{scheme_place}
-use Rattle.ledger.proofs.Theorems.Lookup.{scheme_placed, one_scheme}
+use Rattle.ledger.proofs.Theorems.Lookup.{placed}
 use Rattle.ledger.specs.Sound.{all_hold, figures_within, party_sound, parties_sound, tally_of}
 use Rattle.ledger.proofs.Theorems.Sound.{held}
 use Rattle.ledger.specs.Tallied.{no_tally, no_tallies, tally_with, Tallied, TallyWithin, TalliesWithin}
+use Rattle.ledger.specs.declared.records.Scheme.{Scheme}
 use Rattle.ledger.specs.declared.records.Party.{Party}
 use Rattle.ledger.specs.declared.sound.Tally.{Tally}
 
@@ -87,20 +88,20 @@ module _ (s : ℕ) (party : Party) (parties : List Party) where
 
 -- ---- the tallies, each at its scheme's place
 
-module _ (count : ℕ) (few : count ≤ most_schemes) (tallies : List Tally) (sized : length tallies ≡ most_schemes) (party : Party) (j : ℕ)
-    (here : scheme_place count party.scheme ≡ Some j) where
-  within : (s k : ℕ) → scheme_place count s ≡ Some k → k < length tallies
-  within s k place = let placed = scheme_placed count s k place in omega (arith, placed.kept, placed.next)
+module _ (schemes : List Scheme) (few : length schemes ≤ most_schemes) (tallies : List Tally) (sized : length tallies ≡ most_schemes) (party : Party) (j : ℕ)
+    (here : scheme_place party.scheme schemes ≡ Some j) where
+  within : (s k : ℕ) → scheme_place s schemes ≡ Some k → k < length tallies
+  within s k place = omega (arith, (placed (λ scheme. scheme.number) schemes no_scheme s k place).0)
 
-  tallied_more : (parties : List Party) → Tallied count tallies parties →
-      Tallied count (set tallies j (tally_with (get_or tallies j no_tally) party)) (parties ++ (party ∷ []))
+  tallied_more : (parties : List Party) → Tallied schemes tallies parties →
+      Tallied schemes (set tallies j (tally_with (get_or tallies j no_tally) party)) (parties ++ (party ∷ []))
   tallied_more parties told s k place = by (eqb party.scheme s) refl
     where
       by : (own : Bool) → eqb party.scheme s ≡ own →
           get_or (set tallies j (tally_with (get_or tallies j no_tally) party)) k no_tally ≡ tally_of s (parties ++ (party ∷ []))
       by true own =
           let same : party.scheme ≡ s = eqb-true party.scheme s own in
-          let both : Some j ≡ Some k = sym here ∙ ap (scheme_place count) same ∙ place in
+          let both : Some j ≡ Some k = sym here ∙ ap (λ n. scheme_place n schemes) same ∙ place in
           let at : j ≡ k = cc in
           rw at
           (get_or-set_same tallies k (tally_with (get_or tallies k no_tally) party) no_tally (within s k place)
@@ -109,7 +110,10 @@ module _ (count : ℕ) (few : count ≤ most_schemes) (tallies : List Tally) (si
       by false own =
           let other : party.scheme ≡ s → ⊥ = eqb-false party.scheme s own in
           get_or-set_other tallies j k (tally_with (get_or tallies j no_tally) party) no_tally
-          (λ same. other (one_scheme count party.scheme s k (rw same here) place))
+          (λ same.
+          other
+          (sym (placed (λ scheme. scheme.number) schemes no_scheme party.scheme k (rw same here)).1
+          ∙ (placed (λ scheme. scheme.number) schemes no_scheme s k place).1))
           ∙ told s k place
           ∙ sym (other_more s party parties other)
 
@@ -136,43 +140,43 @@ bounded_more n tallies j party sized p q b k h = by (eqb j k) refl
 -- ---- the loop
 
 -- what the loop keeps when the first i entries are passed: the entries from place i on decide
-pub record Kept (count : ℕ) (tallies : List Tally) (parties : List Party) (i : ℕ) : Type 0 where
-  pub undecided : parties_sound count parties ≡ parties_sound count (drop i parties)
+pub record Kept (schemes : List Scheme) (tallies : List Tally) (parties : List Party) (i : ℕ) : Type 0 where
+  pub undecided : parties_sound schemes parties ≡ parties_sound schemes (drop i parties)
   pub sized : length tallies ≡ most_schemes
-  pub tallied : Tallied count tallies (take i parties)
+  pub tallied : Tallied schemes tallies (take i parties)
   pub bounded : TalliesWithin i tallies
 
-pub kept_start : (count : ℕ) (tallies : List Tally) (parties : List Party) → tallies ≡ no_tallies → count ≤ most_schemes → Kept count tallies parties 0
+pub kept_start : (schemes : List Scheme) (tallies : List Tally) (parties : List Party) → tallies ≡ no_tallies → length schemes ≤ most_schemes → Kept schemes tallies parties 0
 unfolding no_tallies sum_over first_put_in
-kept_start count tallies parties new few =
+kept_start schemes tallies parties new few =
     rw new
     (record {
       undecided = refl;
       sized = length-replicate most_schemes no_tally;
-      tallied = λ s k place. let placed = scheme_placed count s k place in get_or-replicate most_schemes k no_tally no_tally (omega (arith, placed.kept, placed.next));
+      tallied = λ s k place. get_or-replicate most_schemes k no_tally no_tally (omega (arith, (placed (λ scheme. scheme.number) schemes no_scheme s k place).0));
       bounded = λ k h. rw (get_or-replicate most_schemes k no_tally no_tally h) (record { many = omega arith; credits = omega arith; put = omega arith });
     })
 
-module _ {count : ℕ} {tallies : List Tally} {parties : List Party} {i : ℕ} (kept : Kept count tallies parties i) where
+module _ {schemes : List Scheme} {tallies : List Tally} {parties : List Party} {i : ℕ} (kept : Kept schemes tallies parties i) where
   module _ (h : i < length parties) where
-    from_here : parties_sound count parties ≡ cond (party_sound count (get_or parties i no_party)) (parties_sound count (drop (i + 1) parties)) false
+    from_here : parties_sound schemes parties ≡ cond (party_sound schemes (get_or parties i no_party)) (parties_sound schemes (drop (i + 1) parties)) false
     unfolding parties_sound
     from_here = kept.undecided ∙ rw (add-one, drop-cons parties i no_party h)
 
     -- an entry whose scheme was never opened
-    pub never_opened : scheme_place count (get_or parties i no_party).scheme ≡ None → parties_sound count parties ≡ false
+    pub never_opened : scheme_place (get_or parties i no_party).scheme schemes ≡ None → parties_sound schemes parties ≡ false
     never_opened none = rw none at from_here
 
     -- one whose scheme has a place is judged by its figures
-    module _ {j : ℕ} (here : scheme_place count (get_or parties i no_party).scheme ≡ Some j) where
-      by_figures : parties_sound count parties ≡ cond (all_hold (figures_within (get_or parties i no_party))) (parties_sound count (drop (i + 1) parties)) false
+    module _ {j : ℕ} (here : scheme_place (get_or parties i no_party).scheme schemes ≡ Some j) where
+      by_figures : parties_sound schemes parties ≡ cond (all_hold (figures_within (get_or parties i no_party))) (parties_sound schemes (drop (i + 1) parties)) false
       by_figures = rw here at from_here
 
-      pub figures_fail : all_hold (figures_within (get_or parties i no_party)) ≡ false → parties_sound count parties ≡ false
+      pub figures_fail : all_hold (figures_within (get_or parties i no_party)) ≡ false → parties_sound schemes parties ≡ false
       figures_fail failed = by_figures ∙ cond-false _ _ _ failed
 
-      pub kept_more : {tally : Tally} → tally ≡ tally_with (get_or tallies j no_tally) (get_or parties i no_party) → count ≤ most_schemes →
-          all_hold (figures_within (get_or parties i no_party)) ≡ true → Kept count (set tallies j tally) parties (i + 1)
+      pub kept_more : {tally : Tally} → tally ≡ tally_with (get_or tallies j no_tally) (get_or parties i no_party) → length schemes ≤ most_schemes →
+          all_hold (figures_within (get_or parties i no_party)) ≡ true → Kept schemes (set tallies j tally) parties (i + 1)
       kept_more more_tallied few sound =
           let party : Party = get_or parties i no_party in
           let each = held (figures_within party) sound in
@@ -181,19 +185,23 @@ module _ {count : ℕ} {tallies : List Tally} {parties : List Party} {i : ℕ} (
           (record {
             undecided = by_figures ∙ cond-true _ _ _ sound;
             sized = simp length-set kept.sized;
-            tallied = rw more (tallied_more count few tallies kept.sized party j here (take i parties) kept.tallied);
+            tallied = rw more (tallied_more schemes few tallies kept.sized party j here (take i parties) kept.tallied);
             bounded = bounded_more i tallies j party kept.sized (leb-true _ _ (each 2)) (leb-true _ _ (each 3)) kept.bounded;
           })
 
   -- after the last entry
-  pub kept_all : length parties ≤ most_entries → length parties ≡ i → (parties_sound count parties ≡ true) × Tallied count tallies parties × TalliesWithin most_entries tallies
+  pub kept_all : length parties ≤ most_entries → length parties ≡ i → (parties_sound schemes parties ≡ true) × Tallied schemes tallies parties × TalliesWithin most_entries tallies
   unfolding parties_sound
   kept_all few all =
       let past : length parties ≤ i = omega arith in (
         kept.undecided ∙ rw (drop_of_length-le parties past),
-        subst (Tallied count tallies) (take_all i parties past) kept.tallied,
+        subst (Tallied schemes tallies) (take_all i parties past) kept.tallied,
         λ k h. within_le i most_entries (get_or tallies k no_tally) (omega arith) (kept.bounded k h),
       )
 
+-- a scheme's place is among the tallies
+pub scheme_within : (schemes : List Scheme) (s k : ℕ) → scheme_place s schemes ≡ Some k → k < length schemes
+scheme_within schemes s k place = (placed (λ scheme. scheme.number) schemes no_scheme s k place).0
+
 -- what the loop's goals need of these
-pub ruleset tallying = (scheme_placed, never_opened, figures_fail, kept_all)
+pub ruleset tallying = (scheme_within, never_opened, figures_fail, kept_all)

@@ -1,6 +1,7 @@
 pub mod Columns
 pub mod Table
-pub mod Lookup
 pub mod Sound
+pub mod Rising
+pub mod Lookup
 pub mod RefusalNumbers
 pub mod SameEntries

@@ -1,7 +1,6 @@
 -- What every rule reads, wherever it is kept: a ledger and its table give it, and so does the history of the calls. Schemes and entries go by their
 -- numbers. A figure of a scheme is taken over that scheme's own rows: restrict first, then compute.
-use Rattle.std.specs.Prelude.{ℕ, ◌+◌, List, length, take, eqb, find, Option, filter}
-use Rattle.ledger.specs.Lists.{numbered_from}
+use Rattle.std.specs.Prelude.{ℕ, List, length, map, take, eqb, find, Option, filter}
 use Rattle.ledger.specs.declared.records.Scheme.{Scheme}
 use Rattle.ledger.specs.declared.records.Party.{Party}
 use Rattle.ledger.specs.declared.records.Ledger.{Ledger}
@@ -47,11 +46,11 @@ entry_at books e = find (λ row. eqb e row.number) books.entries
 abbrev pub of_scheme : ℕ → List EntryParticulars → List EntryParticulars
 of_scheme s rows = filter (λ row. eqb row.scheme s) rows
 
--- ---- as a ledger and its table show them: schemes and entries are "numbered from 1"
-abbrev pub scheme_particulars : ℕ → Scheme → SchemeParticulars
-scheme_particulars number scheme =
+-- ---- as a ledger and its table show them: "Schemes and entries keep a lasting number" (document 02, E8)
+abbrev pub scheme_particulars : Scheme → SchemeParticulars
+scheme_particulars scheme =
     record {
-      number = number;
+      number = scheme.number;
       cost = scheme.cost;
       fee = scheme.fee;
       minimum = scheme.minimum;
@@ -59,10 +58,10 @@ scheme_particulars number scheme =
       term = scheme.term;
     }
 
-abbrev pub entry_particulars : ℕ → Party → EntryParticulars
-entry_particulars number party =
+abbrev pub entry_particulars : Party → EntryParticulars
+entry_particulars party =
     record {
-      number = number;
+      number = party.number;
       scheme = party.scheme;
       capacity = party.capacity;
       credited = party.credited;
@@ -74,9 +73,9 @@ books_of ledger table =
     record {
       connections = ledger.connections;
       month = ledger.month;
-      next_scheme = ledger.count + 1;
-      next_entry = ledger.entries + 1;
+      next_scheme = ledger.next_scheme;
+      next_entry = ledger.next_entry;
       room = length table;
-      schemes = numbered_from 1 scheme_particulars (take ledger.count ledger.schemes);
-      entries = numbered_from 1 entry_particulars (take ledger.entries table);
+      schemes = map scheme_particulars (take ledger.count ledger.schemes);
+      entries = map entry_particulars (take ledger.entries table);
     }

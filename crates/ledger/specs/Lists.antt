@@ -1,10 +1,5 @@
--- What the definitions are made of: numbering a list, turning it round, summing over it, a fact of each element.
-use Rattle.std.specs.Prelude.{ℕ, suc, ◌+◌, List, [], ◌∷◌, ◌++◌, length, drop}
-
--- each with its number, from `number` on: the only way from a place to a number
-abbrev pub numbered_from : {A B : Type 0} → ℕ → (ℕ → A → B) → List A → List B
-numbered_from number each [] = []
-numbered_from number each (x ∷ xs) = each number x ∷ numbered_from (suc number) each xs
+-- What the definitions are made of: elements at the start of a list, turning it round, summing over it, a fact of each element.
+use Rattle.std.specs.Prelude.{ℕ, ◌+◌, List, [], ◌∷◌, ◌++◌, length, drop}
 
 -- elements at the start of a list; those past them stay as they are
 abbrev pub at_start : {A : Type 0} → List A → List A → List A

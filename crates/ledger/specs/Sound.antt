@@ -1,11 +1,11 @@
--- Document 01, 'Soundness': "A ledger is sound if it has at most 64 schemes, 512 entries and 1,000,000 connections; put in is at most 2,000,000,000, credited at most
+-- Whether a ledger is sound, by two lists of conditions. Document 01, 'Soundness': "A ledger is sound if it has at most 64 schemes, 512 entries and 1,000,000 connections; put in is at most 2,000,000,000, credited at most
 -- 2,000,000,000,000, each of the two sums at most 1,100,000,000,000 × connections; capacity is as in 0C, fee, minimum and term as in 06; no opening is
 -- after the last month; places past the last scheme hold zeros; each entry's scheme exists, each scheme has an entry and its first put in its cost; paid
 -- out is at most credited, fees = fee × (entries − 1), and cost + fees = the sum of put in less credited." 13 also where the table is shorter than its entries.
 -- "as in 0C" of a request: capacity 1 to 1,000,000; "as in 06" of a rate book: fee at most the minimum, minimum at most 1,000,000,000, term at least 84.
-use Rattle.std.specs.Prelude.{ℕ, suc, ◌+◌, ◌*◌, ◌-◌, List, [], ◌∷◌, Bool, true, false, cond, take, drop, leb, eqb, is_some}
+use Rattle.std.specs.Prelude.{ℕ, ◌+◌, ◌*◌, ◌-◌, List, [], ◌∷◌, Bool, true, false, cond, map, take, drop, leb, ltb, eqb, is_some}
 use Rattle.field_values.specs.Limits.{highest_minimum, lowest_term, lowest_capacity, highest_capacity}
-use Rattle.ledger.specs.Limits.{most_schemes, most_entries, most_connections, highest_put_in, highest_credited, highest_sum}
+use Rattle.ledger.specs.Limits.{most_schemes, most_entries, most_connections, highest_put_in, highest_credited, highest_sum, highest_next_scheme, highest_next_entry}
 use Rattle.ledger.specs.Columns.{scheme_column, put_in_column, credited_column, sum_over, entries_of, first_put_in}
 use Rattle.ledger.specs.Lookup.{scheme_place}
 use Rattle.ledger.specs.declared.records.Scheme.{Scheme}
@@ -45,13 +45,13 @@ figures_within party =
     leb party.paid_out party.credited ∷
     []
 
--- an entry, where there are so many schemes: "each entry's scheme exists"
-abbrev pub party_sound : ℕ → Party → Bool
-party_sound count party = all_hold (is_some (scheme_place count party.scheme) ∷ figures_within party)
+-- an entry, where these schemes stand: "each entry's scheme exists", by its number
+abbrev pub party_sound : List Scheme → Party → Bool
+party_sound schemes party = all_hold (is_some (scheme_place party.scheme schemes) ∷ figures_within party)
 
-unfoldable pub parties_sound : ℕ → List Party → Bool
-parties_sound count [] = true
-parties_sound count (party ∷ parties) = cond (party_sound count party) (parties_sound count parties) false
+unfoldable pub parties_sound : List Scheme → List Party → Bool
+parties_sound schemes [] = true
+parties_sound schemes (party ∷ parties) = cond (party_sound schemes party) (parties_sound schemes parties) false
 
 -- what the entries of scheme s come to
 abbrev pub tally_of : ℕ → List Party → Tally
@@ -79,16 +79,16 @@ accounts_hold month scheme tally =
 abbrev pub accounts_sound : ℕ → Scheme → Tally → Bool
 accounts_sound month scheme tally = all_hold (accounts_hold month scheme tally)
 
-abbrev pub scheme_sound : ℕ → List Party → ℕ → Scheme → Bool
-scheme_sound month parties s scheme = accounts_sound month scheme (tally_of s parties)
+abbrev pub scheme_sound : ℕ → List Party → Scheme → Bool
+scheme_sound month parties scheme = accounts_sound month scheme (tally_of scheme.number parties)
 
--- the schemes from number s on
-unfoldable pub schemes_sound : ℕ → List Party → ℕ → List Scheme → Bool
-schemes_sound month parties s [] = true
-schemes_sound month parties s (scheme ∷ schemes) = cond (scheme_sound month parties s scheme) (schemes_sound month parties (suc s) schemes) false
+unfoldable pub schemes_sound : ℕ → List Party → List Scheme → Bool
+schemes_sound month parties [] = true
+schemes_sound month parties (scheme ∷ schemes) = cond (scheme_sound month parties scheme) (schemes_sound month parties schemes) false
 
 abbrev pub zeros : Scheme → List Bool
 zeros scheme =
+    eqb scheme.number 0 ∷
     eqb scheme.cost 0 ∷
     eqb scheme.fee 0 ∷
     eqb scheme.minimum 0 ∷
@@ -108,11 +108,43 @@ all_zero (scheme ∷ schemes) = cond (is_zero scheme) (all_zero schemes) false
 abbrev pub records_sound : Ledger → List Party → List Bool
 records_sound ledger entries =
     sums_sound ledger ∷
-    parties_sound ledger.count entries ∷
-    schemes_sound ledger.month entries 1 (take ledger.count ledger.schemes) ∷
+    parties_sound (take ledger.count ledger.schemes) entries ∷
+    schemes_sound ledger.month entries (take ledger.count ledger.schemes) ∷
     all_zero (drop ledger.count ledger.schemes) ∷
     []
 
--- `parties` are the table's records, at least as many as there are entries; `room` is the table's length
+-- document 01's conditions: `parties` are the table's records, at least as many as there are entries; `room` is the table's length
+unfoldable pub sound_figures : Ledger → List Party → ℕ → Bool
+sound_figures ledger parties room = cond (counts_sound ledger room) (all_hold (records_sound ledger (take ledger.entries parties))) false
+
+-- ---- document 02, E8: "numbers rise from 1 or more and stay below the next ones, which are above 0, next scheme is at most 65,536, next entry is at most
+-- 513 + 2 × connections, cleared collected = cleared paid out + fees, at most 2,000,000,000 × (next entry − 1 − entries)"
+
+-- each above the one before it, and the next one above the last
+unfoldable pub rise_to : ℕ → ℕ → List ℕ → Bool
+rise_to next before [] = ltb before next
+rise_to next before (number ∷ later) = cond (ltb before number) (rise_to next number later) false
+
+abbrev pub schemes_rise : Ledger → Bool
+schemes_rise ledger = rise_to ledger.next_scheme 0 (map (λ scheme. scheme.number) (take ledger.count ledger.schemes))
+
+abbrev pub entries_rise : Ledger → List Party → Bool
+entries_rise ledger entries = rise_to ledger.next_entry 0 (map (λ entry. entry.number) entries)
+
+abbrev pub cleared_within : Ledger → List Bool
+cleared_within ledger =
+    leb ledger.next_scheme highest_next_scheme ∷
+    leb ledger.next_entry (highest_next_entry ledger.connections) ∷
+    eqb ledger.cleared_collected (ledger.cleared_paid_out + ledger.cleared_fees) ∷
+    leb ledger.cleared_collected (highest_put_in * (ledger.next_entry - 1 - ledger.entries)) ∷
+    []
+
+abbrev pub cleared_sound : Ledger → Bool
+cleared_sound ledger = all_hold (cleared_within ledger)
+
+unfoldable pub sound_numbers : Ledger → List Party → Bool
+sound_numbers ledger entries = all_hold (schemes_rise ledger ∷ entries_rise ledger entries ∷ cleared_sound ledger ∷ [])
+
+-- both lists
 unfoldable pub sound : Ledger → List Party → ℕ → Bool
-sound ledger parties room = cond (counts_sound ledger room) (all_hold (records_sound ledger (take ledger.entries parties))) false
+sound ledger parties room = cond (sound_figures ledger parties room) (sound_numbers ledger (take ledger.entries parties)) false

@@ -21,10 +21,14 @@ abbrev pub with_connection : ℕ → ℕ → ℕ → Ledger → Ledger
 with_connection month charged borne ledger =
     record ledger { month = month; connections = ledger.connections + 1; charged = ledger.charged + charged; borne = ledger.borne + borne }
 
--- so many entries
-abbrev pub with_entries : ℕ → Ledger → Ledger
-with_entries entries ledger = record ledger { entries = entries }
+-- an entry more, which has the next number
+abbrev pub with_entry : Ledger → Ledger
+with_entry ledger = record ledger { entries = ledger.entries + 1; next_entry = ledger.next_entry + 1 }
 
--- so many schemes, in these places
-abbrev pub with_schemes : ℕ → List Scheme → Ledger → Ledger
-with_schemes count schemes ledger = record ledger { count = count; schemes = schemes }
+-- as many schemes, in these places
+abbrev pub with_schemes : List Scheme → Ledger → Ledger
+with_schemes schemes ledger = record ledger { schemes = schemes }
+
+-- a scheme more, which has the next number, with all in these places
+abbrev pub with_scheme : List Scheme → Ledger → Ledger
+with_scheme schemes ledger = record ledger { count = ledger.count + 1; next_scheme = ledger.next_scheme + 1; schemes = schemes }

@@ -20,6 +20,8 @@ pub const HIGHEST_CREDITED: u64 = 2_000_000_000_000;
 // In cents, for each connection: charged and borne.
 pub const HIGHEST_SUM: u64 = 1_100_000_000_000;
 
+pub const HIGHEST_NEXT_SCHEME: u32 = 65_536;
+
 pub type Schemes = [Scheme; MOST_SCHEMES];
 
 // A fixed array, of which the ledger says how many entries it holds, also where that is more than these. That a slice of entries is no

@@ -1,27 +1,22 @@
-// A scheme's and an entry's place, by its number. Nothing else turns a number into a place.
-// A place is an index, since schemes and entries stand in fixed arrays by number: the firmware has no map.
-// Two functions of one form, as schemes and entries are numbered in two widths: over a third for both they would be two names for it.
+// A scheme's and an entry's place among those that stand, by its number. Beside these only the soundness test turns a number into a place, by its own search.
 ghost use Rattle.std.specs.Prelude.{◌≡◌};
 ghost use Rattle.ledger.specs.Lookup.{scheme_place};
 ghost use Rattle.ledger.specs.EntryPlace.{entry_place};
 
-#[tactic(auto, unfolding(crate::specs::Lookup::scheme_place))]
-pub fn scheme_at(count: u32, number: u16) -> Option<usize>
-    ensures { result ≡ scheme_place count number }
+use crate::records::{Party, Scheme};
+
+/// The place of the scheme with this number. `schemes` are those that stand.
+#[tactic(auto, unfolding(crate::specs::Lookup::place_of))]
+pub fn scheme_at(schemes: &[Scheme], number: u32) -> Option<usize>
+    ensures { result ≡ scheme_place number schemes.now }
 {
-    let number = usize::from(number);
-    if number < 1 || (count as usize) < number {
-        return None;
-    }
-    Some(number - 1)
+    schemes.iter().position(|scheme| scheme.number == number)
 }
 
-#[tactic(auto, unfolding(crate::specs::EntryPlace::entry_place))]
-pub fn entry_at(entries: u32, entry: u32) -> Option<usize>
-    ensures { result ≡ entry_place entries entry }
+/// The place of the entry with this number. `entries` are those that stand: a record past the last may still hold a number.
+#[tactic(auto, unfolding(crate::specs::Lookup::place_of))]
+pub fn entry_at(entries: &[Party], number: u32) -> Option<usize>
+    ensures { result ≡ entry_place number entries.now }
 {
-    if entry < 1 || entries < entry {
-        return None;
-    }
-    Some(entry as usize - 1)
+    entries.iter().position(|entry| entry.number == number)
 }

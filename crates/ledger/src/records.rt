@@ -7,6 +7,8 @@ use crate::limits::{MOST_ENTRIES, MOST_SCHEMES, Parties, Schemes};
 
 #[derive(Clone, Copy, Default, PartialEq)]
 pub struct Scheme {
+    // its lasting number: given once, from 1 on
+    pub number: u32,
     pub cost: u32,
     pub fee: u32,
     pub minimum: u32,
@@ -17,9 +19,12 @@ pub struct Scheme {
     pub fees: u64,
 }
 
-// An entry of the party table. Schemes are numbered from 1.
+// An entry of the party table.
 #[derive(Clone, Copy, Default)]
 pub struct Party {
+    // its lasting number: given once, from 1 on
+    pub number: u32,
+    // its scheme's number, which is never above 65,535
     pub scheme: u16,
     pub person: u32,
     pub capacity: u32,
@@ -28,7 +33,7 @@ pub struct Party {
     pub paid_out: u64,
 }
 
-// The schemes are a fixed array, of which the first `count` were opened, and no ArrayVec of the library: a ledger is Copy, and handed over
+// The schemes are a fixed array, of which the first `count` stand, and no ArrayVec of the library: a ledger is Copy, and handed over
 // with any count, sound or not. That all places of the array are there is a clause where a proof needs it before the code reads the length.
 // The counts have no limit here, as a ledger is handed over sound or not: where it was tested, clauses say it.
 #[derive(Clone, Copy)]
@@ -39,6 +44,13 @@ pub struct Ledger {
     // sums over all accepted requests
     pub charged: u64,
     pub borne: u64,
+    // the numbers that the next scheme and the next entry get
+    pub next_scheme: u32,
+    pub next_entry: u32,
+    // what the schemes that were cleared had collected, paid out and left in fees
+    pub cleared_collected: u64,
+    pub cleared_paid_out: u64,
+    pub cleared_fees: u64,
     pub entries: u32,
     pub count: u32,
     pub schemes: Schemes,
@@ -61,6 +73,11 @@ pub fn new_ledger() -> Ledger
         connections: 0,
         charged: 0,
         borne: 0,
+        next_scheme: 1,
+        next_entry: 1,
+        cleared_collected: 0,
+        cleared_paid_out: 0,
+        cleared_fees: 0,
         entries: 0,
         count: 0,
         schemes: [Scheme::default(); MOST_SCHEMES],

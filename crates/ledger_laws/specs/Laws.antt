@@ -1,11 +1,13 @@
 -- The laws that the functions of src/ are there for, one statement each; the proofs stand beside the definitions that they are of.
-use Rattle.std.specs.Prelude.{ℕ, ◌+◌, ◌*◌, ◌<◌, ◌≤◌, ◌≡◌, List, true, Some}
+use Rattle.std.specs.Prelude.{ℕ, ◌+◌, ◌*◌, ◌<◌, ◌≤◌, ◌≡◌, List, map, true, length, get_or, Some}
 use Rattle.tagged.specs.declared.file.Refusal.{Refusal}
 use Rattle.ledger.specs.Lists.{sum_by}
-use Rattle.ledger.specs.EntryPlace.{entry_place, Placed}
+use Rattle.ledger.specs.Records.{no_scheme, no_party}
+use Rattle.ledger.specs.EntryPlace.{entry_place}
 use Rattle.ledger.specs.Lookup.{scheme_place}
-use Rattle.ledger.specs.Sound.{sound}
+use Rattle.ledger.specs.Sound.{rise_to, sound}
 use Rattle.ledger.specs.SoundConditions.{SoundLedger}
+use Rattle.ledger.specs.declared.records.Scheme.{Scheme}
 use Rattle.ledger.specs.declared.records.Party.{Party}
 use Rattle.ledger.specs.declared.records.Ledger.{Ledger}
 use Rattle.calls.specs.Rules.{Holding, capacity_of, contribution, share, shared}
@@ -21,18 +23,23 @@ SoundMeans = (ledger : Ledger) (parties : List Party) (room : ℕ) → sound led
 abbrev pub MeansSound : Type 0
 MeansSound = (ledger : Ledger) (parties : List Party) (room : ℕ) → SoundLedger ledger parties room → sound ledger parties room ≡ true
 
--- ---- a number has a place exactly from 1 to how many stand
+-- ---- a number's place is that of a record that has it; where numbers rise, each record is found at its own
 abbrev pub SchemePlaced : Type 0
-SchemePlaced = (count s k : ℕ) → scheme_place count s ≡ Some k → Placed count s k
+SchemePlaced =
+    (s k : ℕ) (schemes : List Scheme) → scheme_place s schemes ≡ Some k → (k < length schemes) × ((get_or schemes k no_scheme).number ≡ s)
 
 abbrev pub PlacedScheme : Type 0
-PlacedScheme = (count s k : ℕ) → Placed count s k → scheme_place count s ≡ Some k
+PlacedScheme =
+    (next k : ℕ) (schemes : List Scheme) → rise_to next 0 (map (λ scheme. scheme.number) schemes) ≡ true → k < length schemes →
+    scheme_place (get_or schemes k no_scheme).number schemes ≡ Some k
 
 abbrev pub EntryPlaced : Type 0
-EntryPlaced = (entries e k : ℕ) → entry_place entries e ≡ Some k → Placed entries e k
+EntryPlaced = (e k : ℕ) (entries : List Party) → entry_place e entries ≡ Some k → (k < length entries) × ((get_or entries k no_party).number ≡ e)
 
 abbrev pub PlacedEntry : Type 0
-PlacedEntry = (entries e k : ℕ) → Placed entries e k → entry_place entries e ≡ Some k
+PlacedEntry =
+    (next k : ℕ) (entries : List Party) → rise_to next 0 (map (λ entry. entry.number) entries) ≡ true → k < length entries →
+    entry_place (get_or entries k no_party).number entries ≡ Some k
 
 -- ---- what a joiner pays, rounded down
 abbrev pub ContributionLow : Type 0

@@ -11,8 +11,7 @@ pub fn sound_ledger()
     ensures is { MeansSound }
 {}
 
-/// The numbers of schemes and entries that stand are those from 1 to their count, each with its own place.
-#[tactic(auto, using(ledger::proofs::Theorems::Lookup::scheme_placed, ledger::proofs::Theorems::Lookup::entry_placed))]
+/// A number's place is that of a scheme or an entry that has it; where numbers rise, each is found at its own.
 pub fn numbers_placed()
     ensures schemes { SchemePlaced }
     ensures every_scheme { PlacedScheme }

@@ -18,28 +18,34 @@ impl<'a> fmt::Display for Figures<'a> {
             ledger.borne,
             ledger.count,
             ledger.entries
+        )?;
+        write!(
+            f,
+            " next {} {} cleared {} {} {}",
+            ledger.next_scheme,
+            ledger.next_entry,
+            ledger.cleared_collected,
+            ledger.cleared_paid_out,
+            ledger.cleared_fees
         )
     }
 }
 
-// A scheme or an entry with its number.
+// A scheme or an entry.
 #[derive(Clone, Copy)]
-pub struct Numbered<T> {
-    pub number: usize,
-    pub record: T,
-}
+pub struct Shown<T>(pub T);
 
-impl<'a> fmt::Display for Numbered<&'a Scheme> {
+impl<'a> fmt::Display for Shown<&'a Scheme> {
     fn fmt<W: fmt::Write>(&self, f: &mut fmt::Formatter<W>) -> fmt::Result {
-        let number = self.number;
         let Scheme {
+            number,
             cost,
             fee,
             minimum,
             opening,
             term,
             fees,
-        } = *self.record;
+        } = *self.0;
         write!(
             f,
             "  scheme {number}: cost {cost} fee {fee} minimum {minimum} opening {opening} term {term} fees {fees}"
@@ -47,17 +53,17 @@ impl<'a> fmt::Display for Numbered<&'a Scheme> {
     }
 }
 
-impl<'a> fmt::Display for Numbered<&'a Party> {
+impl<'a> fmt::Display for Shown<&'a Party> {
     fn fmt<W: fmt::Write>(&self, f: &mut fmt::Formatter<W>) -> fmt::Result {
-        let number = self.number;
         let Party {
+            number,
             scheme,
             person,
             capacity,
             put_in,
             credited,
             paid_out,
-        } = *self.record;
+        } = *self.0;
         write!(
             f,
             "  entry {number}: scheme {scheme} person {person} capacity {capacity} put-in {put_in} credited {credited} paid-out {paid_out}"
@@ -76,14 +82,14 @@ impl<'a> fmt::Display for LedgerLines<'a> {
     fn fmt<W: fmt::Write>(&self, f: &mut fmt::Formatter<W>) -> fmt::Result {
         let ledger = self.ledger;
         writeln!(f, "{}", Figures(ledger))?;
-        // Two loops of three lines: one function over either record would ask for `Numbered<&R>: Display` and be no shorter.
+        // Two loops of three lines: one function over either record would ask for `Shown<&R>: Display` and be no shorter.
         let schemes = ledger.schemes.iter().take(ledger.count as usize);
-        for (number, record) in (1usize..).zip(schemes) {
-            writeln!(f, "{}", Numbered { number, record })?;
+        for scheme in schemes {
+            writeln!(f, "{}", Shown(scheme))?;
         }
         let entries = self.table.iter().take(ledger.entries as usize);
-        for (number, record) in (1usize..).zip(entries) {
-            writeln!(f, "{}", Numbered { number, record })?;
+        for entry in entries {
+            writeln!(f, "{}", Shown(entry))?;
         }
         Ok(())
     }

@@ -9,6 +9,7 @@ use fields::Fields;
 use files::refused::Refused;
 use std::io;
 use std::rt::Files;
+use stored::form::Form;
 use tagged::file::FileAnswer;
 
 // The kinds of file.
@@ -16,6 +17,7 @@ use tagged::file::FileAnswer;
 enum Kind {
     Book,
     Request,
+    OldLedger,
     Ledger,
 }
 
@@ -25,16 +27,18 @@ impl Kind {
         match self {
             Kind::Book => book_zones::rows::book_stands(1, file),
             Kind::Request => request::rows::request_stands(2, file),
-            Kind::Ledger => stored::rows::stored_stands(1, file),
+            Kind::OldLedger => stored::rows::stored_stands(Form::Pion, 1, file),
+            Kind::Ledger => stored::rows::stored_stands(Form::Pio2, 1, file),
         }
     }
 }
 
-const RIGHT_FILES: [(Kind, &str); 6] = [
+const RIGHT_FILES: [(Kind, &str); 7] = [
     (Kind::Book, "book.bin"),
     (Kind::Request, "request.bin"),
     (Kind::Ledger, "ledger.bin"),
     (Kind::Ledger, "ledger_as_new.bin"),
+    (Kind::OldLedger, "old_ledger.bin"),
     (Kind::Book, "book_wide.bin"),
     (Kind::Request, "request_wide.bin"),
 ];
@@ -49,7 +53,7 @@ const BAD_TAILS_AND_CHECKS: [(Kind, &str); 7] = [
     (Kind::Book, "altered_tail.bin"),
 ];
 
-const FILES_THAT_DO_NOT_WALK: [(Kind, &str); 11] = [
+const FILES_THAT_DO_NOT_WALK: [(Kind, &str); 13] = [
     (Kind::Book, "book_without_02.bin"),
     (Kind::Book, "book_02_twice.bin"),
     (Kind::Book, "book_ends_early.bin"),
@@ -61,6 +65,8 @@ const FILES_THAT_DO_NOT_WALK: [(Kind, &str); 11] = [
     (Kind::Book, "book_two_bytes_over.bin"),
     (Kind::Book, "request_as_book.bin"),
     (Kind::Request, "book.bin"),
+    (Kind::Ledger, "old_ledger.bin"),
+    (Kind::OldLedger, "ledger.bin"),
 ];
 
 const FILES_OF_BOTH_FORMS_AND_OF_NEITHER: [(Kind, &str); 4] = [

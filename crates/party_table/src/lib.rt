@@ -38,6 +38,14 @@ pub fn hand_one(table: &mut [Party], at: usize, person: u32)
     table[at].person = person;
 }
 
+// The record at one place is put at another too, where those that stay close up.
+pub fn move_one(table: &mut [Party], from: usize, to: usize)
+    requires { (from < length table.old) × (to < length table.old) }
+    ensures { table.new ≡ set table.old to (get_or table.old from no_party) }
+{
+    table[to] = table[from];
+}
+
 // The first records of the table become these.
 pub fn store_each(table: &mut [Party], parties: &[Party])
     requires { length parties.now ≤ length table.old }

@@ -12,6 +12,7 @@ use Rattle.ledger.specs.declared.records.Party.{Party}
 use Rattle.ledger.specs.declared.records.Ledger.{Ledger}
 use Rattle.stored.proofs.Theorems.Layout.{take_at_start}
 use Rattle.stored.specs.Form.{stored_entries, stored_ledger}
+use Rattle.stored.specs.declared.form.Form.TheVariants.{Pio2}
 use Rattle.stored.specs.Reading.{read_answer, ReadBack, refused_read, read_by, read_back, ReadEnd, table_by, read_of}
 use Rattle.stored.proofs.Theorems.StoredAccepted.{accepted_means}
 use Rattle.stored.proofs.Theorems.ReadLedger.{entries_count}
@@ -24,10 +25,10 @@ module _ (ledger : Ledger) (table : List Party) (file : List ℕ) where
   s = fields_part file
 
   -- a refused reading leaves both
-  pub refused_end : (r : Refusal) (after : Ledger) → refused_read r after ≡ read_back ledger (length table) file → read_of ledger table file ≡ ending (Err r) after table
-  refused_end r after = by (read_answer (length table) file)
+  pub refused_end : (r : Refusal) (after : Ledger) → refused_read r after ≡ read_back Pio2 ledger (length table) file → read_of ledger table file ≡ ending (Err r) after table
+  refused_end r after = by (read_answer Pio2 (length table) file)
     where
-      by : (answer : FileAnswer) → refused_read r after ≡ read_by answer ledger s → table_by answer ledger table s ≡ ending (Err r) after table
+      by : (answer : FileAnswer) → refused_read r after ≡ read_by Pio2 answer ledger s → table_by answer ledger table s ≡ ending (Err r) after table
       by (Ok _) e = let told = ap (λ (b : ReadBack). b.answer) e in impossible cc
       by (Err q) e =
           let answers = ap (λ (b : ReadBack). b.answer) e in
@@ -41,31 +42,31 @@ module _ (ledger : Ledger) (table : List Party) (file : List ℕ) where
     pub room : length (take after.entries parties) ≤ length table
     pub ends : read_of ledger table file ≡ ending (Ok tt) after (take after.entries parties ++ drop (length (take after.entries parties)) table)
 
-  entries_stored : (n : ℕ) → n ≡ length (stored_entries s) → take n (at_start (stored_entries s) no_parties) ++ drop n table ≡ at_start (stored_entries s) table
-  entries_stored n e = rw e (ap (λ (entries : List Party). entries ++ drop (length (stored_entries s)) table) (take_at_start (stored_entries s) no_parties))
+  entries_stored : (n : ℕ) → n ≡ length (stored_entries Pio2 s) → take n (at_start (stored_entries Pio2 s) no_parties) ++ drop n table ≡ at_start (stored_entries Pio2 s) table
+  entries_stored n e = rw e (ap (λ (entries : List Party). entries ++ drop (length (stored_entries Pio2 s)) table) (take_at_start (stored_entries Pio2 s) no_parties))
 
   pub standing_reads : (after : Ledger) (parties : List Party) →
-      ◌≡◌ {A = ReadBack} (record { answer = Ok tt; ledger = after; parties = parties }) (read_back ledger (length table) file) → Reads after parties
-  standing_reads after parties e = by (read_answer (length table) file) refl e
+      ◌≡◌ {A = ReadBack} (record { answer = Ok tt; ledger = after; parties = parties }) (read_back Pio2 ledger (length table) file) → Reads after parties
+  standing_reads after parties e = by (read_answer Pio2 (length table) file) refl e
     where
-      by : (answer : FileAnswer) → read_answer (length table) file ≡ answer →
-          ◌≡◌ {A = ReadBack} (record { answer = Ok tt; ledger = after; parties = parties }) (read_by answer ledger s) → Reads after parties
+      by : (answer : FileAnswer) → read_answer Pio2 (length table) file ≡ answer →
+          ◌≡◌ {A = ReadBack} (record { answer = Ok tt; ledger = after; parties = parties }) (read_by Pio2 answer ledger s) → Reads after parties
       by (Ok _) stands back =
-          let means : SoundLedger (stored_ledger s) (stored_entries s) (length table) =
-          sound_means (stored_ledger s) (stored_entries s) (length table) (accepted_means (length table) file stands).holds in
-          let ledgers : after ≡ stored_ledger s = ap (λ (b : ReadBack). b.ledger) back in
-          let records : parties ≡ at_start (stored_entries s) no_parties = ap (λ (b : ReadBack). b.parties) back in
-          let entries : ℕ = (stored_ledger s).entries in
-          let first : List Party = at_start (stored_entries s) no_parties in
-          let limit : entries ≤ length first = omega (arith, entries_count s, length-append (stored_entries s) (drop (length (stored_entries s)) no_parties)) in
+          let means : SoundLedger (stored_ledger Pio2 s) (stored_entries Pio2 s) (length table) =
+          sound_means (stored_ledger Pio2 s) (stored_entries Pio2 s) (length table) (accepted_means Pio2 (length table) file stands).holds in
+          let ledgers : after ≡ stored_ledger Pio2 s = ap (λ (b : ReadBack). b.ledger) back in
+          let records : parties ≡ at_start (stored_entries Pio2 s) no_parties = ap (λ (b : ReadBack). b.parties) back in
+          let entries : ℕ = (stored_ledger Pio2 s).entries in
+          let first : List Party = at_start (stored_entries Pio2 s) no_parties in
+          let limit : entries ≤ length first = omega (arith, entries_count Pio2 s, length-append (stored_entries Pio2 s) (drop (length (stored_entries Pio2 s)) no_parties)) in
           let many : length (take entries first) ≡ entries = length-take-le entries first limit in
           rw (ledgers, records)
           (record {
             limit = limit;
             many = sym many;
-            room = omega (arith, means.in_table);
+            room = omega (arith, means.figures.in_table);
             ends =
                 ap (λ answer. table_by answer ledger table s) stands
-                ∙ ap (ending (Ok tt) (stored_ledger s)) (rw many (sym (entries_stored entries (entries_count s))));
+                ∙ ap (ending (Ok tt) (stored_ledger Pio2 s)) (rw many (sym (entries_stored entries (entries_count Pio2 s))));
           })
       by (Err r) stands back = let told = ap (λ (b : ReadBack). b.answer) back in impossible cc

@@ -1,6 +1,6 @@
 -- What every call shares: the result, in which a refusal is told, and the lent buffers: the five places of an answer, the twenty-seven of the figures.
 use Rattle.std.specs.Prelude.{ℕ, Err, Ok, ◌+◌, ◌*◌, ◌/◌, ◌%◌, Bool, cond, List, [], ◌∷◌, ◌++◌, ltb, eqb, ℤ, length, drop}
-use Rattle.tagged.specs.Refusals.{low_above_high}
+use Rattle.tagged.specs.Refusals.{numbers_not_counts}
 use Rattle.tagged.specs.File.{FileAnswer}
 use Rattle.tagged.specs.declared.file.Refusal.{Refusal}
 use Rattle.reconciliation.specs.Figures.{figure_values}
@@ -9,9 +9,9 @@ use Rattle.quoting_unit.specs.declared.outcomes.Outcome.{Outcome}
 
 -- ---- the result: 0 where the call is done, otherwise the refusal
 
--- the last number of a refusal: document 01's table, and document 02's E5 after it
+-- the last number of a refusal: document 01's table, and document 02's E5 and E9 after it
 abbrev pub last_number : ℕ
-last_number = low_above_high
+last_number = numbers_not_counts
 
 -- what one counts in a result: of the file, of whether it is of the stored ledger itself, of the place
 abbrev pub file_weight : ℕ

@@ -5,9 +5,13 @@ use Rattle.std.specs.Prelude.{ℕ, Bool, true, cond, List, [], ◌∷◌, ℤ, E
 use Rattle.tagged.specs.Refusals.{output_too_short}
 use Rattle.charge.specs.Price.{price_of, Pricing}
 use Rattle.slip_text.specs.Slip.{slip_written, slip_buffer, SlipWritten}
-use Rattle.calls.specs.Decision.{Call, accept, pay_out, hand_over}
+use Rattle.calls.specs.Decision.{Call, accept, pay_out, hand_over, clear}
 use Rattle.calls.specs.declared.answers.JoiningAnswer.{JoiningAnswer}
 use Rattle.calls.specs.declared.answers.JoiningAnswer.TheVariants.{NotAsked, Ended, Small, Joined}
+use Rattle.ledger.specs.RefusalNumbers.{one_of}
+use Rattle.stored.specs.Moves as moves
+use Rattle.stored.specs.StoredNumbers.{reading_numbers}
+use Rattle.stored.specs.Writing.{Written, WriteEnd}
 use Rattle.stored_calls.specs.StoredCalls.{StoredCheck, StoredCallAnswer, not_read, not_made, made_accepted, made_done, CallEnd, new_stored_of, stored_call_of, check_stored_of}
 use Rattle.quoting_unit.specs.Interface.{UnitEnding, is_done, is_refused, outcome_of, Lent, answer_after, figures_after, answer_short, figures_short}
 
@@ -18,6 +22,9 @@ pub data UnitCall : Type 0 where
   new_ledger : UnitCall
   on_ledger : List ℕ → ℕ → Call → UnitCall
   check_ledger : List ℕ → ℕ → UnitCall
+  -- an old file to the new form, and a new one back
+  move_to_new : List ℕ → UnitCall
+  move_back : List ℕ → UnitCall
 
 -- the figures are lent to price and accept, the answer to all but price
 abbrev pub too_short : UnitCall → Lent → Bool
@@ -27,7 +34,10 @@ too_short new_ledger lent = answer_short lent
 too_short (on_ledger stored table_size (accept book request)) lent = cond (answer_short lent) true (figures_short lent)
 too_short (on_ledger stored table_size (pay_out entry amount)) lent = answer_short lent
 too_short (on_ledger stored table_size (hand_over entry person)) lent = answer_short lent
+too_short (on_ledger stored table_size (clear month)) lent = answer_short lent
 too_short (check_ledger stored table_size) lent = answer_short lent
+too_short (move_to_new file) lent = answer_short lent
+too_short (move_back file) lent = answer_short lent
 
 -- ---- what a call comes to where no place is missing: how it ends, and output and figures after it
 pub record Made : Type 0 where
@@ -62,7 +72,7 @@ acceptance_places (Joined collected) opening size = 1 ∷ collected.entry ∷ co
 acceptance_places Small opening size = 2 ∷ 0 ∷ 0 ∷ scheme_opened opening ∷ size ∷ []
 acceptance_places Ended opening size = 3 ∷ 0 ∷ 0 ∷ scheme_opened opening ∷ size ∷ []
 
--- the new ledger, pay-out and hand-over tell the new form's length too
+-- the new ledger, pay-out, hand-over and clearing tell the new form's length too
 abbrev pub unit_call_ending : StoredCallAnswer → UnitEnding
 unit_call_ending (not_read r) = is_refused r 1
 unit_call_ending (not_made r) = is_refused r 0
@@ -85,6 +95,17 @@ abbrev pub check_ending : StoredCheck → UnitEnding
 check_ending (Err r) = is_refused r 1
 check_ending (Ok counts) = is_done (counts.schemes ∷ counts.entries ∷ counts.connections ∷ counts.month ∷ 0 ∷ [])
 
+-- document 02, E9: a move tells the form's length; its refusals of the file's bytes and of what they hold are the stored ledger's
+abbrev pub of_stored_file : ℕ → ℕ
+of_stored_file number = cond (one_of reading_numbers number) 1 0
+
+abbrev pub move_ending : Written → UnitEnding
+move_ending (Ok size) = is_done (written_places size)
+move_ending (Err r) = is_refused r (of_stored_file r.number)
+
+abbrev pub move_made : WriteEnd → Lent → Made
+move_made moved lent = record { ending = move_ending moved.answer; output = moved.output; figures = lent.figures }
+
 abbrev pub made : UnitCall → Lent → Made
 made (price book request) lent = price_made (price_of book request) lent
 made (slip_text book request) lent =
@@ -94,6 +115,8 @@ made new_ledger lent = ledger_made (new_stored_of lent.output) lent
 made (on_ledger stored table_size call) lent = ledger_made (stored_call_of stored table_size call lent.output) lent
 made (check_ledger stored table_size) lent =
     record { ending = check_ending (check_stored_of stored table_size); output = lent.output; figures = lent.figures }
+made (move_to_new file) lent = move_made (moves.move_to_new file lent.output) lent
+made (move_back file) lent = move_made (moves.move_back file lent.output) lent
 
 -- ---- what a call leaves: its result, and its lent buffers
 pub record CallLeaves : Type 0 where

@@ -3,13 +3,17 @@
 ghost use Rattle.std.specs.Prelude.{◌≡◌, ◌≤◌, length, Ok};
 ghost use Rattle.stored_calls.specs.StoredCalls.{refused_by, of_stored_accept, of_stored_answer};
 ghost use Rattle.quoting_unit.specs.Interface.{answer_after, answer_places, is_done, is_refused, outcome_of};
-ghost use Rattle.quoting_unit.specs.Unit.{acceptance_places, check_ending, unit_call_ending, unit_slip_ending, written_places};
+ghost use Rattle.quoting_unit.specs.Unit.{acceptance_places, check_ending, move_ending, of_stored_file, unit_call_ending, unit_slip_ending, written_places};
 
 use crate::results::result_of;
 use calls::answers::{Acceptance, JoiningAnswer};
 use slip_text::SlipWritten;
+use stored::writing::Written;
 use stored_calls::{StoredAcceptance, StoredCounts, StoredRefusal};
 use tagged::file::Refusal;
+use tagged::refusals::{
+    CHECK_DIFFERS, FILE_DOES_NOT_WALK, LEDGER_UNSOUND, NO_ENTRY_LEFT, VALUE_NOT_LISTED,
+};
 
 /// How many places an answer has: numbers by place, since they cross to C.
 pub const ANSWER: usize = 5;
@@ -79,13 +83,35 @@ pub fn stored_refused(refusal: StoredRefusal) -> Outcome
     }
 }
 
-/// Of pay-out, hand-over and the new ledger: the new form's length in bytes.
+/// Of pay-out, hand-over, clearing and the new ledger: the new form's length in bytes.
 pub fn call_outcome(answer: Result<usize, StoredRefusal>) -> Outcome
     ensures { result ≡ outcome_of (unit_call_ending (of_stored_answer answer)) }
 {
     match answer {
         Ok(length) => done(written_places(length)),
         Err(refusal) => stored_refused(refusal),
+    }
+}
+
+// Whether a move's refusal is of the stored file: 14 and 16 are the move's own.
+fn of_stored_file(number: u8) -> u8
+    ensures { result ≡ of_stored_file number }
+{
+    let of_file = number == FILE_DOES_NOT_WALK
+        || number == CHECK_DIFFERS
+        || number == VALUE_NOT_LISTED
+        || number == NO_ENTRY_LEFT
+        || number == LEDGER_UNSOUND;
+    u8::from(of_file)
+}
+
+/// Of a move between the stored forms: the form's length in bytes.
+pub fn move_outcome(written: Written) -> Outcome
+    ensures { result ≡ outcome_of (move_ending written) }
+{
+    match written {
+        Ok(length) => done(written_places(length)),
+        Err(refusal) => refused(refusal, of_stored_file(refusal.number)),
     }
 }
 

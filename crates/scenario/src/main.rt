@@ -1,6 +1,6 @@
 // Walks a pioneer ledger through its life by the lines of data/calls.txt: M7 of document 01, 'Marked figures', with plain, small and ended connections
-// in between, pay-outs, a hand-over, every refusal, the stored form, and a joiner who builds on, all by the public calls over a lent table. Each call is
-// written with its answer; `show`, `figures` and `entry` write what ledger and table hold.
+// in between, pay-outs, a hand-over, every refusal, the stored form, a joiner who builds on, and clearings, all by the public calls over a lent table. Each call is
+// written with its answer; `show`, `figures` and `record` write what ledger and table hold.
 #![tactic(auto)]
 
 mod script;
@@ -75,6 +75,10 @@ fn carry_out(
             let answer = state.hand_over(entry, person);
             println!(rt; "{text}: {}", Answered(answer.map(|_| "DONE")))?;
         }
+        Line::Clear(month) => {
+            let answer = state.clear(month);
+            println!(rt; "{text}: {}", Answered(answer.map(|_| "DONE")))?;
+        }
         Line::Read(name) => {
             let file: ArrayVec<u8, LONGEST_FILE> = files::read_start(rt, name);
             let answer = state.read(file.as_slice());
@@ -93,9 +97,9 @@ fn carry_out(
         Line::Back => *state = *kept,
         Line::Show => print!(rt; "{}", state.lines())?,
         Line::Figures => println!(rt; "{}", Figures(&state.ledger))?,
-        Line::Entry(number) => {
-            if let Some(entry) = state.entry(number) {
-                println!(rt; "{entry}")?;
+        Line::Record(place) => {
+            if let Some(record) = state.record(place) {
+                println!(rt; "{record}")?;
             }
         }
     }

@@ -9,6 +9,8 @@ pub enum Line<'a> {
     PayOut { entry: u32, amount: u64 },
     // `hand-over ENTRY PERSON`
     HandOver { entry: u32, person: u32 },
+    // `clear MONTH`
+    Clear(u16),
     // `read FILE`
     Read(&'a str),
     // `write to SIZE bytes`
@@ -25,10 +27,10 @@ pub enum Line<'a> {
     // `keep`, and `back` to what was kept
     Keep,
     Back,
-    // `show`, `figures`, `entry ENTRY`: what ledger and table hold
+    // `show`, `figures`, `record PLACE`: what ledger and table hold
     Show,
     Figures,
-    Entry(usize),
+    Record(usize),
 }
 
 impl<'a> Line<'a> {
@@ -55,6 +57,7 @@ impl<'a> Line<'a> {
                     person: person.parse().ok()?,
                 }
             }
+            "clear" => Line::Clear(rest.parse().ok()?),
             "read" => Line::Read(rest),
             "write" => {
                 let size = rest.strip_prefix("to ")?.strip_suffix(" bytes")?;
@@ -69,7 +72,7 @@ impl<'a> Line<'a> {
             "back" => Line::Back,
             "show" => Line::Show,
             "figures" => Line::Figures,
-            "entry" => Line::Entry(rest.parse().ok()?),
+            "record" => Line::Record(rest.parse().ok()?),
             _ => return None,
         };
         Some(parsed)

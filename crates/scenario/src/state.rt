@@ -2,7 +2,7 @@
 use calls::answers::{AcceptAnswer, Answer};
 use ledger::limits::{MOST_ENTRIES, Parties};
 use ledger::records::{Ledger, Party};
-use ledger_text::records::{LedgerLines, Numbered};
+use ledger_text::records::{LedgerLines, Shown};
 use stored::writing::Written;
 use tagged::file::FileAnswer;
 
@@ -43,6 +43,11 @@ impl State {
         pioneer::hand_over(&self.ledger, table, entry, person)
     }
 
+    pub fn clear(&mut self, month: u16) -> Answer {
+        let table = table(&mut self.parties, self.room);
+        pioneer::clear(&mut self.ledger, table, month)
+    }
+
     // What is read; a new ledger with no entries where the reading is refused.
     pub fn read(&mut self, file: &[u8]) -> FileAnswer {
         *self = State::new();
@@ -54,10 +59,9 @@ impl State {
         pioneer::write(&self.ledger, &self.parties[..records], out)
     }
 
-    // None where no record has this number.
-    pub fn entry(&self, number: usize) -> Option<Numbered<&Party>> {
-        let record = self.parties.get(number.checked_sub(1)?)?;
-        Some(Numbered { number, record })
+    // The record in this place, counted from 1, whether or not it is an entry; none where there is no such place.
+    pub fn record(&self, place: usize) -> Option<Shown<&Party>> {
+        self.parties.get(place.checked_sub(1)?).map(Shown)
     }
 
     pub fn lines(&self) -> LedgerLines<'_> {

@@ -1,3 +1,4 @@
+pub mod Numbered
 pub mod Layout
 pub mod Form
 pub mod PartsWith
@@ -8,6 +9,12 @@ pub mod StoredAccepted
 pub mod ReadLedger
 pub mod SameForm
 pub mod Writing
+pub mod ReadFits
+pub mod Places
 pub mod RoundTrips
+pub mod Moves
 pub mod StoredEnding
 pub mod Promises
+pub mod MoveEnds
+pub mod MoveValues
+pub mod OldSound

@@ -1,4 +1,5 @@
 pub mod StoredEnding
 pub mod Stored
+pub mod Moves
 pub mod Form
 pub mod StoredRows

@@ -30,6 +30,7 @@ use Rattle.stored.specs.Writing.{output_by, write_of}
 use Rattle.stored.specs.FormOutput.{form_end}
 use Rattle.stored.proofs.Theorems.Writing.{write_sound}
 use Rattle.stored.proofs.Theorems.SameForm.{same_form}
+use Rattle.stored.specs.declared.form.Form.TheVariants.{Pio2}
 use Rattle.stored_calls.specs.StoredCalls.{stored_read, end_by, call_on_read, stored_call_of}
 use Rattle.stored_calls.proofs.Theorems.StoredCalls.{length_room}
 use Rattle.stored_calls.proofs.Theorems.StoredCallsRefusals.{places_read, sound_read}
@@ -46,34 +47,34 @@ at_start_within elements others room fits =
 
 -- what is read into a new ledger and its records, by the answer
 pub reads : (file : List ℕ) (room : ℕ) {fresh : Ledger} {records : ℕ} → fresh ≡ new_ledger → records ≡ min room most_entries →
-    (answer : FileAnswer) (parties : List Party) (ledger : Ledger) → of_reading answer ledger parties ≡ read_back fresh records file →
+    (answer : FileAnswer) (parties : List Party) (ledger : Ledger) → of_reading answer ledger parties ≡ read_back Pio2 fresh records file →
     MatchResult answer (λ _. stored_read file room ≡ record { answer = Ok tt; ledger = ledger; table = take room parties })
     (λ refusal. (stored_read file room).answer ≡ Err refusal)
 unfolding stored_read
 reads file room new few answer parties ledger e =
-    by_answer answer (read_answer (min room most_entries) file) refl (e ∙ ap₂ (λ ledger records. read_back ledger records file) new few)
+    by_answer answer (read_answer Pio2 (min room most_entries) file) refl (e ∙ ap₂ (λ ledger records. read_back Pio2 ledger records file) new few)
   where
     s : List ℕ
     s = fields_part file
 
-    by_room : stored_read file room ≡ table_by (read_answer (min room most_entries) file) new_ledger (take room no_parties) s
-    by_room = ap (λ records. table_by (read_answer records file) new_ledger (take room no_parties) s) (length_room room)
+    by_room : stored_read file room ≡ table_by (read_answer Pio2 (min room most_entries) file) new_ledger (take room no_parties) s
+    by_room = ap (λ records. table_by (read_answer Pio2 records file) new_ledger (take room no_parties) s) (length_room room)
 
-    by_answer : (answer comes : FileAnswer) → read_answer (min room most_entries) file ≡ comes → of_reading answer ledger parties ≡ read_by comes new_ledger s →
+    by_answer : (answer comes : FileAnswer) → read_answer Pio2 (min room most_entries) file ≡ comes → of_reading answer ledger parties ≡ read_by Pio2 comes new_ledger s →
         MatchResult answer (λ _. stored_read file room ≡ record { answer = Ok tt; ledger = ledger; table = take room parties })
         (λ refusal. (stored_read file room).answer ≡ Err refusal)
     by_answer (Ok _) (Ok _) stands e =
-        let fits = (accepted_means (min room most_entries) file stands).fits in
+        let fits = (accepted_means Pio2 (min room most_entries) file stands).fits in
         by_room ∙ ap (λ answer. table_by answer new_ledger (take room no_parties) s) stands
-        ∙ ap (λ table. record { answer = Ok tt; ledger = stored_ledger s; table = table })
-        (sym (at_start_within (stored_entries s) no_parties room (omega (arith, fits))))
+        ∙ ap (λ table. record { answer = Ok tt; ledger = stored_ledger Pio2 s; table = table })
+        (sym (at_start_within (stored_entries Pio2 s) no_parties room (omega (arith, fits))))
         ∙ (λ i. record { answer = Ok tt; ledger = (sym e i).ledger; table = take room (sym e i).parties })
     by_answer (Ok _) (Err r) refused e = let apart = ap (λ (read : ReadBack). read.answer) e in cc
     by_answer (Err r) comes is e =
         ap (λ (end : ReadEnd). end.answer) (by_room ∙ ap (λ answer. table_by answer new_ledger (take room no_parties) s) is)
         ∙ told comes e
       where
-        told : (comes : FileAnswer) → refused_read r ledger ≡ read_by comes new_ledger s → (table_by comes new_ledger (take room no_parties) s).answer ≡ Err r
+        told : (comes : FileAnswer) → refused_read r ledger ≡ read_by Pio2 comes new_ledger s → (table_by comes new_ledger (take room no_parties) s).answer ≡ Err r
         told (Ok _) e = sym (ap (λ (read : ReadBack). read.answer) e)
         told (Err other) e = sym (ap (λ (read : ReadBack). read.answer) e)
 
@@ -81,13 +82,13 @@ reads file room new few answer parties ledger e =
 
 -- a ledger that is sound with a table is written from any list with the same entries
 form_of_sound : (ledger : Ledger) (parties table : List Party) (out : List ℕ) → take ledger.entries parties ≡ take ledger.entries table →
-    sound ledger table (length table) ≡ true → form_end ledger parties out ≡ write_of ledger table out
+    sound ledger table (length table) ≡ true → form_end Pio2 ledger parties out ≡ write_of ledger table out
 form_of_sound ledger parties table out entries holds =
-    let form : stored_form ledger parties ≡ stored_form ledger table = same_form parties table refl entries in
+    let form : stored_form Pio2 ledger parties ≡ stored_form Pio2 ledger table = same_form Pio2 parties table refl entries in
     ap₂ (λ form answer. record { answer = answer; output = output_by answer form out }) form (rw form (sym (write_sound ledger table (length table) out holds)))
 
 -- a new ledger has no entries, so it is written from no records as from empty ones
-pub new_form : (out : List ℕ) → form_end new_ledger [] out ≡ write_of new_ledger no_parties out
+pub new_form : (out : List ℕ) → form_end Pio2 new_ledger [] out ≡ write_of new_ledger no_parties out
 new_form out = form_of_sound new_ledger [] no_parties out refl (new_ledger_sound no_parties (length no_parties))
 
 -- ---- a call once the ledger is read
@@ -117,12 +118,12 @@ module _ (file : List ℕ) {room : ℕ} {ledger : Ledger} {parties : List Party}
       ∙ call_keeps_sound before call places fits (sound_here file room ledger parties same))
 
   pub counts_kept : (after.count ≤ most_schemes) × (after.entries ≤ most_entries)
-  counts_kept = let means = sound_means after (take room left) (length (take room left)) kept in (means.schemes, means.entries)
+  counts_kept = let means = sound_means after (take room left) (length (take room left)) kept in (means.figures.schemes, means.figures.entries)
 
-  pub call_ends : (out : List ℕ) → end_by answer (form_end after left out) out ≡ stored_call_of file room call out
+  pub call_ends : (out : List ℕ) → end_by answer (form_end Pio2 after left out) out ≡ stored_call_of file room call out
   call_ends out =
       let means = sound_means after (take room left) (length (take room left)) kept in
-      let entries = take-take after.entries room left (omega (arith, means.in_table, length-take room left)) in
+      let entries = take-take after.entries room left (omega (arith, means.figures.in_table, length-take room left)) in
       ap (λ written. end_by answer written out) (form_of_sound after left (take room left) out (sym entries) kept)
       ∙ (λ i. end_by (promised_answers _ _ _ _ promise.promised i) (write_of (promise.promised.leaving i).ledger (promise.promised.leaving i).table out) out)
       ∙ ap (λ end. call_on_read end call out) (sym same)

@@ -1,10 +1,9 @@
 -- A request that comes as far as 9.
-use Rattle.std.specs.Prelude.{◌<◌, ◌≤◌, ◌≡◌, [], ◌∷◌, false, length, leb}
+use Rattle.std.specs.Prelude.{◌<◌, ◌≤◌, ◌≡◌, false, length}
 use Rattle.charge.specs.declared.Bill.{Bill}
-use Rattle.ledger.specs.Limits.{most_schemes, most_connections}
-use Rattle.ledger.specs.Sound.{all_hold}
+use Rattle.ledger.specs.Limits.{most_connections}
 use Rattle.ledger.specs.Books.{Books}
-use Rattle.calls.specs.Verdict.{course_of, entries_needed}
+use Rattle.calls.specs.Verdict.{course_of, schemes_lacking, entries_needed}
 
 -- ---- 9, where an entry is needed and the table has none left
 
@@ -13,5 +12,5 @@ pub record EntryNeeded (books : Books) (bill : Bill) : Type 0 where
   pub connections : books.connections < most_connections
   pub month : books.month ≤ bill.applicant.month
   pub opened : bill.applicant.scheme < books.next_scheme
-  pub place_left : all_hold ((course_of books bill).opens ∷ leb most_schemes (length books.schemes) ∷ []) ≡ false
+  pub place_left : schemes_lacking (length books.schemes) books.next_scheme (course_of books bill).opens ≡ false
   pub needed : 1 ≤ entries_needed (course_of books bill)

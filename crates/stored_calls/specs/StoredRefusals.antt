@@ -2,7 +2,7 @@
 -- writing's.
 use Rattle.std.specs.Prelude.{ℕ, List, [], ◌∷◌, Bool, true, false}
 use Rattle.tagged.specs.Refusals.{file_does_not_walk, check_differs, value_not_listed, zone_not_in_book, bespoke_not_allowed, scheme_never_opened, month_before_last, no_scheme_left, no_entry_left, no_connection_left, no_such_entry, pay_out_above_credit, ledger_unsound, output_too_short}
-use Rattle.calls.specs.Decision.{Call, accept, pay_out, hand_over}
+use Rattle.calls.specs.Decision.{Call, accept, pay_out, hand_over, clear}
 use Rattle.stored_calls.specs.StoredCalls.{StoredCallAnswer, not_read, not_made, made_accepted, made_done}
 
 -- ---- an answer that is no success: the output is as it was
@@ -38,3 +38,4 @@ stored_numbers (accept book request) =
 stored_numbers (pay_out e amount) =
     file_does_not_walk ∷ check_differs ∷ value_not_listed ∷ no_entry_left ∷ no_such_entry ∷ pay_out_above_credit ∷ ledger_unsound ∷ output_too_short ∷ []
 stored_numbers (hand_over e person) = file_does_not_walk ∷ check_differs ∷ value_not_listed ∷ no_entry_left ∷ no_such_entry ∷ ledger_unsound ∷ output_too_short ∷ []
+stored_numbers (clear month) = file_does_not_walk ∷ check_differs ∷ value_not_listed ∷ month_before_last ∷ no_entry_left ∷ ledger_unsound ∷ output_too_short ∷ []

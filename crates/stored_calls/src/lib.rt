@@ -1,4 +1,4 @@
-// The calls on a pioneer ledger that is kept as its stored bytes: document 01, 'Ledger calls' and 'Stored form'. The bytes are read
+// The calls on a pioneer ledger that is kept as its stored bytes: document 01, 'Ledger calls' and 'Stored form', and document 02, E8 and E9. The bytes are read
 // into a table of `room` records, MOST_ENTRIES where that is more, the call is made on it, and the new form goes to the start of a lent
 // buffer. In turn: reading's refusals, the call's, and 14 where the buffer is shorter than the new form. A refusal leaves the
 // buffer as it was. Reading finds the ledger sound, and the call leaves it so: neither tests it again.
@@ -7,14 +7,16 @@
 ghost use Rattle.std.specs.Prelude.{◌≡◌, ◌≤◌, take, MatchResult, Ok, Err};
 ghost use Rattle.ledger.specs.Limits.{most_schemes, most_entries};
 ghost use Rattle.ledger.specs.Records.{no_parties, new_ledger};
-ghost use Rattle.calls.specs.Decision.{accept, pay_out, hand_over, of_accept, of_entry_call};
+ghost use Rattle.calls.specs.Decision.{accept, pay_out, hand_over, clear, of_accept, of_entry_call};
 ghost use Rattle.stored.specs.FormOutput.{form_end};
+ghost use Rattle.stored.specs.declared.form.Form.TheVariants.{Pio2};
 ghost use Rattle.stored_calls.specs.StoredCalls.{of_stored_accept, of_stored_answer, stored_read, end_by, stored_call_of, new_stored_of, counts_of, check_stored_of};
 ghost use Rattle.stored_calls.specs.StoredPromises.{StoredPromised, CheckPromised};
 
 use calls::answers::{AcceptAnswer, Acceptance, Answer};
 use ledger::limits::Parties;
 use ledger::records::Ledger;
+use stored::form::Form;
 use tagged::file::{FileAnswer, Refusal};
 
 // The new form's length with the acceptance.
@@ -49,7 +51,13 @@ fn read_stored(ledger: &mut Ledger, parties: &mut Parties, room: usize, file: &[
         (λ _. stored_read file.now room ≡ record { answer = Ok tt; ledger = ledger.new; table = take room parties.new })
         (λ refusal. (stored_read file.now room).answer ≡ Err refusal) }
 {
-    stored_reading::read(ledger, parties, calls_on_records::records_of(room), file)
+    stored_reading::read(
+        Form::Pio2,
+        ledger,
+        parties,
+        calls_on_records::records_of(room),
+        file,
+    )
 }
 
 // The ledger and the table after an accept, which alone has an acceptance to hand back beside the length: one function for this and
@@ -61,15 +69,16 @@ fn write_accepted(
     out: &mut [u8],
 ) -> Result<StoredAcceptance, StoredRefusal>
     requires { (ledger.now.count ≤ most_schemes) × (ledger.now.entries ≤ most_entries) }
-    ensures result_value { of_stored_accept result ≡ (end_by (of_accept answer) (form_end ledger.now parties.now out.old) out.old).answer }
-    ensures out_after { out.new ≡ (end_by (of_accept answer) (form_end ledger.now parties.now out.old) out.old).output }
+    ensures result_value { of_stored_accept result ≡ (end_by (of_accept answer) (form_end Pio2 ledger.now parties.now out.old) out.old).answer }
+    ensures out_after { out.new ≡ (end_by (of_accept answer) (form_end Pio2 ledger.now parties.now out.old) out.old).output }
 {
     let acceptance = answer.map_err(StoredRefusal::NotMade)?;
-    let length = stored_writing::write_form(ledger, parties, out).map_err(StoredRefusal::NotMade)?;
+    let written = stored_writing::write_form(Form::Pio2, ledger, parties, out);
+    let length = written.map_err(StoredRefusal::NotMade)?;
     Ok(StoredAcceptance { acceptance, length })
 }
 
-// The ledger, which the other calls leave as it is, with the table after a call.
+// The ledger and the table after one of the other calls.
 fn write_changed(
     answer: Answer,
     ledger: &Ledger,
@@ -77,14 +86,14 @@ fn write_changed(
     out: &mut [u8],
 ) -> Result<usize, StoredRefusal>
     requires { (ledger.now.count ≤ most_schemes) × (ledger.now.entries ≤ most_entries) }
-    ensures result_value { of_stored_answer result ≡ (end_by (of_entry_call answer) (form_end ledger.now parties.now out.old) out.old).answer }
-    ensures out_after { out.new ≡ (end_by (of_entry_call answer) (form_end ledger.now parties.now out.old) out.old).output }
+    ensures result_value { of_stored_answer result ≡ (end_by (of_entry_call answer) (form_end Pio2 ledger.now parties.now out.old) out.old).answer }
+    ensures out_after { out.new ≡ (end_by (of_entry_call answer) (form_end Pio2 ledger.now parties.now out.old) out.old).output }
 {
     answer.map_err(StoredRefusal::NotMade)?;
-    stored_writing::write_form(ledger, parties, out).map_err(StoredRefusal::NotMade)
+    stored_writing::write_form(Form::Pio2, ledger, parties, out).map_err(StoredRefusal::NotMade)
 }
 
-// Each of the three calls reads, decides and writes, a line for each: one function over a closure for the decision would be no shorter.
+// Each of the calls reads, decides and writes, a line for each: one function over a closure for the decision would be no shorter.
 // File and room go side by side, as C hands them over: a pair would be made for one call and taken apart in `read_stored`.
 #[tactic(auto, using(crate::proofs::Ends::sound_here, crate::proofs::Ends::places_here, crate::proofs::Ends::counts_kept, crate::proofs::Ends::call_ends, crate::proofs::Theorems::StoredPromises::stored_promise))]
 pub fn accept_stored(
@@ -137,13 +146,29 @@ pub fn hand_over_stored(
     write_changed(answer, &ledger, &parties, out)
 }
 
+#[tactic(auto, using(crate::proofs::Ends::sound_here, crate::proofs::Ends::places_here, crate::proofs::Ends::counts_kept, crate::proofs::Ends::call_ends, crate::proofs::Theorems::StoredPromises::stored_promise))]
+pub fn clear_stored(
+    file: &[u8],
+    room: usize,
+    month: u16,
+    out: &mut [u8],
+) -> Result<usize, StoredRefusal>
+    ensures { StoredPromised (stored_call_of file.now room (clear month) out.old) (of_stored_answer result) out.new }
+{
+    let mut ledger = ledger::records::new_ledger();
+    let mut parties = ledger::records::no_parties();
+    read_stored(&mut ledger, &mut parties, room, file).map_err(StoredRefusal::NotRead)?;
+    let answer = calls_on_records::clear_sound(&mut ledger, &mut parties, room, month);
+    write_changed(answer, &ledger, &parties, out)
+}
+
 // The stored form of a new ledger, which every list of calls starts from.
 #[tactic(auto, using(crate::proofs::Ends::new_form, crate::proofs::Theorems::StoredPromises::new_promise))]
 pub fn new_stored(out: &mut [u8]) -> Result<usize, StoredRefusal>
     ensures { StoredPromised (new_stored_of out.old) (of_stored_answer result) out.new }
 {
     let ledger = ledger::records::new_ledger();
-    stored_writing::write_form(&ledger, &[], out).map_err(StoredRefusal::NotMade)
+    stored_writing::write_form(Form::Pio2, &ledger, &[], out).map_err(StoredRefusal::NotMade)
 }
 
 impl From<&Ledger> for StoredCounts {

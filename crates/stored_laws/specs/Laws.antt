@@ -1,8 +1,8 @@
 -- The laws that the functions of src/ are there for, one statement each; the proofs stand beside the definitions that they are of.
 use Rattle.std.specs.Prelude.{ℕ, min, ◌<◌, ◌≤◌, ◌≡◌, List, true, false, length, take, Err, Ok, is_ok}
 use Rattle.numbers.specs.BigEndian.{Bytes}
-use Rattle.tagged.specs.Refusals.{no_entry_left, output_too_short}
-use Rattle.tagged.specs.File.{refusal, FileAnswer}
+use Rattle.tagged.specs.Refusals.{no_entry_left, ledger_unsound, output_too_short}
+use Rattle.tagged.specs.File.{fields_part, refusal, FileAnswer}
 use Rattle.tagged.specs.EndingTests.{number_is_0}
 use Rattle.tagged.specs.FileEnding.{file_ending}
 use Rattle.tagged.specs.declared.file.Refusal.{Refusal}
@@ -10,17 +10,25 @@ use Rattle.charge.specs.Price.{price_of}
 use Rattle.charge.specs.declared.Bill.{Bill}
 use Rattle.ledger.specs.Limits.{most_entries}
 use Rattle.ledger.specs.Lists.{at_start}
+use Rattle.ledger.specs.Records.{no_parties}
 use Rattle.ledger.specs.declared.records.Party.{Party}
 use Rattle.ledger.specs.declared.records.Ledger.{Ledger}
 use Rattle.calls.specs.Decision.{Call, accept, is_refused}
-use Rattle.calls.specs.Carried.{books_on}
+use Rattle.calls.specs.Carried.{books_on, entries_on}
 use Rattle.calls.specs.Calls.{state_of, answered, leaves, Fits}
 use Rattle.stored.specs.FormFields.{FormFits}
-use Rattle.stored.specs.Reading.{read_answer, read_of}
-use Rattle.stored.specs.RefusedWith.{ReadRefuses, WriteRefuses}
+use Rattle.stored.specs.Reading.{form_of_file, read_answer, read_of}
+use Rattle.stored.specs.Form.{stored_entries, stored_ledger}
+use Rattle.stored.specs.FormOutput.{form_end}
+use Rattle.stored.specs.MoveLaws.{written_of, ComesBack, SameValues}
+use Rattle.stored.specs.Moves.{move_to_new, move_back}
+use Rattle.stored.specs.OldSound.{old_sound}
+use Rattle.stored.specs.RefusedWith.{ReadRefuses, RefusesWith, WriteRefuses, moving_numbers, moving_back_numbers}
 use Rattle.stored.specs.StoredEnding.{is_written, written_ending}
 use Rattle.stored.specs.Promises.{ReadPromised, WritePromised}
 use Rattle.stored.specs.Writing.{Written, written_answer, write_of}
+use Rattle.stored.specs.declared.form.Form.{Form}
+use Rattle.stored.specs.declared.form.Form.TheVariants.{Pion, Pio2}
 use Rattle.stored_calls.specs.StoredCalls.{StoredCheck, StoredCallAnswer, not_read, not_made, stored_read, stored_call_of, new_stored_of, check_stored_of}
 use Rattle.stored_calls.specs.StoredCallEnding.{stored_call_ending, stored_check_ending, is_sound}
 use Rattle.stored_calls.specs.StoredPromises.{StoredPromised, CheckPromised}
@@ -53,7 +61,7 @@ StoredLedgersDiffer =
 
 -- ---- reading and writing: the numbers of their refusals, which change nothing
 abbrev pub ReadRefusalNumbers : Type 0
-ReadRefusalNumbers = (room : ℕ) (file : List ℕ) → ReadRefuses (read_answer room file)
+ReadRefusalNumbers = (form : Form) (room : ℕ) (file : List ℕ) → ReadRefuses (read_answer form room file)
 
 abbrev pub RefusedReadChangesNothing : Type 0
 RefusedReadChangesNothing =
@@ -69,7 +77,7 @@ RefusedWriteChangesNothing =
 
 -- their endings: number 0 exactly where they are done, and two different answers never end alike
 abbrev pub ReadByNumber : Type 0
-ReadByNumber = (room : ℕ) (file : List ℕ) → number_is_0 (file_ending (read_answer room file)) ≡ is_ok (read_answer room file)
+ReadByNumber = (room : ℕ) (file : List ℕ) → number_is_0 (file_ending (read_answer Pio2 room file)) ≡ is_ok (read_answer Pio2 room file)
 
 abbrev pub WriteByNumber : Type 0
 WriteByNumber =
@@ -93,6 +101,53 @@ abbrev pub PromisedWriting : Type 0
 PromisedWriting =
     (ledger : Ledger) (table : List Party) (out : List ℕ) (answer : Written) (output : List ℕ) →
     WritePromised (write_of ledger table out) answer output → answer ≡ (write_of ledger table out).answer
+
+-- ---- the moves: "Old to new to old gives the old bytes", refused by nothing but 14, and so the other way round
+abbrev pub MovedAndBack : Type 0
+MovedAndBack =
+    (file out : List ℕ) (size : ℕ) → Bytes file → (move_to_new file out).answer ≡ Ok size → ComesBack move_back (written_of size (move_to_new file out)) file
+
+abbrev pub BackAndMoved : Type 0
+BackAndMoved =
+    (file out : List ℕ) (size : ℕ) → Bytes file → (move_back file out).answer ≡ Ok size → ComesBack move_to_new (written_of size (move_back file out)) file
+
+-- "Either way, all that both forms hold stays the same."
+abbrev pub MoveKeepsValues : Type 0
+MoveKeepsValues = (file out : List ℕ) (size : ℕ) → Bytes file → (move_to_new file out).answer ≡ Ok size → SameValues file (written_of size (move_to_new file out))
+
+abbrev pub MoveBackKeepsValues : Type 0
+MoveBackKeepsValues = (file out : List ℕ) (size : ℕ) → Bytes file → (move_back file out).answer ≡ Ok size → SameValues (written_of size (move_back file out)) file
+
+-- an old file is refused with 13 exactly where document 01's soundness, by places, fails
+abbrev pub OldSound : Type 0
+OldSound =
+    (file out : List ℕ) → form_of_file Pion file ≡ Ok tt →
+    let s = fields_part file in
+    let sound = old_sound (stored_ledger Pion s) (stored_entries Pion s) most_entries in
+    (sound ≡ false → move_to_new file out ≡ record { answer = Err (refusal ledger_unsound 0 0); output = out })
+    × (sound ≡ true → move_to_new file out ≡ form_end Pio2 (stored_ledger Pion s) (stored_entries Pion s) out)
+
+-- the numbers of their refusals, which change nothing
+abbrev pub MoveRefusalNumbers : Type 0
+MoveRefusalNumbers = (file out : List ℕ) → RefusesWith moving_numbers (move_to_new file out).answer × RefusesWith moving_back_numbers (move_back file out).answer
+
+abbrev pub RefusedMoveChangesNothing : Type 0
+RefusedMoveChangesNothing =
+    (file out : List ℕ) (r : Refusal) →
+    ((move_to_new file out).answer ≡ Err r → (move_to_new file out).output ≡ out) × ((move_back file out).answer ≡ Err r → (move_back file out).output ≡ out)
+
+-- their endings: number 0 exactly where they are done, and what they promise tells their answers
+abbrev pub MoveByNumber : Type 0
+MoveByNumber =
+    (file out : List ℕ) →
+    (number_is_0 (written_ending (move_to_new file out).answer) ≡ is_written (move_to_new file out).answer)
+    × (number_is_0 (written_ending (move_back file out).answer) ≡ is_written (move_back file out).answer)
+
+abbrev pub PromisedMove : Type 0
+PromisedMove =
+    (file out : List ℕ) (answer : Written) (output : List ℕ) →
+    (WritePromised (move_to_new file out) answer output → answer ≡ (move_to_new file out).answer)
+    × (WritePromised (move_back file out) answer output → answer ≡ (move_back file out).answer)
 
 -- ---- the calls on stored bytes: the numbers of their refusals, which change no byte of the output
 abbrev pub StoredRefusalNumbers : Type 0
@@ -138,14 +193,14 @@ FullTableRefused =
     EntryNeeded (books_on (state_of (stored_read file room).ledger (stored_read file room).table)) bill →
     stored_call_of file room (accept book request) out ≡ record { answer = not_made (refusal no_entry_left 0 0); output = out }
 
--- what a done call wrote reads back as the ledger and the table that it leaves
+-- what a done call wrote reads back as the ledger and the entries that it leaves
 abbrev pub CallReadsBack : Type 0
 CallReadsBack =
     (file : List ℕ) (room : ℕ) (call : Call) (out : List ℕ) → Bytes file → Fits call →
     let end = stored_call_of file room call out in
     let after = leaves (state_of (stored_read file room).ledger (stored_read file room).table) call in
     is_made end.answer ≡ true →
-    stored_read (take (length_in end.answer) end.output) room ≡ record { answer = Ok tt; ledger = after.ledger; table = after.table }
+    stored_read (take (length_in end.answer) end.output) room ≡ record { answer = Ok tt; ledger = after.ledger; table = at_start (entries_on after) (take room no_parties) }
 
 -- ---- their endings
 abbrev pub StoredByNumber : Type 0

@@ -2,7 +2,7 @@
 // Each function is there for its contract alone, a law on the definitions of the crates below.
 #![tactic(auto)]
 
-ghost use Rattle.stored_laws.specs.Laws.{CallReadsBack, CheckByEnding, CheckByNumber, FullTableRefused, LongTableReads, NewByNumber, NewRefusedChangesNothing, PromisedCheck, PromisedNew, PromisedReading, PromisedStored, PromisedWriting, ReadByNumber, ReadOfWrite, ReadRefusalNumbers, RefusedReadChangesNothing, RefusedWriteChangesNothing, ShortTableCallRefused, ShortTableRefused, StoredByNumber, StoredLedgersDiffer, StoredRefusalNumbers, StoredRefused14, StoredRefusedChangesNothing, WriteByEnding, WriteByNumber, WriteOfRead, WriteRefusalNumbers};
+ghost use Rattle.stored_laws.specs.Laws.{BackAndMoved, CallReadsBack, CheckByEnding, CheckByNumber, FullTableRefused, LongTableReads, MoveBackKeepsValues, MoveByNumber, MoveKeepsValues, MoveRefusalNumbers, MovedAndBack, NewByNumber, NewRefusedChangesNothing, OldSound, PromisedCheck, PromisedMove, PromisedNew, PromisedReading, PromisedStored, PromisedWriting, ReadByNumber, ReadOfWrite, ReadRefusalNumbers, RefusedMoveChangesNothing, RefusedReadChangesNothing, RefusedWriteChangesNothing, ShortTableCallRefused, ShortTableRefused, StoredByNumber, StoredLedgersDiffer, StoredRefusalNumbers, StoredRefused14, StoredRefusedChangesNothing, WriteByEnding, WriteByNumber, WriteOfRead, WriteRefusalNumbers};
 
 /// A written ledger reads back as itself, an accepted file writes back as the same bytes, and no two files are one ledger.
 #[tactic(auto, using(stored::proofs::Theorems::RoundTrips::read_of_write, stored::proofs::Theorems::RoundTrips::write_of_read, stored::proofs::Theorems::RoundTrips::stored_ledgers_differ))]
@@ -31,6 +31,33 @@ pub fn writing_ends()
     ensures promised { PromisedWriting }
 {}
 
+/// What one move between the forms has written the other brings back to the same bytes, and refuses with nothing but 14.
+#[tactic(auto, using(stored::proofs::Theorems::Moves::moved_and_back, stored::proofs::Theorems::Moves::back_and_moved))]
+pub fn moves_bring_back()
+    ensures to_new { MovedAndBack }
+    ensures back { BackAndMoved }
+{}
+
+/// Either move keeps month, connections, both sums, and the six values of each scheme and of each entry.
+pub fn moves_keep_values()
+    ensures to_new { MoveKeepsValues }
+    ensures back { MoveBackKeepsValues }
+{}
+
+/// The move to the new form judges document 01's soundness, no more and no less.
+#[tactic(auto, using(stored::proofs::Theorems::OldSound::old_sound_judged))]
+pub fn old_sound()
+    ensures { OldSound }
+{}
+
+/// The moves refuse with their numbers alone and then change nothing; their endings tell their answers.
+pub fn moves_end()
+    ensures numbers { MoveRefusalNumbers }
+    ensures nothing { RefusedMoveChangesNothing }
+    ensures done { MoveByNumber }
+    ensures promised { PromisedMove }
+{}
+
 /// A refused call on stored bytes has one of its numbers and changes no byte of the output; 14 alone comes after the call.
 #[tactic(auto, using(stored_calls::proofs::Theorems::StoredCalls::stored_refusal_numbers, stored_calls::proofs::Theorems::StoredCalls::stored_refused_changes_nothing, stored_calls::proofs::Theorems::StoredCalls::new_refused_changes_nothing, stored_calls::proofs::Theorems::StoredCallsRefusals::stored_refused_14))]
 pub fn stored_calls_refused()
@@ -49,7 +76,7 @@ pub fn table_lengths()
     ensures full { FullTableRefused }
 {}
 
-/// What a done call on stored bytes wrote reads back as what it leaves.
+/// What a done call on stored bytes wrote reads back as the ledger and the entries that it leaves.
 #[tactic(auto, using(stored_calls::proofs::Theorems::StoredCallsReadBack::call_reads_back))]
 pub fn calls_read_back()
     ensures { CallReadsBack }

@@ -1,8 +1,9 @@
-// Reads the stored ledgers in data/, sound and damaged, and writes back those that stand.
+// Reads the stored ledgers in data/, sound and damaged, writes back those that stand, and moves them between the forms.
 //
 // A line for each: the file and the table's length; what reading came to, with schemes, entries and
 // connections, or the refusal; the output's length; what writing came to, with the form's length and
-// whether it is the file, or the refusal.
+// whether it is the file, or the refusal. Then a line for each move: the file, to which form, the output's length, and
+// what it came to.
 #![tactic(auto)]
 
 use arrayvec::ArrayVec;
@@ -11,6 +12,7 @@ use ledger::limits::{MOST_ENTRIES, Parties};
 use ledger::records::Ledger;
 use std::rt::Files;
 use std::{fmt, io};
+use stored::form::Form;
 use stored::lengths::LONGEST_FORM;
 use tagged::file::Refusal;
 
@@ -18,11 +20,12 @@ use tagged::file::Refusal;
 const READ_SIZE: usize = 65_536;
 
 // A file, how many records the table has, and how many bytes the output.
-const FILES: [(&str, usize, usize); 14] = [
+const FILES: [(&str, usize, usize); 18] = [
     ("new.bin", 0, LONGEST_FORM),
     ("one_scheme.bin", 2, LONGEST_FORM),
     ("one_scheme.bin", MOST_ENTRIES, LONGEST_FORM),
     ("full.bin", MOST_ENTRIES, LONGEST_FORM),
+    ("cleared.bin", 1, LONGEST_FORM),
     // refused
     ("missing.bin", MOST_ENTRIES, LONGEST_FORM),
     ("truncated.bin", MOST_ENTRIES, LONGEST_FORM),
@@ -32,9 +35,41 @@ const FILES: [(&str, usize, usize); 14] = [
     ("one_scheme.bin", 1, LONGEST_FORM),
     ("full.bin", MOST_ENTRIES - 1, LONGEST_FORM),
     ("fees_off_by_one.bin", MOST_ENTRIES, LONGEST_FORM),
+    ("cleared_off_by_one.bin", MOST_ENTRIES, LONGEST_FORM),
+    ("old_letters.bin", MOST_ENTRIES, LONGEST_FORM),
+    ("old_one_scheme.bin", MOST_ENTRIES, LONGEST_FORM),
     // an output as long as the form, and one that is a byte shorter
-    ("one_scheme.bin", 2, 130),
-    ("one_scheme.bin", 2, 129),
+    ("one_scheme.bin", 2, 174),
+    ("one_scheme.bin", 2, 173),
+];
+
+// A file, the form that it moves to, and how many bytes the output; the file that comes out, where one does.
+const MOVES: [(&str, Form, usize, &str); 14] = [
+    ("old_new.bin", Form::Pio2, LONGEST_FORM, "new.bin"),
+    (
+        "old_one_scheme.bin",
+        Form::Pio2,
+        LONGEST_FORM,
+        "one_scheme.bin",
+    ),
+    ("old_full.bin", Form::Pio2, LONGEST_FORM, "full.bin"),
+    ("new.bin", Form::Pion, LONGEST_FORM, "old_new.bin"),
+    (
+        "one_scheme.bin",
+        Form::Pion,
+        LONGEST_FORM,
+        "old_one_scheme.bin",
+    ),
+    ("full.bin", Form::Pion, LONGEST_FORM, "old_full.bin"),
+    // refused
+    ("one_scheme.bin", Form::Pio2, LONGEST_FORM, ""),
+    ("old_fees_off_by_one.bin", Form::Pio2, LONGEST_FORM, ""),
+    ("old_one_scheme.bin", Form::Pio2, 173, ""),
+    ("old_one_scheme.bin", Form::Pion, LONGEST_FORM, ""),
+    ("fees_off_by_one.bin", Form::Pion, LONGEST_FORM, ""),
+    ("cleared.bin", Form::Pion, LONGEST_FORM, ""),
+    ("cleared.bin", Form::Pion, 0, ""),
+    ("one_scheme.bin", Form::Pion, 129, ""),
 ];
 
 // A ledger and its table, the first `room` of the records.
@@ -49,7 +84,7 @@ impl Stored {
     fn read(room: usize, file: &[u8]) -> Result<Stored, Refusal> {
         let mut ledger = ledger::records::new_ledger();
         let mut parties = ledger::records::no_parties();
-        stored_reading::read(&mut ledger, &mut parties, room, file)?;
+        stored_reading::read(Form::Pio2, &mut ledger, &mut parties, room, file)?;
         Ok(Stored {
             ledger,
             parties,
@@ -102,6 +137,35 @@ fn show(rt: &(impl Files + Print), name: &str, room: usize, output: usize) -> io
     }
 }
 
+// Moves a file to a form, and holds what is written against another file.
+fn show_move(
+    rt: &(impl Files + Print),
+    name: &str,
+    form: Form,
+    output: usize,
+    other: &str,
+) -> io::Result<()> {
+    let file: ArrayVec<u8, READ_SIZE> = files::read_start(rt, name);
+    let mut space = [0u8; LONGEST_FORM];
+    let out = &mut space[..output.min(LONGEST_FORM)];
+    let (to, moved) = match form {
+        Form::Pion => ("PION", stored_moves::move_back(file.as_slice(), out)),
+        Form::Pio2 => ("PIO2", stored_moves::move_to_new(file.as_slice(), out)),
+    };
+    print!(rt; "{name} TO {to} OUTPUT {output} ")?;
+    match moved {
+        Err(refusal) => println!(rt; "{}", Refused(refusal)),
+        Ok(size) => {
+            let wanted: ArrayVec<u8, READ_SIZE> = files::read_start(rt, other);
+            let same = out
+                .get(..size)
+                .is_some_and(|form| form == wanted.as_slice());
+            let says = if same { "as" } else { "NOT AS" };
+            println!(rt; "WRITTEN {size} {says} {other}")
+        }
+    }
+}
+
 // A ledger that charged something before any connection.
 fn unsound_ledger() -> Stored {
     let mut ledger = ledger::records::new_ledger();
@@ -116,6 +180,9 @@ fn unsound_ledger() -> Stored {
 fn run(rt: &(impl Files + Print)) -> io::Result<()> {
     for (name, room, output) in FILES {
         show(rt, name, room, output)?;
+    }
+    for (name, form, output, other) in MOVES {
+        show_move(rt, name, form, output, other)?;
     }
     let unsound = unsound_ledger();
     print!(rt; "unsound TABLE {}", unsound.room)?;

@@ -1,7 +1,7 @@
 -- The values of the fields with one tag, as far as the loop over the fields has come.
-use Prim.Native.Nat.{ℕ, ◌+◌, ◌<◌, ◌≤◌}
+use Prim.Native.Nat.{ℕ, suc, ◌+◌, ◌<◌, ◌≤◌}
 use mathlib.Core.Path.{◌≡◌, refl, sym, ap, ap₂, subst, ◌∙◌}
-use mathlib.Core.List.{List, [], ◌∷◌, ◌++◌, map, append_assoc, append-nil, Memᴰ}
+use mathlib.Core.List.{List, [], ◌∷◌, ◌++◌, append_assoc, append-nil, Memᴰ}
 use native.Mathlib.Omega.{arith}
 use lib.ListN.{length, get_or, set, drop, length-append, length-take, length-drop}
 use Rattle.std.specs.Prelude.{true, false}
@@ -20,6 +20,7 @@ use Rattle.tagged.proofs.Theorems.FoundFields.{walk_next, walk_more, walk_fields
 use Rattle.ledger.specs.Limits.{most_entries}
 use Rattle.ledger.specs.Lists.{at_start}
 use Rattle.stored.proofs.Theorems.Layout.{at_start_one_more}
+use Rattle.stored.specs.Numbered.{numbered_from}
 use Rattle.stored.specs.Form.{each_with}
 
 -- of these fields, those with this tag have values of that length
@@ -28,18 +29,18 @@ SizedWith tag size fs = (f : FieldAt) → Memᴰ f fs → f.tag ≡ tag → f.le
 
 -- `done` is what was read of the fields passed, and stands in the first places of `table`; `fs` are the fields of the rest.
 -- In all no more are read than there are places.
-pub record Collected {A : Type 0} (read : List ℕ → A) (tag size : ℕ) (s : List ℕ) (none table : List A) (count : ℕ) (rest : List ℕ) : Type 0 where
+pub record Collected {A : Type 0} (read : ℕ → List ℕ → A) (tag size : ℕ) (s : List ℕ) (none table : List A) (count : ℕ) (rest : List ℕ) : Type 0 where
   pub at : ℕ
   pub fs : List FieldAt
   pub done : List A
   pub rest_is : rest ≡ drop at s
   pub fields : Fields s at fs
   pub sized : SizedWith tag size fs
-  pub all : each_with read tag s (fields_of s) ≡ done ++ each_with read tag s fs
+  pub all : each_with read 1 tag s (fields_of s) ≡ done ++ each_with read (suc (length done)) tag s fs
   pub table_is : table ≡ at_start done none
   pub count_is : count ≡ length done
-  pub few : length (each_with read tag s (fields_of s)) ≤ most_entries
-  pub places : length (each_with read tag s (fields_of s)) ≤ length none
+  pub few : length (each_with read 1 tag s (fields_of s)) ≤ most_entries
+  pub places : length (each_with read 1 tag s (fields_of s)) ≤ length none
 
 -- a whole field has bytes
 whole_has : (s : List ℕ) → whole_field s ≡ true → 0 < length s
@@ -55,9 +56,9 @@ one_left : {s : List ℕ} {at : ℕ} {fs : List FieldAt} → Fields s at fs → 
     (f : FieldAt) × (others : List FieldAt) × (fs ≡ f ∷ others)
 one_left {s} {at} left e = walk_more left (omega (arith, length-drop at s, whole_has (drop at s) e))
 
-module _ {A : Type 0} {read : List ℕ → A} {tag size : ℕ} {s : List ℕ} {none : List A} where
+module _ {A : Type 0} {read : ℕ → List ℕ → A} {tag size : ℕ} {s : List ℕ} {none : List A} where
   pub collect_starts : (rows : List (List ℕ)) → FieldsWalk rows s → SizedWith tag size (fields_of s) →
-      length (each_with read tag s (fields_of s)) ≤ most_entries → length (each_with read tag s (fields_of s)) ≤ length none →
+      length (each_with read 1 tag s (fields_of s)) ≤ most_entries → length (each_with read 1 tag s (fields_of s)) ≤ length none →
       Collected read tag size s none none 0 s
   collect_starts rows (fs, walks) sized few places =
       record {
@@ -76,12 +77,12 @@ module _ {A : Type 0} {read : List ℕ → A} {tag size : ℕ} {s : List ℕ} {n
 
   module _ {table : List A} {count : ℕ} {rest : List ℕ} (so_far : Collected read tag size s none table count rest) where
     pub collect_ends : whole_field rest ≡ false →
-        (table ≡ at_start (each_with read tag s (fields_of s)) none) × (count ≡ length (each_with read tag s (fields_of s)))
+        (table ≡ at_start (each_with read 1 tag s (fields_of s)) none) × (count ≡ length (each_with read 1 tag s (fields_of s)))
     unfolding fields_with
     collect_ends end =
         let over = none_left so_far.fields (ap whole_field (sym so_far.rest_is) ∙ end) in
-        let all : each_with read tag s (fields_of s) ≡ so_far.done =
-        so_far.all ∙ ap (λ fs. so_far.done ++ each_with read tag s fs) over ∙ append-nil so_far.done in
+        let all : each_with read 1 tag s (fields_of s) ≡ so_far.done =
+        so_far.all ∙ ap (λ fs. so_far.done ++ each_with read (suc (length so_far.done)) tag s fs) over ∙ append-nil so_far.done in
         (so_far.table_is ∙ ap (λ done. at_start done none) (sym all), so_far.count_is ∙ ap length (sym all))
 
   module _ {table : List A} {count : ℕ} {rest : Bor (List ℕ)} {field : Field}
@@ -123,7 +124,7 @@ module _ {A : Type 0} {read : List ℕ → A} {tag size : ℕ} {s : List ℕ} {n
           rest_is = after;
           fields = stands.rest;
           sized = sized_after;
-          all = so_far.all ∙ ap (λ fs. so_far.done ++ map (λ g. read (value_of s g)) fs) past;
+          all = so_far.all ∙ ap (λ fs. so_far.done ++ numbered_from (suc (length so_far.done)) (λ k g. read k (value_of s g)) fs) past;
           table_is = so_far.table_is;
           count_is = so_far.count_is;
           few = so_far.few;
@@ -137,22 +138,27 @@ module _ {A : Type 0} {read : List ℕ → A} {tag size : ℕ} {s : List ℕ} {n
           let long : f.len ≡ size = so_far.sized f (subst (Memᴰ f) (sym front.2) (Memᴰ.head refl)) (sym its_tag ∙ here) in
           ap length its_value ∙ simp (length-take, length-drop) (omega (arith, stands.stands.within))
 
-      all_here : each_with read tag s (fields_of s) ≡ so_far.done ++ (read (value_of s f) ∷ each_with read tag s others)
+      abbrev place : ℕ
+      place = suc (length so_far.done)
+
+      all_here : each_with read 1 tag s (fields_of s) ≡ so_far.done ++ (read place (value_of s f) ∷ each_with read (suc place) tag s others)
       all_here =
           so_far.all
-          ∙ ap (λ fs. so_far.done ++ map (λ g. read (value_of s g)) fs)
+          ∙ ap (λ fs. so_far.done ++ numbered_from place (λ k g. read k (value_of s g)) fs)
           (ap (fields_with tag) front.2 ∙ with_this tag f others (sym its_tag ∙ here))
 
       pub collect_room : (count < length none) × (count < most_entries)
       collect_room =
-          let more : count < length (each_with read tag s (fields_of s)) =
-          omega (arith, so_far.count_is, ap length all_here, length-append so_far.done (read (value_of s f) ∷ each_with read tag s others)) in
+          let more : count < length (each_with read 1 tag s (fields_of s)) =
+          omega (arith, so_far.count_is, ap length all_here, length-append so_far.done (read place (value_of s f) ∷ each_with read (suc place) tag s others)) in
           (omega (arith, so_far.places), omega (arith, so_far.few))
 
-      pub collect_one_more : Collected read tag size s none (set table count (read field.value.now)) (count + 1) field.rest.now
+      pub collect_one_more : Collected read tag size s none (set table count (read (count + 1) field.value.now)) (count + 1) field.rest.now
       collect_one_more =
-          let element = read (value_of s f) in
+          let element = read place (value_of s f) in
           let room : length so_far.done < length none = omega (arith, collect_room.0, so_far.count_is) in
+          let next : length (so_far.done ++ (element ∷ [])) ≡ place = omega (arith, length-append so_far.done (element ∷ [])) in
+          let here_is : count + 1 ≡ place = omega (arith, so_far.count_is) in
           record {
             at = so_far.at + (f.len + 3);
             fs = others;
@@ -160,11 +166,13 @@ module _ {A : Type 0} {read : List ℕ → A} {tag size : ℕ} {s : List ℕ} {n
             rest_is = after;
             fields = stands.rest;
             sized = sized_after;
-            all = all_here ∙ sym (append_assoc so_far.done (element ∷ []) (each_with read tag s others));
+            all =
+                all_here ∙ sym (append_assoc so_far.done (element ∷ []) (each_with read (suc place) tag s others))
+                ∙ ap (λ n. (so_far.done ++ (element ∷ [])) ++ each_with read (suc n) tag s others) (sym next);
             table_is =
-                ap (λ value. set table count (read value)) its_value ∙ ap₂ (λ l k. set l k element) so_far.table_is so_far.count_is
+                ap₂ (λ k value. set table count (read k value)) here_is its_value ∙ ap₂ (λ l k. set l k element) so_far.table_is so_far.count_is
                 ∙ at_start_one_more so_far.done none element room;
-            count_is = omega (arith, so_far.count_is, length-append so_far.done (element ∷ []));
+            count_is = omega (arith, so_far.count_is, next);
             few = so_far.few;
             places = so_far.places;
           }

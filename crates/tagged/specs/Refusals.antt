@@ -60,3 +60,7 @@ output_too_short = 14
 -- document 02, E5: "a low above its high"
 abbrev pub low_above_high : ℕ
 low_above_high = 15
+
+-- document 02, E9: "moving back where a next number isn't its count plus one"
+abbrev pub numbers_not_counts : ℕ
+numbers_not_counts = 16

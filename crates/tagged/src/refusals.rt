@@ -30,3 +30,5 @@ pub const LEDGER_UNSOUND: u8 = 13;
 pub const OUTPUT_TOO_SHORT: u8 = 14;
 
 pub const LOW_ABOVE_HIGH: u8 = 15;
+
+pub const NUMBERS_NOT_COUNTS: u8 = 16;

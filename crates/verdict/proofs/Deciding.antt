@@ -18,9 +18,11 @@ use Rattle.charge.specs.declared.Bill.{Bill}
 use Rattle.ledger.specs.Books.{Books, scheme_particulars}
 use Rattle.ledger.specs.Lookup.{scheme_place}
 use Rattle.ledger.specs.Records.{no_scheme, no_party}
+use Rattle.ledger.specs.declared.records.Scheme.{Scheme}
 use Rattle.ledger.specs.declared.records.Party.{Party}
 use Rattle.ledger.specs.declared.records.Ledger.{Ledger}
 use Rattle.ledger.proofs.Tallying.{sum_more}
+use Rattle.ledger.proofs.Theorems.Lookup.{placed}
 use Rattle.ledger.proofs.Theorems.Sound.{sound_means}
 use Rattle.calls.specs.Rules.{parties_of, capacity_of}
 use Rattle.calls.specs.Verdict.{joining_part, joining_of, schemes_lacking, entries_lacking, entries_needed, course_verdict}
@@ -54,24 +56,27 @@ module _ (s : ℕ) (parties : List Party) (i : ℕ) (within : i < length parties
 
 -- ---- the joining and the course, by what the ledger has at its places
 
-module _ (ledger : Ledger) (table : List Party) (room : ℕ) (places : ledger.count ≤ length ledger.schemes) where
-  module _ (bill : Bill) (asked : bill.applicant.scheme ≡ 0 → ⊥) where
-    pub joining_missing : scheme_place ledger.count bill.applicant.scheme ≡ None → joining_part (snapshot_books ledger table room) bill ≡ Ended
-    joining_missing none = rw (ne_eqb _ _ asked, scheme_by_place ledger table bill.applicant.scheme places, none)
+pub scheme_below : (s k : ℕ) (schemes : List Scheme) → scheme_place s schemes ≡ Some k → k < length schemes
+scheme_below s k schemes at = (placed (λ scheme. scheme.number) schemes no_scheme s k at).0
 
-    pub joining_placed : (at : ℕ) → scheme_place ledger.count bill.applicant.scheme ≡ Some at → (joining : Joining) →
-        ((books : Books) (number : ℕ) → capacity_of (parties_of bill.applicant.scheme books) ≡
+module _ (ledger : Ledger) (table : List Party) (room : ℕ) where
+  module _ (bill : Bill) (asked : bill.applicant.scheme ≡ 0 → ⊥) where
+    pub joining_missing : scheme_place bill.applicant.scheme (take ledger.count ledger.schemes) ≡ None → joining_part (snapshot_books ledger table room) bill ≡ Ended
+    joining_missing none = rw (ne_eqb _ _ asked, scheme_by_place ledger table bill.applicant.scheme, none)
+
+    pub joining_placed : (at : ℕ) → scheme_place bill.applicant.scheme (take ledger.count ledger.schemes) ≡ Some at → (joining : Joining) →
+        ((books : Books) → capacity_of (parties_of bill.applicant.scheme books) ≡
         sum_over bill.applicant.scheme (scheme_column (take ledger.entries table)) (capacity_column (take ledger.entries table)) →
-        joining ≡ joining_of books bill (scheme_particulars number (get_or ledger.schemes at no_scheme))) →
+        joining ≡ joining_of books bill (scheme_particulars (get_or (take ledger.count ledger.schemes) at no_scheme))) →
         joining ≡ joining_part (snapshot_books ledger table room) bill
     joining_placed at place joining told =
-        rw (ne_eqb _ _ asked, scheme_by_place ledger table bill.applicant.scheme places, place)
-        (told (snapshot_books ledger table room) (1 + at) (capacity_by_place bill.applicant.scheme ledger table))
+        rw (ne_eqb _ _ asked, scheme_by_place ledger table bill.applicant.scheme, place)
+        (told (snapshot_books ledger table room) (capacity_by_place bill.applicant.scheme ledger table))
 
-  pub course_by_counts : (course : Course) → ledger.entries ≤ length table → course_verdict (snapshot_books ledger table room) course ≡
-      cond (schemes_lacking ledger.count course.opens) (Err (refusal no_scheme_left 0 0))
+  pub course_by_counts : (course : Course) → ledger.count ≤ length ledger.schemes → ledger.entries ≤ length table → course_verdict (snapshot_books ledger table room) course ≡
+      cond (schemes_lacking ledger.count ledger.next_scheme course.opens) (Err (refusal no_scheme_left 0 0))
       (cond (entries_lacking ledger.entries room (entries_needed course)) (Err (refusal no_entry_left 0 0)) (Ok course))
-  course_by_counts course kept =
+  course_by_counts course places kept =
       let counted = snapshot_counted ledger table room places kept in
       rw (counted.schemes, counted.entries)
 

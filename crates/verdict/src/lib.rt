@@ -15,7 +15,8 @@ ghost use Rattle.verdict.specs.Snapshot.{snapshot_books};
 
 use calls::courses::{Contribution, Course, Joining, Verdict};
 use charge::Bill;
-use ledger::limits::{MOST_CONNECTIONS, MOST_ENTRIES_COUNTED, Schemes};
+use ledger::limits::{HIGHEST_NEXT_SCHEME, MOST_CONNECTIONS, MOST_ENTRIES_COUNTED, Schemes};
+use ledger::lookup::scheme_at;
 use ledger::records::{Ledger, Party, Scheme};
 use tagged::file::Refusal;
 use tagged::refusals::{
@@ -66,7 +67,7 @@ fn contribution(cost: u32, k: u32, total: u64) -> u32
 // The joining of this scheme, by its own terms.
 fn joining_of(entries: &[Party], scheme: &Scheme, bill: &Bill) -> Joining
     requires { (length entries.now ≤ most_entries) × (1 ≤ bill.now.applicant.capacity) }
-    ensures { (books : Books) (number : ℕ) → capacity_of (parties_of bill.now.applicant.scheme books) ≡ sum_over bill.now.applicant.scheme (scheme_column entries.now) (capacity_column entries.now) → result ≡ joining_of books bill.now (scheme_particulars number scheme.now) }
+    ensures { (books : Books) → capacity_of (parties_of bill.now.applicant.scheme books) ≡ sum_over bill.now.applicant.scheme (scheme_column entries.now) (capacity_column entries.now) → result ≡ joining_of books bill.now (scheme_particulars scheme.now) }
 {
     if u32::from(scheme.opening) + u32::from(scheme.term) <= u32::from(bill.applicant.month) {
         return Joining::Ended;
@@ -83,7 +84,7 @@ fn joining_of(entries: &[Party], scheme: &Scheme, bill: &Bill) -> Joining
     })
 }
 
-#[tactic(auto, using(ledger::proofs::Theorems::Lookup::scheme_placed, crate::proofs::Deciding::joining_missing))]
+#[tactic(auto, using(crate::proofs::Deciding::scheme_below, crate::proofs::Deciding::joining_missing))]
 fn joining_part(ledger: &Ledger, table: &[Party], bill: &Bill) -> Joining
     requires { (ledger.now.count ≤ most_schemes) × (ledger.now.entries ≤ most_entries) × (ledger.now.entries ≤ length table.now) × (1 ≤ bill.now.applicant.capacity) }
     ensures { (room : ℕ) → result ≡ joining_part (snapshot_books ledger.now table.now room) bill.now }
@@ -91,9 +92,10 @@ fn joining_part(ledger: &Ledger, table: &[Party], bill: &Bill) -> Joining
     if bill.applicant.scheme == 0 {
         return Joining::NotAsked;
     }
-    match ledger::lookup::scheme_at(ledger.count, bill.applicant.scheme) {
+    let schemes = &ledger.schemes[..ledger.count as usize];
+    match scheme_at(schemes, u32::from(bill.applicant.scheme)) {
         None => Joining::Ended,
-        Some(at) => joining_of(&table[..ledger.entries as usize], &ledger.schemes[at], bill),
+        Some(at) => joining_of(&table[..ledger.entries as usize], &schemes[at], bill),
     }
 }
 
@@ -107,11 +109,11 @@ fn entries_needed(course: &Course) -> u32
     joins + u32::from(course.opens)
 }
 
-fn schemes_lacking(schemes: &Schemes, count: u32, opens: bool) -> bool
-    ensures lacking { result ≡ schemes_lacking count opens }
+fn schemes_lacking(schemes: &Schemes, count: u32, next_scheme: u32, opens: bool) -> bool
+    ensures lacking { result ≡ schemes_lacking count next_scheme opens }
     ensures places { length schemes.now ≡ most_schemes }
 {
-    opens && schemes.len() <= count as usize
+    opens && (schemes.len() <= count as usize || HIGHEST_NEXT_SCHEME <= next_scheme)
 }
 
 // 8 and 9, where the table has `room` records.
@@ -121,7 +123,12 @@ fn course_verdict(ledger: &Ledger, room: usize, course: Course) -> Verdict
     ensures decided { (table : List Party) → ledger.now.entries ≤ length table → result ≡ course_verdict (snapshot_books ledger.now table room) course }
     ensures places { length ledger.now.schemes ≡ most_schemes }
 {
-    if schemes_lacking(&ledger.schemes, ledger.count, course.opens) {
+    if schemes_lacking(
+        &ledger.schemes,
+        ledger.count,
+        ledger.next_scheme,
+        course.opens,
+    ) {
         return Err(Refusal::of_call(NO_SCHEME_LEFT));
     }
     if entries_lacking(ledger.entries, room, entries_needed(&course)) {
@@ -142,7 +149,7 @@ pub fn verdict_of(ledger: &Ledger, table: &[Party], bill: &Bill) -> Verdict
     if bill.applicant.month < ledger.month {
         return Err(Refusal::of_call(MONTH_BEFORE_LAST));
     }
-    if ledger.count < u32::from(bill.applicant.scheme) {
+    if ledger.next_scheme <= u32::from(bill.applicant.scheme) {
         return Err(Refusal::of_call(SCHEME_NEVER_OPENED));
     }
     let course = Course {

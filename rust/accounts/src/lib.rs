@@ -1,5 +1,7 @@
 //! Demand 3: the accounts, the bounds and the sums of a list of calls, worked out from the calls by document 01's
-//! rules and document 02's E4 in 128 bits. Pricing is the reference implementation's.
+//! rules and document 02's E4 and E8 in 128 bits. Pricing is the reference implementation's.
+//!
+//! Schemes and entries are kept in the order of their numbers, those that were cleared too, so that a number is a place.
 
 #![forbid(unsafe_code)]
 
@@ -16,8 +18,10 @@ struct Entry {
     paid_out: i128,
 }
 
+/// A scheme that was opened.
 #[derive(Debug)]
 struct OpenScheme {
+    cleared: bool,
     cost: i128,
     fee: i128,
     minimum: i128,
@@ -39,6 +43,7 @@ pub struct Accounts {
     borne: i128,
     schemes: Vec<OpenScheme>,
     entries: Vec<Entry>,
+    joinings_of_cleared: u64,
 }
 
 /// What a call comes to.
@@ -61,17 +66,40 @@ impl Accounts {
                 entry.person = *person;
                 Ok(Outcome::Done)
             }
+            Call::Clear { month } => self.clear(*month),
         }
     }
 
-    /// The number of entries.
+    /// The number of entries that stand.
     pub fn entries(&self) -> usize {
-        self.entries.len()
+        self.standing_entries().count()
+    }
+
+    /// Whether any scheme was cleared.
+    pub fn any_cleared(&self) -> bool {
+        self.schemes.iter().any(|scheme| scheme.cleared)
+    }
+
+    /// How many accepts named a scheme that was cleared.
+    pub fn joinings_of_cleared(&self) -> u64 {
+        self.joinings_of_cleared
+    }
+
+    /// The schemes that stand, each with its number.
+    fn standing_schemes(&self) -> impl Iterator<Item = (usize, &OpenScheme)> {
+        (1..).zip(&self.schemes).filter(|(_, scheme)| !scheme.cleared)
+    }
+
+    /// The entries that stand, each with its number.
+    fn standing_entries(&self) -> impl Iterator<Item = (usize, &Entry)> {
+        (1..).zip(&self.entries).filter(|(_, entry)| !self.schemes[entry.scheme].cleared)
     }
 
     fn entry(&mut self, entry: u32) -> Result<&mut Entry, Refusal> {
         match (entry as usize).checked_sub(1) {
-            Some(index) if index < self.entries.len() => Ok(&mut self.entries[index]),
+            Some(index) if index < self.entries.len() && !self.schemes[self.entries[index].scheme].cleared => {
+                Ok(&mut self.entries[index])
+            }
             _ => refused(11),
         }
     }
@@ -87,6 +115,20 @@ impl Accounts {
         Ok(Outcome::Done)
     }
 
+    /// Clears every scheme "ended by that month whose entries all have standing credit 0".
+    fn clear(&mut self, month: u16) -> Wanted {
+        if month < self.month {
+            return refused(7);
+        }
+        self.month = month;
+        for (number, scheme) in self.schemes.iter_mut().enumerate() {
+            let mut entries = self.entries.iter().filter(|entry| entry.scheme == number);
+            let ended = u32::from(month) >= scheme.opening + scheme.term;
+            scheme.cleared |= ended && entries.all(|entry| entry.credited == entry.paid_out);
+        }
+        Ok(Outcome::Done)
+    }
+
     fn accept(&mut self, bill: &Bill, table_length: usize) -> Wanted {
         if bill.month < self.month {
             return refused(7);
@@ -96,11 +138,11 @@ impl Accounts {
         }
         let joining = if bill.scheme > 0 { Some(self.joining(bill)) } else { None };
         let opens = bill.mark == 0 && bill.x > bill.threshold;
-        if opens && self.schemes.len() == 64 {
+        if opens && (self.standing_schemes().count() == 64 || self.schemes.len() == 65_535) {
             return refused(8);
         }
         let joins = matches!(joining, Some(Joining::Joined { .. }));
-        if table_length.min(512) - self.entries.len() < usize::from(joins) + usize::from(opens) {
+        if table_length.min(512) - self.entries() < usize::from(joins) + usize::from(opens) {
             return refused(9);
         }
         if let Some(Joining::Joined { collected, .. }) = joining {
@@ -110,6 +152,8 @@ impl Accounts {
             self.open(bill);
         }
         let answer = Answer { joining, opened: opens.then_some(self.schemes.len() as u16) };
+        let named = usize::from(bill.scheme).checked_sub(1);
+        self.joinings_of_cleared += u64::from(named.is_some_and(|index| self.schemes[index].cleared));
         self.month = bill.month;
         self.connections += 1;
         self.entered += i128::from(bill.entered);
@@ -120,6 +164,7 @@ impl Accounts {
 
     fn open(&mut self, bill: &Bill) {
         self.schemes.push(OpenScheme {
+            cleared: false,
             cost: bill.x.into(),
             fee: bill.fee.into(),
             minimum: bill.minimum.into(),
@@ -142,7 +187,7 @@ impl Accounts {
     fn joining(&self, bill: &Bill) -> Joining {
         let number = usize::from(bill.scheme) - 1;
         let scheme = &self.schemes[number];
-        if u32::from(bill.month) >= scheme.opening + scheme.term {
+        if scheme.cleared || u32::from(bill.month) >= scheme.opening + scheme.term {
             return Joining::Ended;
         }
         let k = i128::from(bill.capacity);
@@ -176,8 +221,18 @@ impl Accounts {
         self.entries.push(Entry { scheme, person, capacity, put_in, ..Entry::default() });
     }
 
-    /// The accounts and bounds of demand 3 hold.
+    /// What the schemes that were cleared collected, paid out and took in fees.
+    fn cleared_sums(&self) -> [i128; 3] {
+        let cleared = self.schemes.iter().filter(|scheme| scheme.cleared);
+        cleared.fold([0; 3], |[collected, paid_out, fees], scheme| {
+            [collected + scheme.collected, paid_out + scheme.paid_out, fees + scheme.fee * scheme.joinings]
+        })
+    }
+
+    /// The accounts and bounds of demand 3 hold: of every scheme opened, and "over those sums" of the cleared ones.
     pub fn check_demand(&self) {
+        let [collected, paid_out, fees] = self.cleared_sums();
+        assert_eq!(collected, paid_out + fees);
         for (number, scheme) in self.schemes.iter().enumerate() {
             let fees = scheme.fee * scheme.joinings;
             let standing = scheme.credited - scheme.paid_out;
@@ -202,16 +257,22 @@ impl Accounts {
     pub fn check_ledger(&self, ledger: &Ledger, parties: &[Party]) {
         assert_eq!((ledger.month, ledger.connections), (self.month, self.connections));
         assert_eq!((i128::from(ledger.charged), i128::from(ledger.borne)), (self.charged, self.borne));
-        assert_eq!((usize::from(ledger.opened), ledger.entries as usize), (self.schemes.len(), self.entries.len()));
-        for (kept, scheme) in ledger.schemes.iter().zip(&self.schemes) {
-            let figures = [kept.cost, kept.fee, kept.minimum].map(i128::from);
-            assert_eq!(figures, [scheme.cost, scheme.fee, scheme.minimum]);
+        let next_numbers = [ledger.next_scheme, ledger.next_entry].map(|number| number as usize);
+        assert_eq!(next_numbers, [self.schemes.len() + 1, self.entries.len() + 1]);
+        let cleared = [ledger.cleared_collected, ledger.cleared_paid_out, ledger.cleared_fees].map(i128::from);
+        assert_eq!(cleared, self.cleared_sums());
+        let standing = self.standing_schemes().count();
+        assert_eq!((usize::from(ledger.standing), ledger.entries as usize), (standing, self.entries()));
+        for (kept, (number, scheme)) in ledger.schemes.iter().zip(self.standing_schemes()) {
+            let figures = [kept.number, kept.cost, kept.fee, kept.minimum].map(i128::from);
+            assert_eq!(figures, [number as i128, scheme.cost, scheme.fee, scheme.minimum]);
             assert_eq!((u32::from(kept.opening), u32::from(kept.term)), (scheme.opening, scheme.term));
             assert_eq!(i128::from(kept.fees), scheme.fee * scheme.joinings);
         }
-        assert!(ledger.schemes[self.schemes.len()..].iter().all(|scheme| *scheme == Scheme::default()));
-        for (kept, entry) in parties.iter().zip(&self.entries) {
-            assert_eq!((usize::from(kept.scheme), kept.person), (entry.scheme + 1, entry.person));
+        assert!(ledger.schemes[standing..].iter().all(|scheme| *scheme == Scheme::default()));
+        for (kept, (number, entry)) in parties.iter().zip(self.standing_entries()) {
+            assert_eq!((kept.number as usize, kept.person), (number, entry.person));
+            assert_eq!(usize::from(kept.scheme), entry.scheme + 1);
             let figures: [i128; 4] =
                 [kept.capacity.into(), kept.put_in.into(), kept.credited.into(), kept.paid_out.into()];
             assert_eq!(figures, [entry.capacity, entry.put_in, entry.credited, entry.paid_out]);

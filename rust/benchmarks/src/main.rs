@@ -7,6 +7,7 @@
 
 use fikrem::raw::{self, ANSWER, FIGURES};
 use fikrem::{LONGEST_FORM, LONGEST_TABLE};
+use generate::books::stored_form;
 use generate::calls::{after, filling};
 use generate::{Book, Call, Random, Request};
 use reference::ledger::MOST_ENTRIES;
@@ -121,11 +122,20 @@ struct Bench {
 impl Bench {
     /// A ledger of so many schemes and entries, and a request that joins scheme 1.
     fn of(schemes: usize, entries: usize) -> Bench {
-        let list = filling(&mut Random::new(9), schemes, entries);
-        let (ledger, parties) = after(&list, MOST_ENTRIES);
-        let mut stored = vec![0; LONGEST_FORM];
-        let length = write_ledger(&ledger, &parties, &mut stored).expect("the ledger is sound");
-        stored.truncate(length);
+        let (ledger, parties) = after(&filling(&mut Random::new(9), schemes, entries), MOST_ENTRIES);
+        Bench::on(stored_form(&ledger, &parties))
+    }
+
+    /// The same, with all credit of every other scheme paid out, the first one's too, so that a clearing removes these.
+    fn paid_out(schemes: usize, entries: usize) -> Bench {
+        let (ledger, mut parties) = after(&filling(&mut Random::new(9), schemes, entries), MOST_ENTRIES);
+        for party in parties.iter_mut().filter(|party| party.scheme % 2 == 1) {
+            party.paid_out = party.credited;
+        }
+        Bench::on(stored_form(&ledger, &parties))
+    }
+
+    fn on(stored: Vec<u8>) -> Bench {
         let book = Book { threshold: 0, fee: 5, minimum: 5, ..Book::slip() }.encode();
         // its mark keeps it from opening a scheme
         let request = Request { scheme: 1, mark: 1, ..Request::slip() }.encode();
@@ -184,6 +194,17 @@ impl Bench {
         self.beside(&mut library, &Call::PayOut { entry: 1, amount: 1 })
     }
 
+    /// In the month in which every scheme has ended.
+    fn clearing(&self) -> Times {
+        let mut out = vec![0; LONGEST_FORM];
+        let (mut answer, month) = ([0; ANSWER], 24_399);
+        let mut library = || {
+            let result = raw::clear(black_box(&self.stored), LONGEST_TABLE, month, &mut out, &mut answer);
+            assert_eq!((black_box(result), answer[raw::WRITTEN] < self.stored.len() as u64), (0, true));
+        };
+        self.beside(&mut library, &Call::Clear { month })
+    }
+
     /// The library's call beside the reference implementation's on the same stored bytes.
     fn beside(&self, library: &mut dyn FnMut(), call: &Call) -> Times {
         let mut out = vec![0; LONGEST_FORM];
@@ -236,6 +257,7 @@ fn beside() {
     Bench::of(64, 512).judging().print("check of a stored ledger of 64 schemes, 512 entries");
     Bench::of(64, 512).hand_over().print("read, hand-over and write of the same");
     Bench::of(64, 512).pay_out().print("read, pay-out and write of the same");
+    Bench::paid_out(64, 512).clearing().print("read, clearing of every other scheme and write of the same");
     Bench::of(64, 512).check_of_bytes().print("the check alone of the same, beside byte by byte");
 }
 
@@ -245,19 +267,20 @@ fn growth() {
         "\nGrowth: nanoseconds a call, library / reference and the median ratio, by the entries that one scheme has after it."
     );
     println!(
-        "{:>7} {:>27} {:>27} {:>27} {:>27}   the library's for one more entry",
-        "entries", "joining", "check", "hand-over", "pay-out"
+        "{:>7} {:>27} {:>27} {:>27} {:>27} {:>27}   the library's for one more entry",
+        "entries", "joining", "check", "hand-over", "pay-out", "clearing"
     );
-    let mut last: Option<(usize, [f64; 4])> = None;
+    let mut last: Option<(usize, [f64; 5])> = None;
     for entries in [2, 4, 8, 12, 16, 24, 32, 64, 128, 256, 512] {
         let (before, bench) = (Bench::of(1, entries - 1), Bench::of(1, entries));
-        let times = [before.joining(), bench.judging(), bench.hand_over(), bench.pay_out()];
-        let [joining, check, hand_over, pay_out] = times.each_ref().map(Times::in_short);
-        print!("{entries:>7} {joining:>27} {check:>27} {hand_over:>27} {pay_out:>27}");
+        let clearing = Bench::paid_out(1, entries).clearing();
+        let times = [before.joining(), bench.judging(), bench.hand_over(), bench.pay_out(), clearing];
+        print!("{entries:>7}");
+        times.each_ref().map(Times::in_short).iter().for_each(|time| print!(" {time:>27}"));
         let library = times.each_ref().map(|times| times.lowest()[0]);
         if let Some((fewer, cost)) = last {
-            for call in 0..4 {
-                print!(" {:>6.0}", (library[call] - cost[call]) / (entries - fewer) as f64);
+            for (library, cost) in library.iter().zip(cost) {
+                print!(" {:>6.0}", (library - cost) / (entries - fewer) as f64);
             }
         }
         println!();
@@ -279,4 +302,32 @@ fn check_twice_as_fast_as_byte_by_byte() {
     let [library, each] = full.check_of_bytes().lowest();
     println!("the check of a full ledger: {library:.0} ns, byte by byte {each:.0} ns, {:.2} times", each / library);
     assert!(each >= 2.0 * library, "the check takes {library:.0} ns, byte by byte {each:.0} ns");
+}
+
+/// Pricing at a rate of the table of discount factors isn't slower than outside it.
+#[test]
+fn table_of_factors_no_slower_than_the_recurrence() {
+    for (class, years) in CLASSES {
+        let [table, other] = table_beside_recurrence(class).lowest();
+        println!("pricing over {years}: {table:.0} ns at a rate of the table, {other:.0} ns outside it");
+        assert!(
+            table <= other,
+            "pricing over {years} takes {table:.0} ns at a rate of the table, {other:.0} ns outside it"
+        );
+    }
+}
+
+/// A joining, the judging, a hand-over and a clearing take at most 0.8 of the reference's time on 2 entries, 0.4 on 512.
+#[test]
+fn stored_calls_within_a_part_of_the_references_time() {
+    for (entries, most) in [(2, 0.8), (512, 0.4)] {
+        let (before, bench) = (Bench::of(1, entries - 1), Bench::of(1, entries));
+        let clearing = Bench::paid_out(1, entries).clearing();
+        let times = [before.joining(), bench.judging(), bench.hand_over(), clearing];
+        for (name, times) in ["joining", "judging", "hand-over", "clearing"].into_iter().zip(times) {
+            let [library, reference] = times.lowest();
+            println!("{name} on {entries} entries: {library:.0} ns, the reference {reference:.0} ns");
+            assert!(library <= most * reference, "{name} on {entries} entries takes {library:.0} of {reference:.0} ns");
+        }
+    }
 }

@@ -40,7 +40,8 @@ pub fn what_was_read(book: &[u8], request: &[u8]) -> String {
 pub fn refused_file(kind: &Kind, bytes: &[u8], refusal: Refusal) -> (String, Option<u8>) {
     let (words, tag) = match file::kind_of(bytes) {
         Some(other) if other.letters != kind.letters => (format!("this file is a {}", other.name), None),
-        None if file::has_letters(bytes, "PION") => ("this file is a stored ledger".to_string(), None),
+        None if file::has_letters(bytes, "PIO2") => ("this file is a stored ledger".to_string(), None),
+        None if file::has_letters(bytes, "PION") => ("this file is a stored ledger of the old form".to_string(), None),
         _ => words::of_file(kind, bytes, refusal),
     };
     (format!("refused, number {}: the {}: {words}", refusal.number(), kind.name), tag)

@@ -275,8 +275,14 @@ fn files_of_another_kind_are_called_that() {
         refused(&["quote", "job.bin", "rates.bin"]),
         "refused, number 1: the rate book: this file is a request\n"
     );
-    folder.write("ledger.bin", &fikrem::new_ledger());
+    let ledger = fikrem::new_ledger();
+    folder.write("ledger.bin", &ledger);
     assert_eq!(refused(&["show", "ledger.bin"]), "refused, number 1: the rate book: this file is a stored ledger\n");
+    folder.write("old.bin", &fikrem::move_back(&ledger).expect("nothing was cleared"));
+    assert_eq!(
+        refused(&["show", "old.bin"]),
+        "refused, number 1: the rate book: this file is a stored ledger of the old form\n"
+    );
 }
 
 /// Files that don't walk, or whose check differs.

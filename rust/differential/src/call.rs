@@ -15,7 +15,10 @@ pub enum LibraryCall<'a> {
     Accept { stored: &'a [u8], table_size: usize, book: &'a [u8], request: &'a [u8] },
     PayOut { stored: &'a [u8], table_size: usize, entry: u32, amount: u64 },
     HandOver { stored: &'a [u8], table_size: usize, entry: u32, person: u32 },
+    Clear { stored: &'a [u8], table_size: usize, month: u16 },
     JudgeLedger { stored: &'a [u8], table_size: usize },
+    MoveToNew { file: &'a [u8] },
+    MoveBack { file: &'a [u8] },
 }
 
 impl<'a> LibraryCall<'a> {
@@ -25,6 +28,7 @@ impl<'a> LibraryCall<'a> {
             Call::Accept { ref book, ref request } => LibraryCall::Accept { stored, table_size, book, request },
             Call::PayOut { entry, amount } => LibraryCall::PayOut { stored, table_size, entry, amount },
             Call::HandOver { entry, person } => LibraryCall::HandOver { stored, table_size, entry, person },
+            Call::Clear { month } => LibraryCall::Clear { stored, table_size, month },
         }
     }
 
@@ -49,7 +53,10 @@ impl<'a> LibraryCall<'a> {
             LibraryCall::HandOver { stored, table_size, entry, person } => {
                 raw::hand_over(stored, table_size, entry, person, out, answer)
             }
+            LibraryCall::Clear { stored, table_size, month } => raw::clear(stored, table_size, month, out, answer),
             LibraryCall::JudgeLedger { stored, table_size } => raw::judge_ledger(stored, table_size, answer),
+            LibraryCall::MoveToNew { file } => raw::move_to_new(file, out, answer),
+            LibraryCall::MoveBack { file } => raw::move_back(file, out, answer),
         }
     }
 
@@ -63,7 +70,10 @@ impl<'a> LibraryCall<'a> {
             LibraryCall::Accept { .. } => "accept",
             LibraryCall::PayOut { .. } => "pay-out",
             LibraryCall::HandOver { .. } => "hand-over",
+            LibraryCall::Clear { .. } => "clear",
             LibraryCall::JudgeLedger { .. } => "judge ledger",
+            LibraryCall::MoveToNew { .. } => "move to new",
+            LibraryCall::MoveBack { .. } => "move back",
         }
     }
 }

@@ -3,11 +3,12 @@
 use crate::call::{Buffers, LibraryCall};
 use crate::wanted;
 use fikrem::raw;
+use reference::stored::NEW;
 use std::collections::BTreeMap;
 use std::time::Instant;
 
-/// The refusals have the numbers 1 to 15.
-const NUMBERS: usize = 15;
+/// The refusals have the numbers 1 to 16.
+const NUMBERS: usize = 16;
 /// Those of a stored ledger itself.
 const OF_LEDGER: [usize; 5] = [1, 2, 3, 9, 13];
 
@@ -23,6 +24,12 @@ pub struct Tally {
     of_ledger: [u64; NUMBERS + 1],
     /// By accept's answer: for no joining, joined, small and ended, without an opening and with one.
     answers: [[u64; 2]; 4],
+    /// Clearings that remove no scheme, a part of them and all.
+    clearings: [u64; 3],
+    /// Moves that are done, to the new form and back.
+    moves: [u64; 2],
+    /// Accepts of the lists of calls that named a scheme that was cleared.
+    pub joinings_of_cleared: u64,
     calls: BTreeMap<&'static str, u64>,
 }
 
@@ -30,8 +37,19 @@ impl Default for Tally {
     fn default() -> Tally {
         let started = Instant::now();
         let none = [0; NUMBERS + 1];
-        let (answers, calls) = ([[0; 2]; 4], BTreeMap::new());
-        Tally { section: "", started, cases_before: 0, cases: 0, results: none, of_ledger: none, answers, calls }
+        Tally {
+            section: "",
+            started,
+            cases_before: 0,
+            cases: 0,
+            results: none,
+            of_ledger: none,
+            answers: [[0; 2]; 4],
+            clearings: [0; 3],
+            moves: [0; 2],
+            joinings_of_cleared: 0,
+            calls: BTreeMap::new(),
+        }
     }
 }
 
@@ -78,9 +96,26 @@ impl Tally {
         if raw::of_ledger(result) == 1 {
             self.of_ledger[number] += 1;
         }
-        if matches!(call, LibraryCall::Accept { .. }) && result == raw::DONE {
-            let opened = usize::from(seen.answer[raw::OPENED_SCHEME] > 0);
-            self.answers[seen.answer[raw::JOINING] as usize][opened] += 1;
+        if result == raw::DONE {
+            self.count_done(call, &seen.answer);
+        }
+    }
+
+    /// Counts the course that a call took.
+    fn count_done(&mut self, call: &LibraryCall, answer: &[u64]) {
+        match call {
+            LibraryCall::Accept { .. } => {
+                let opened = usize::from(answer[raw::OPENED_SCHEME] > 0);
+                self.answers[answer[raw::JOINING] as usize][opened] += 1;
+            }
+            LibraryCall::Clear { stored, .. } => {
+                let written = answer[raw::WRITTEN] as usize;
+                let removed = written < stored.len();
+                self.clearings[usize::from(removed) + usize::from(removed && written == NEW.length(0, 0))] += 1;
+            }
+            LibraryCall::MoveToNew { .. } => self.moves[0] += 1,
+            LibraryCall::MoveBack { .. } => self.moves[1] += 1,
+            _ => {}
         }
     }
 
@@ -94,11 +129,16 @@ impl Tally {
         for (name, [alone, opened]) in ["no joining", "joined", "small", "ended"].iter().zip(self.answers) {
             println!("{name}: {alone}, and a scheme opened: {opened}");
         }
+        println!("clearings that remove nothing, a part and all: {:?}", self.clearings);
+        println!("moved to the new form and back: {:?}", self.moves);
+        println!("accepts in lists that named a cleared scheme: {}", self.joinings_of_cleared);
         assert!(self.results.iter().all(|&times| times > 0), "a refusal was never met");
         for (number, &times) in self.of_ledger.iter().enumerate() {
             assert_eq!(times > 0, OF_LEDGER.contains(&number), "refusal {number} of the stored ledger");
         }
         assert!(self.results[9] > self.of_ledger[9], "accept was never refused by 9");
         assert!(self.answers.iter().flatten().all(|&times| times > 0), "a pair of answers was never met");
+        let courses = self.clearings.iter().chain(&self.moves).chain([&self.joinings_of_cleared]);
+        assert!(courses.copied().all(|times| times > 0), "a course of clearing or moving was never met");
     }
 }

@@ -4,8 +4,8 @@ use crate::call::{refused, Buffers, LibraryCall};
 use fikrem::raw::{ANSWER, BAND, FIGURES};
 use generate::{Call, Outcome};
 use reference::ledger::MOST_ENTRIES;
-use reference::refusal::OUTPUT_TOO_SHORT;
-use reference::{page, price, price_band, read_ledger, slip, write_ledger};
+use reference::refusal::{NUMBERS_NOT_COUNTS, OUTPUT_TOO_SHORT};
+use reference::{move_back, move_to_new, page, price, price_band, read_ledger, slip, write_ledger};
 use reference::{Answer, Bill, Joining, Ledger, Party, Percentage, PriceBand, Refusal};
 
 const OUTPUT: Refusal = Refusal::of_call(OUTPUT_TOO_SHORT);
@@ -86,10 +86,13 @@ fn places_of(call: &LibraryCall, out: &mut [u8], figures: &mut [i64]) -> Result<
         LibraryCall::HandOver { stored, table_size, entry, person } => {
             on_stored(stored, table_size, &Call::HandOver { entry, person }, out)
         }
+        LibraryCall::Clear { stored, table_size, month } => on_stored(stored, table_size, &Call::Clear { month }, out),
         LibraryCall::JudgeLedger { stored, table_size } => {
             let (ledger, _) = read(stored, table_size)?;
-            Ok([ledger.opened.into(), ledger.entries.into(), ledger.connections.into(), ledger.month.into(), 0])
+            Ok([ledger.standing.into(), ledger.entries.into(), ledger.connections.into(), ledger.month.into(), 0])
         }
+        LibraryCall::MoveToNew { file } => moved(move_to_new(file, out)),
+        LibraryCall::MoveBack { file } => moved(move_back(file, out)),
     }
 }
 
@@ -115,6 +118,17 @@ fn on_stored(stored: &[u8], table_size: usize, call: &Call, out: &mut [u8]) -> R
         Outcome::Accepted(_, answer) => places_of_answer(answer),
     };
     Ok([kind, entry, collected, scheme, write_ledger(&ledger, &parties, out)? as u64])
+}
+
+/// The places of a move, which is refused for the file itself but by 16 and 14.
+fn moved(written: Result<usize, Refusal>) -> Result<Places, Refused> {
+    match written {
+        Ok(length) => Ok([0, 0, 0, 0, length as u64]),
+        Err(refusal) => {
+            let stored = ![NUMBERS_NOT_COUNTS, OUTPUT_TOO_SHORT].contains(&refusal.number);
+            Err(Refused { refusal, stored })
+        }
+    }
 }
 
 /// The places of accept's answer: the joining's kind, entry and G, and the scheme that opened.

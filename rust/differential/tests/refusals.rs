@@ -48,7 +48,7 @@ fn between<'a>(text: &'a str, before: &str, after: &str) -> Vec<(String, &'a str
 #[test]
 fn numbers_from_1_on() {
     let numbers: Vec<_> = table().iter().map(|row| row.number).collect();
-    assert_eq!(numbers, (1..=15).collect::<Vec<_>>());
+    assert_eq!(numbers, (1..=16).collect::<Vec<_>>());
 }
 
 #[test]
@@ -93,7 +93,7 @@ fn of_the_wrapper() {
         assert_eq!(format!("{reason:?}"), name.split('_').map(part).collect::<String>());
         assert_eq!((reason.number(), reason.to_string()), (number, words));
     }
-    for number in [0].into_iter().chain(16..=u8::MAX) {
+    for number in [0].into_iter().chain(17..=u8::MAX) {
         assert_eq!(Reason::from(number), Reason::Unknown(number));
         assert_eq!(Reason::from(number).number(), number);
     }

@@ -23,6 +23,7 @@ pub const PAY_OUT_ABOVE_CREDIT: u64 = 12;
 pub const LEDGER_UNSOUND: u64 = 13;
 pub const OUTPUT_TOO_SHORT: u64 = 14;
 pub const LOW_ABOVE_HIGH: u64 = 15;
+pub const NUMBERS_NOT_COUNTS: u64 = 16;
 
 /// The number of the refusal that a result is.
 pub fn number(result: u64) -> u64 {
@@ -103,12 +104,13 @@ pub const LOWEST_NC: usize = 4;
 pub const HIGHEST_NC: usize = 5;
 pub const BAND: usize = 6;
 
-// The most bytes of a book, a request, a slip and a stored ledger, the bytes of a page, and the records of the longest
-// party table.
+// The most bytes of a book, a request, a slip, a stored ledger and one of the old form, the bytes of a page, and the
+// records of the longest party table.
 pub const BOOK_SIZE: usize = 321;
 pub const REQUEST_SIZE: usize = 206;
 pub const TEXT_SIZE: usize = 256;
-pub const LEDGER_SIZE: usize = 18_661;
+pub const LEDGER_SIZE: usize = 20_997;
+pub const OLD_LEDGER_SIZE: usize = 18_661;
 pub const PAGE_SIZE: usize = 768;
 pub const TABLE_SIZE: usize = 512;
 
@@ -193,10 +195,36 @@ mod declared {
             answer: *mut u64,
             answer_places: usize,
         ) -> u64;
+        pub fn fikrem_clear(
+            stored: *const u8,
+            stored_size: usize,
+            table_size: usize,
+            month: u16,
+            out: *mut u8,
+            out_size: usize,
+            answer: *mut u64,
+            answer_places: usize,
+        ) -> u64;
         pub fn fikrem_judge_ledger(
             stored: *const u8,
             stored_size: usize,
             table_size: usize,
+            answer: *mut u64,
+            answer_places: usize,
+        ) -> u64;
+        pub fn fikrem_move_to_new(
+            file: *const u8,
+            file_size: usize,
+            out: *mut u8,
+            out_size: usize,
+            answer: *mut u64,
+            answer_places: usize,
+        ) -> u64;
+        pub fn fikrem_move_back(
+            file: *const u8,
+            file_size: usize,
+            out: *mut u8,
+            out_size: usize,
             answer: *mut u64,
             answer_places: usize,
         ) -> u64;
@@ -336,9 +364,50 @@ pub fn hand_over(stored: &[u8], table_size: usize, entry: u32, person: u32, out:
     }
 }
 
+pub fn clear(stored: &[u8], table_size: usize, month: u16, out: &mut [u8], answer: &mut [u64]) -> u64 {
+    unsafe {
+        declared::fikrem_clear(
+            stored.as_ptr(),
+            stored.len(),
+            table_size,
+            month,
+            out.as_mut_ptr(),
+            out.len(),
+            answer.as_mut_ptr(),
+            answer.len(),
+        )
+    }
+}
+
 pub fn judge_ledger(stored: &[u8], table_size: usize, answer: &mut [u64]) -> u64 {
     unsafe {
         declared::fikrem_judge_ledger(stored.as_ptr(), stored.len(), table_size, answer.as_mut_ptr(), answer.len())
+    }
+}
+
+pub fn move_to_new(file: &[u8], out: &mut [u8], answer: &mut [u64]) -> u64 {
+    unsafe {
+        declared::fikrem_move_to_new(
+            file.as_ptr(),
+            file.len(),
+            out.as_mut_ptr(),
+            out.len(),
+            answer.as_mut_ptr(),
+            answer.len(),
+        )
+    }
+}
+
+pub fn move_back(file: &[u8], out: &mut [u8], answer: &mut [u64]) -> u64 {
+    unsafe {
+        declared::fikrem_move_back(
+            file.as_ptr(),
+            file.len(),
+            out.as_mut_ptr(),
+            out.len(),
+            answer.as_mut_ptr(),
+            answer.len(),
+        )
     }
 }
 

@@ -54,7 +54,7 @@ reasons! {
     5 BespokeNotAllowed "a bespoke rate is not allowed"
     6 SchemeNeverOpened "the scheme that the request joins was never opened"
     7 MonthBeforeLast "the month is before the last accepted"
-    8 NoSchemeLeft "there are 64 schemes, and one must open"
+    8 NoSchemeLeft "there are 64 schemes, or the next would be the 65,536th, and one must open"
     9 NoEntryLeft "the table has fewer records than the stored ledger has entries, or than it would have after accept"
     10 NoConnectionLeft "1,000,000 connections are taken"
     11 NoSuchEntry "there is no such entry"
@@ -62,6 +62,7 @@ reasons! {
     13 LedgerUnsound "the stored ledger is unsound"
     14 OutputTooShort "the output, the answer or the figures are too short"
     15 LowAboveHigh "a low revenue is above its high"
+    16 NumbersNotCounts "the next scheme or entry number is not its count plus one"
 }
 
 /// A refusal: what for, the file it is about and the place in it.

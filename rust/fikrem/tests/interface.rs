@@ -54,6 +54,7 @@ fn kind_of_c(kind: &str) -> String {
         "uint8_t *" => "*mut u8",
         "int64_t *" => "*mut i64",
         "uint64_t *" => "*mut u64",
+        "uint16_t" => "u16",
         "uint32_t" => "u32",
         "uint64_t" => "u64",
         "size_t" => "usize",
@@ -123,7 +124,7 @@ fn functions_of_library() -> BTreeMap<String, Function> {
 #[test]
 fn the_same_functions() {
     let (header, raw, library) = (functions_of_header(), functions_of_raw(), functions_of_library());
-    assert_eq!(library.len(), 13);
+    assert_eq!(library.len(), 16);
     let names = |functions: &BTreeMap<String, Function>| functions.keys().cloned().collect::<Vec<_>>();
     assert_eq!(names(&header), names(&library), "names of {HEADER} and {LIBRARY}");
     assert_eq!(names(&raw), names(&library), "names of {RAW} and {LIBRARY}");
@@ -167,6 +168,7 @@ fn the_same_numbers() {
     assert_eq!(fikrem::LONGEST_SLIP.to_string(), header["TEXT_SIZE"]);
     assert_eq!(fikrem::PAGE.to_string(), header["PAGE_SIZE"]);
     assert_eq!(fikrem::LONGEST_FORM.to_string(), header["LEDGER_SIZE"]);
+    assert_eq!(fikrem::LONGEST_OLD_FORM.to_string(), header["OLD_LEDGER_SIZE"]);
     assert_eq!(fikrem::LONGEST_TABLE.to_string(), header["TABLE_SIZE"]);
 }
 

@@ -13,6 +13,7 @@ pub enum Call {
     Accept { book: Vec<u8>, request: Vec<u8> },
     PayOut { entry: u32, amount: u64 },
     HandOver { entry: u32, person: u32 },
+    Clear { month: u16 },
 }
 
 /// What a call that isn't refused comes to.
@@ -34,6 +35,7 @@ impl Call {
             Call::HandOver { entry, person } => {
                 reference::hand_over(ledger, parties, *entry, *person).map(|()| Outcome::Done)
             }
+            Call::Clear { month } => reference::clear(ledger, parties, *month).map(|()| Outcome::Done),
         }
     }
 }
@@ -46,8 +48,8 @@ struct Maker<'a> {
     parties: Vec<Party>,
 }
 
-/// A list of `count` calls for a new ledger on a table of this length: accepts by several books, pay-outs and
-/// hand-overs, refused ones among them.
+/// A list of `count` calls for a new ledger on a table of this length: accepts by several books, pay-outs, hand-overs and
+/// clearings, refused ones among them.
 pub fn calls(random: &mut Random, table_length: usize, count: usize) -> Vec<Call> {
     extended(random, Vec::new(), table_length, count)
 }
@@ -81,33 +83,59 @@ fn book(random: &mut Random) -> Book {
 
 impl Maker<'_> {
     fn call(&mut self) -> Call {
-        match self.random.within(0, 9) {
-            0 | 1 => self.pay_out(),
-            2 => Call::HandOver { entry: self.entry(), person: self.random.edge_u32(0, u32::MAX) },
+        match self.random.within(0, 19) {
+            0..=3 => self.pay_out(),
+            4 | 5 => Call::HandOver { entry: self.entry(), person: self.random.edge_u32(0, u32::MAX) },
+            6 => Call::Clear { month: self.clearing_month() },
             _ => self.accept(),
         }
     }
 
-    /// An entry, or rarely one that isn't there.
-    fn entry(&mut self) -> u32 {
-        let last = self.ledger.entries;
-        if last == 0 || self.random.once_in(12) {
-            return self.random.choose(&[0, last + 1, u32::MAX]);
-        }
-        self.random.within(1, last.into()) as u32
+    /// The parties of the ledger.
+    fn entries(&self) -> &[Party] {
+        &self.parties[..self.ledger.entries as usize]
     }
 
-    /// A pay-out of none, some or all of the standing credit, or of a cent more.
+    /// An entry's number, or rarely one that isn't there: it was never given, or was cleared.
+    fn entry(&mut self) -> u32 {
+        let next = self.ledger.next_entry;
+        if self.ledger.entries == 0 || self.random.once_in(12) {
+            return self.random.choose(&[0, next - 1, next, u32::MAX]);
+        }
+        if self.random.once_in(12) {
+            return self.random.within(1, next.into()) as u32;
+        }
+        let index = self.random.index(self.entries().len());
+        self.parties[index].number
+    }
+
+    /// A pay-out of none, some or all of the standing credit, or of a cent more; in a third of the cases all that the first
+    /// entry with any has, so that schemes are cleared.
     fn pay_out(&mut self) -> Call {
+        let standing = |party: &Party| party.credited - party.paid_out;
+        let first = self.entries().iter().find(|party| standing(party) > 0).copied();
+        if let Some(party) = first.filter(|_| self.random.once_in(3)) {
+            return Call::PayOut { entry: party.number, amount: standing(&party) };
+        }
         let entry = self.entry();
-        let party = (entry as usize).checked_sub(1).and_then(|index| self.parties.get(index));
-        let standing = party.map_or(0, |party| party.credited - party.paid_out);
+        let standing = self.entries().iter().find(|party| party.number == entry).map_or(0, standing);
         let amount = if self.random.once_in(8) {
             self.random.choose(&[standing + 1, u64::MAX])
         } else {
             self.random.edge(0, standing)
         };
         Call::PayOut { entry, amount }
+    }
+
+    /// The last month, one before or after it, or in half of the cases about that in which a scheme ends.
+    fn clearing_month(&mut self) -> u16 {
+        let Ledger { month, standing, schemes, .. } = &self.ledger;
+        if *standing > 0 && self.random.once_in(2) {
+            let scheme = schemes[self.random.index(usize::from(*standing).min(3))];
+            let end = scheme.opening.saturating_add(scheme.term);
+            return self.random.choose(&[end - 1, end, end, end.saturating_add(1)]).max(*month);
+        }
+        self.random.choose(&[month.saturating_sub(1), *month, *month, month.saturating_add(1)])
     }
 
     fn accept(&mut self) -> Call {
@@ -142,23 +170,33 @@ impl Maker<'_> {
         Call::Accept { book, request }
     }
 
+    /// The number of a scheme that a request joins, 0 for none: most often of one that stands, else one that was given, or
+    /// the next one.
+    fn scheme(&mut self) -> u16 {
+        let Ledger { standing, next_scheme, schemes, .. } = &self.ledger;
+        let last = u16::try_from(next_scheme - 1).unwrap_or(u16::MAX);
+        let standing = &schemes[..usize::from(*standing)];
+        match self.random.within(0, 19) {
+            0 => last.saturating_add(1),
+            1..=5 => 0,
+            6 if last > 0 => self.random.within(1, last.into()) as u16,
+            7..=10 => standing.last().map_or(0, |scheme| scheme.number as u16),
+            _ if standing.is_empty() => 0,
+            _ => standing[self.random.index(standing.len())].number as u16,
+        }
+    }
+
     /// Sets month, scheme, mark, capacity and extension so that most requests are accepted, many join, and a part of the
     /// joiners build on.
     fn apply_to_ledger(&mut self, request: &mut Request, threshold: u32) {
-        let Ledger { month, opened, .. } = self.ledger;
+        request.scheme = self.scheme();
+        let month = self.ledger.month;
         let random = &mut *self.random;
         request.month = match random.within(0, 149) {
             0..=2 => month.saturating_sub(1),
             3 => month.saturating_add(random.choose(&[83, 84, 85, 119, 120])),
             4..=13 => month.saturating_add(1),
             _ => month,
-        };
-        request.scheme = match random.within(0, 19) {
-            0 => opened.saturating_add(1),
-            1..=5 => 0,
-            _ if opened == 0 => 0,
-            6..=9 => opened,
-            _ => random.within(1, opened.into()) as u16,
         };
         request.mark = random.choose(&[0, 0, 0, 0, 1, 2]);
         request.capacity = match random.within(0, 3) {

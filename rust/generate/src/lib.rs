@@ -10,6 +10,7 @@
 #![forbid(unsafe_code)]
 
 pub mod book;
+pub mod books;
 pub mod calls;
 pub mod damage;
 pub mod fields;
@@ -19,6 +20,7 @@ pub mod request;
 pub mod zone_numbers;
 
 pub use book::Book;
+pub use books::Books;
 pub use calls::{Call, Outcome};
 pub use random::Random;
 pub use request::Request;

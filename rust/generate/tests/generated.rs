@@ -109,10 +109,11 @@ fn lists_hold_every_kind_of_call() {
     assert!(count(|call| matches!(call, Call::Accept { .. })) > 200);
     assert!(count(|call| matches!(call, Call::PayOut { .. })) > 40);
     assert!(count(|call| matches!(call, Call::HandOver { .. })) > 20);
+    assert!(count(|call| matches!(call, Call::Clear { .. })) > 10);
     let (ledger, _) = after(&list, 100);
-    assert!(ledger.opened > 5 && ledger.entries > u32::from(ledger.opened));
+    assert!(ledger.standing > 5 && ledger.entries > u32::from(ledger.standing));
     let (ledger, parties) = after(&filling(&mut Random::new(6), 64, 512), 512);
-    assert_eq!((ledger.opened, ledger.entries, parties.len()), (64, 512, 512));
+    assert_eq!((ledger.standing, ledger.entries, parties.len()), (64, 512, 512));
 }
 
 #[test]

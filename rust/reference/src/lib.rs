@@ -18,10 +18,10 @@ pub mod request;
 pub mod slip;
 pub mod stored;
 
-pub use ledger::{accept, hand_over, pay_out, Answer, Joining, Ledger, Party, Scheme};
+pub use ledger::{accept, clear, hand_over, pay_out, Answer, Joining, Ledger, Party, Scheme};
 pub use page::page;
 pub use price_band::{price_band, PriceBand};
 pub use pricing::{price, Bill, Percentage, Reconciliation};
 pub use refusal::Refusal;
 pub use slip::slip;
-pub use stored::{read_ledger, write_ledger};
+pub use stored::{move_back, move_to_new, read_ledger, write_ledger};

@@ -38,9 +38,11 @@ pub const LEDGER_UNSOUND: u8 = 13;
 pub const OUTPUT_TOO_SHORT: u8 = 14;
 /// Of a price band, "a low above its high"
 pub const LOW_ABOVE_HIGH: u8 = 15;
+/// "moving back where a next number isn't its count plus one"
+pub const NUMBERS_NOT_COUNTS: u8 = 16;
 
 /// The refusals in words that stand by themselves, from number 1 on.
-const WORDS: [&str; 15] = [
+const WORDS: [&str; 16] = [
     "a field can't stand at the place, or the file's last five bytes are wrong",
     "the file's check differs",
     "a value is past its limits, or the file's letters differ; in a stored ledger only the letters",
@@ -48,7 +50,7 @@ const WORDS: [&str; 15] = [
     "a bespoke rate is not allowed",
     "the scheme that the request joins was never opened",
     "the month is before the last accepted",
-    "there are 64 schemes, and one must open",
+    "there are 64 schemes, or the next would be the 65,536th, and one must open",
     "the table has fewer records than the stored ledger has entries, or than it would have after accept",
     "1,000,000 connections are taken",
     "there is no such entry",
@@ -56,9 +58,10 @@ const WORDS: [&str; 15] = [
     "the stored ledger is unsound",
     "the output, the answer or the figures are too short",
     "a low revenue is above its high",
+    "the next scheme or entry number is not its count plus one",
 ];
 
-/// A refusal: its number, 1 to 15, the file it is about and the place in it.
+/// A refusal: its number, 1 to 16, the file it is about and the place in it.
 #[derive(Debug, Clone, Copy, PartialEq, Eq)]
 pub struct Refusal {
     pub number: u8,

@@ -6,10 +6,15 @@ use generate::calls::{calls, Call, Outcome};
 use generate::Random;
 use reference::*;
 
-/// How often each answer and refusal was met: for none, joined, small and ended, without an opening and with one.
+/// How often each answer and refusal was met.
 #[derive(Debug, Default)]
 struct Tally {
+    /// For none, joined, small and ended, without an opening and with one.
     answers: [[u32; 2]; 4],
+    /// "ended" because the scheme was cleared.
+    joinings_of_cleared: u64,
+    /// Clearings that remove nothing, a part and all.
+    clearings: [u32; 3],
     done: u32,
     refusals: [u32; 15],
 }
@@ -30,11 +35,17 @@ impl Tally {
             Err(refused) => self.refusals[usize::from(refused.number)] += 1,
         }
     }
+
+    /// Counts a clearing by the schemes that stand before and after it.
+    fn count_clearing(&mut self, before: u16, after: u16) {
+        let removed = before > after;
+        self.clearings[usize::from(removed) + usize::from(removed && after == 0)] += 1;
+    }
 }
 
-/// Runs a list on a new ledger and a table whose records past the last entry must stay as they were.
+/// Runs a list on a new ledger and a table whose records past the last entry must stay as each call found them.
 fn run(list: &[Call], table_length: usize, tally: &mut Tally) {
-    let marked = Party { scheme: 99, person: 98, capacity: 97, put_in: 96, credited: 95, paid_out: 94 };
+    let marked = Party { number: 100, scheme: 99, person: 98, capacity: 97, put_in: 96, credited: 95, paid_out: 94 };
     let (mut ledger, mut parties) = (Ledger::new(), vec![marked; table_length]);
     let mut accounts = Accounts::default();
     for call in list {
@@ -45,10 +56,14 @@ fn run(list: &[Call], table_length: usize, tally: &mut Tally) {
             assert_eq!((&ledger, &parties), (&before.0, &before.1), "a refusal changes nothing");
         }
         accounts.check_ledger(&ledger, &parties);
-        assert!(parties[accounts.entries()..].iter().all(|party| *party == marked));
+        assert_eq!(parties[accounts.entries()..], before.1[accounts.entries()..]);
         accounts.check_demand();
         tally.count(&outcome);
+        if matches!(call, Call::Clear { .. }) && outcome.is_ok() {
+            tally.count_clearing(before.0.standing, ledger.standing);
+        }
     }
+    tally.joinings_of_cleared += accounts.joinings_of_cleared();
     assert!(ledger::is_sound(&ledger, &parties), "a ledger made by calls is sound");
 }
 
@@ -67,6 +82,7 @@ fn random_lists() {
     }
     println!("{tally:?}");
     assert!(tally.answers.iter().flatten().all(|&times| times > 20) && tally.done > 100, "{tally:?}");
+    assert!(tally.clearings.iter().all(|&times| times > 10) && tally.joinings_of_cleared > 20, "{tally:?}");
     for number in [1, 2, 3, 4, 5, 6, 7, 8, 9, 11, 12] {
         assert!(tally.refusals[number] > 0, "refusal {number} not met: {tally:?}");
     }

@@ -1,7 +1,7 @@
 //! Document 02, E4: a joiner that opens a scheme of its own.
 
 use generate::calls::{after, filling};
-use generate::{Book, Random, Request};
+use generate::{Book, Books, Random, Request};
 use reference::*;
 
 fn call(number: u8) -> Refusal {
@@ -32,48 +32,25 @@ fn joined(entry: u32, collected: u32) -> Option<Joining> {
     Some(Joining::Joined { entry, collected })
 }
 
-/// A ledger and its table.
-#[derive(Debug, Clone, PartialEq, Eq)]
-struct Books {
-    ledger: Ledger,
-    parties: Vec<Party>,
+/// Scheme 1 of cost 6,000,000 stands, by a first party of capacity 10,000.
+fn with_a_scheme(table_length: usize) -> Books {
+    let mut books = Books::new(table_length);
+    let opening = books.accept(&book(), &request(0, 6_000_000, 10_000));
+    assert_eq!(opening, Ok(Answer { joining: None, opened: Some(1) }));
+    books
 }
 
-impl Books {
-    fn new(table_length: usize) -> Books {
-        Books { ledger: Ledger::new(), parties: vec![Party::default(); table_length] }
-    }
-
-    /// Scheme 1 of cost 6,000,000 stands, by a first party of capacity 10,000.
-    fn with_a_scheme(table_length: usize) -> Books {
-        let mut books = Books::new(table_length);
-        let opening = books.accept(&book(), &request(0, 6_000_000, 10_000));
-        assert_eq!(opening, Ok(Answer { joining: None, opened: Some(1) }));
-        books
-    }
-
-    /// 64 schemes stand, the last of cost 1,000,000,000, and so many entries.
-    fn of_64_schemes(entries: usize, table_length: usize) -> Books {
-        let (ledger, parties) = after(&filling(&mut Random::new(11), 64, entries), table_length);
-        assert_eq!((ledger.opened, ledger.entries as usize), (64, entries));
-        Books { ledger, parties }
-    }
-
-    /// What accept answers; refused, it has changed nothing.
-    fn accept(&mut self, book: &Book, request: &Request) -> Result<Answer, Refusal> {
-        let before = self.clone();
-        let answer = accept(&mut self.ledger, &mut self.parties, &book.encode(), &request.encode());
-        if answer.is_err() {
-            assert_eq!(*self, before);
-        }
-        answer.map(|(_, answer)| answer)
-    }
+/// 64 schemes stand, the last of cost 1,000,000,000, and so many entries.
+fn of_64_schemes(entries: usize, table_length: usize) -> Books {
+    let (ledger, parties) = after(&filling(&mut Random::new(11), 64, entries), table_length);
+    assert_eq!((ledger.standing, ledger.entries as usize), (64, entries));
+    Books { ledger, parties }
 }
 
 /// Both schemes get later joiners, each by its own fee, minimum and term.
 #[test]
 fn both_schemes_are_joined() {
-    let mut books = Books::with_a_scheme(6);
+    let mut books = with_a_scheme(6);
     let built_on = books.accept(&other_book(), &building_on());
     assert_eq!(built_on, Ok(Answer { joining: joined(2, 2_000_000), opened: Some(2) }));
     // the first entry of scheme 2 is no party of scheme 1
@@ -82,20 +59,36 @@ fn both_schemes_are_joined() {
     let second = books.accept(&book(), &request(2, 0, 5_000));
     assert_eq!(second, Ok(Answer { joining: joined(5, 2_500_000), opened: None }));
 
-    let Ledger { month, connections, charged, borne, opened, entries, schemes } = books.ledger;
-    assert_eq!((month, connections, charged, borne, opened, entries), (24_315, 4, 11_000_001, 0, 2, 5));
-    let scheme = Scheme { cost: 6_000_000, fee: 20_000, minimum: 20_000, opening: 24_315, term: 84, fees: 40_000 };
-    assert_eq!(schemes[0], scheme);
-    assert_eq!(schemes[1], Scheme { cost: 5_000_001, fee: 7, minimum: 9, term: 100, fees: 7, ..scheme });
-    assert_eq!(schemes[2], Scheme::default());
-    let party =
-        |scheme, capacity, put_in, credited| Party { scheme, person: 4_711, capacity, put_in, credited, paid_out: 0 };
+    let mut wanted = Ledger {
+        month: 24_315,
+        connections: 4,
+        charged: 11_000_001,
+        next_scheme: 3,
+        next_entry: 6,
+        standing: 2,
+        entries: 5,
+        ..Ledger::new()
+    };
+    let (number, fees) = (1, 40_000);
+    let scheme = Scheme { number, cost: 6_000_000, fee: 20_000, minimum: 20_000, opening: 24_315, term: 84, fees };
+    wanted.schemes[0] = scheme;
+    wanted.schemes[1] = Scheme { number: 2, cost: 5_000_001, fee: 7, minimum: 9, term: 100, fees: 7, ..scheme };
+    assert_eq!(books.ledger, wanted);
+    let party = |number, scheme, capacity, put_in, credited| Party {
+        number,
+        scheme,
+        person: 4_711,
+        capacity,
+        put_in,
+        credited,
+        paid_out: 0,
+    };
     let wanted = [
-        party(1, 10_000, 6_000_000, 1_980_000 + 986_666),
-        party(1, 5_000, 2_000_000, 493_334),
-        party(2, 5_000, 5_000_001, 2_499_993),
-        party(1, 5_000, 1_500_000, 0),
-        party(2, 5_000, 2_500_000, 0),
+        party(1, 1, 10_000, 6_000_000, 1_980_000 + 986_666),
+        party(2, 1, 5_000, 2_000_000, 493_334),
+        party(3, 2, 5_000, 5_000_001, 2_499_993),
+        party(4, 1, 5_000, 1_500_000, 0),
+        party(5, 2, 5_000, 2_500_000, 0),
         Party::default(),
     ];
     assert_eq!(books.parties, wanted);
@@ -104,7 +97,7 @@ fn both_schemes_are_joined() {
 /// The new scheme has its own book's term and minimum, the joined one keeps those that it opened with.
 #[test]
 fn terms_and_minimums_stay_apart() {
-    let mut books = Books::with_a_scheme(6);
+    let mut books = with_a_scheme(6);
     books.accept(&other_book(), &building_on()).unwrap();
     let joining = |scheme, month, capacity| {
         let request = Request { month, ..request(scheme, 0, capacity) };
@@ -139,12 +132,12 @@ fn pairs_of_answers() {
     for (request, joining, opens) in rows {
         for mark in [0, 1, 2] {
             let opened = (opens && mark == 0).then_some(2);
-            let mut books = Books::with_a_scheme(4);
+            let mut books = with_a_scheme(4);
             let answer = books.accept(&other_book(), &Request { mark, ..request.clone() });
             assert_eq!(answer, Ok(Answer { joining, opened }), "{request:?}, mark {mark}");
             let joins = matches!(joining, Some(Joining::Joined { .. }));
             assert_eq!(books.ledger.entries, 1 + u32::from(joins) + u32::from(opened.is_some()));
-            assert_eq!((books.ledger.opened, books.ledger.connections), (1 + u16::from(opened.is_some()), 2));
+            assert_eq!((books.ledger.standing, books.ledger.connections), (1 + u16::from(opened.is_some()), 2));
         }
     }
 }
@@ -155,7 +148,7 @@ fn the_joiners_own_book_decides() {
     let low = Book { threshold: 0, ..book() };
     let one_cent = request(1, 1, 5_000);
     for (book, opened) in [(book(), None), (low, Some(2))] {
-        let answer = Books::with_a_scheme(3).accept(&book, &one_cent);
+        let answer = with_a_scheme(3).accept(&book, &one_cent);
         assert_eq!(answer, Ok(Answer { joining: joined(2, 2_000_000), opened }));
     }
     // a credit of half of 31 × 200,000 cents leaves 2,000,001 of ME
@@ -168,7 +161,7 @@ fn the_joiners_own_book_decides() {
         ..request(1, me, 5_000)
     };
     for (request, opened) in [(revenue(5_100_001, 2_999_999), None), (revenue(5_100_001, 3_000_000), Some(2))] {
-        let mut books = Books::with_a_scheme(3);
+        let mut books = with_a_scheme(3);
         assert_eq!(books.accept(&half, &request), Ok(Answer { joining: joined(2, 2_000_000), opened }));
         if opened.is_some() {
             assert_eq!((books.ledger.schemes[1].cost, books.parties[2].put_in), (5_000_001, 5_000_001));
@@ -195,7 +188,7 @@ fn entries_left_for_both() {
     for (request, needed, joining, opened) in rows {
         for left in 0..=3 {
             let wanted = if left < needed { Err(call(9)) } else { Ok(Answer { joining, opened }) };
-            let answer = Books::with_a_scheme(1 + left).accept(&other_book(), &request);
+            let answer = with_a_scheme(1 + left).accept(&other_book(), &request);
             assert_eq!(answer, wanted, "{request:?} with {left} entries left");
         }
     }
@@ -218,11 +211,11 @@ fn the_last_entries() {
 #[test]
 fn all_schemes_taken() {
     let building_on = |month| Request { month, ..request(64, 5_000_001, 5_000) };
-    let mut books = Books::of_64_schemes(64, 65);
+    let mut books = of_64_schemes(64, 65);
     for month in [24_315, 24_399] {
         assert_eq!(books.accept(&book(), &building_on(month)), Err(call(8)), "joined or ended, it must open");
     }
-    let full = Books::of_64_schemes(64, 64);
+    let full = of_64_schemes(64, 64);
     assert_eq!(full.clone().accept(&book(), &building_on(24_315)), Err(call(8)), "8 comes before 9");
     for mark in [1, 2] {
         let marked = |month| Request { mark, ..building_on(month) };
@@ -238,13 +231,13 @@ fn all_schemes_taken() {
 #[test]
 fn a_joiner_never_joins_its_own_opening() {
     let own = Request { scheme: 2, ..building_on() };
-    assert_eq!(Books::with_a_scheme(3).accept(&book(), &own), Err(call(6)));
-    assert_eq!(Books::with_a_scheme(1).accept(&book(), &own), Err(call(6)));
+    assert_eq!(with_a_scheme(3).accept(&book(), &own), Err(call(6)));
+    assert_eq!(with_a_scheme(1).accept(&book(), &own), Err(call(6)));
     assert_eq!(Books::new(3).accept(&book(), &building_on()), Err(call(6)));
     let never_opened = Request { scheme: 65, ..building_on() };
-    assert_eq!(Books::of_64_schemes(64, 64).accept(&book(), &never_opened), Err(call(6)));
+    assert_eq!(of_64_schemes(64, 64).accept(&book(), &never_opened), Err(call(6)));
     let early = Request { month: 24_314, ..own };
-    assert_eq!(Books::with_a_scheme(1).accept(&book(), &early), Err(call(7)));
+    assert_eq!(with_a_scheme(1).accept(&book(), &early), Err(call(7)));
 }
 
 /// One accept more than 63 schemes: the last place is taken by a joiner.

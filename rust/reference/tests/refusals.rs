@@ -51,12 +51,12 @@ const PLAIN: Result<Answer, Refusal> = Ok(Answer { joining: None, opened: None }
 
 #[test]
 fn words_for_every_number() {
-    let words: Vec<_> = (1..=15).map(|number| call(number).words()).collect();
+    let words: Vec<_> = (1..=16).map(|number| call(number).words()).collect();
     assert_eq!(words[0], "a field can't stand at the place, or the file's last five bytes are wrong");
     assert_eq!(words[13], "the output, the answer or the figures are too short");
-    assert_eq!(words[14], "a low revenue is above its high");
+    assert_eq!(words[15], "the next scheme or entry number is not its count plus one");
     assert!(words.iter().enumerate().all(|(index, word)| !words[..index].contains(word)));
-    assert_eq!([0, 16, 255].map(|number| call(number).words()), ["no refusal"; 3]);
+    assert_eq!([0, 17, 255].map(|number| call(number).words()), ["no refusal"; 3]);
 }
 
 #[test]
@@ -180,7 +180,7 @@ fn pay_out_and_hand_over() {
 #[test]
 fn order_of_writing_and_reading() {
     let (ledger, parties) = filled(2, 4, 4);
-    let length = 7 + 25 + 2 * 27 + 4 * 33 + 5;
+    let length = 7 + 57 + 2 * 31 + 4 * 37 + 5;
     let mut output = vec![0xEE; length];
     assert_eq!(write_ledger(&ledger, &parties[..3], &mut []), Err(call(13)));
     assert_eq!(write_ledger(&ledger, &parties, &mut output[1..]), Err(call(14)));
@@ -188,8 +188,7 @@ fn order_of_writing_and_reading() {
     assert_eq!(write_ledger(&ledger, &parties, &mut output), Ok(length));
 
     let mut wrong = alter_byte(&output, 3, b'p');
-    wrong[32 + 3 + 13] ^= 1; // scheme 1's opening, a month or so away
-    wrong[32 + 3 + 12] = 0xFF;
+    wrong[64 + 3 + 4 + 12] = 0xFF; // scheme 1's opening is after the last month
     let read = |file: &[u8], table_length| {
         let (mut read, mut table) = (filled(1, 1, 1).0, vec![Party::default(); table_length]);
         let before = (read.clone(), table.clone());
@@ -212,11 +211,11 @@ fn order_of_writing_and_reading() {
 fn stored_counts_past_their_limits() {
     for (schemes, entries) in [(64, 64), (1, 512)] {
         let (ledger, parties) = filled(schemes, entries, entries);
-        let mut file = vec![0; 20_000];
+        let mut file = vec![0; 21_000];
         let length = write_ledger(&ledger, &parties, &mut file).unwrap();
         let field = if schemes == 64 { 2 + 63 } else { 3 + 511 };
         let twice = generate::damage::field_twice(&file[..length], field);
-        let place = if schemes == 64 { 32 + 64 * 27 } else { length - 5 };
+        let place = if schemes == 64 { 64 + 64 * 31 } else { length - 5 };
         let refused = read_ledger(&mut Ledger::new(), &mut vec![Party::default(); 600], &twice).unwrap_err();
         assert_eq!(refused, Refusal { number: 1, file: 1, place });
     }

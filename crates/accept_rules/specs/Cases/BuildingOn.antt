@@ -5,9 +5,9 @@ use Rattle.tagged.specs.File.{refusal}
 use Rattle.reconciliation.specs.Reconciliation.{reconciliation_of}
 use Rattle.charge.specs.declared.Bill.{Bill}
 use Rattle.ledger.specs.Records.{scheme_of, no_scheme}
-use Rattle.ledger.specs.Lookup.{scheme_place}
+use Rattle.ledger.specs.Lookup.{place_of}
 use Rattle.ledger.specs.Columns.{sum_over, first_put_in}
-use Rattle.ledger.specs.Sound.{parties_sound, schemes_sound, all_zero, sound}
+use Rattle.ledger.specs.Sound.{parties_sound, schemes_sound, all_zero, sound_figures, rise_to, sound_numbers, sound}
 use Rattle.ledger.specs.declared.records.Scheme.{Scheme}
 use Rattle.ledger.specs.declared.records.Party.{Party}
 use Rattle.calls.specs.Verdict.{verdict}
@@ -30,14 +30,14 @@ bill me month capacity =
 
 -- scheme 1 with these fees, and the one that opens in this month
 abbrev first : ℕ → Scheme
-first fees = scheme_of 6000000 20000 20000 24315 84 fees
+first fees = scheme_of 1 6000000 20000 20000 24315 84 fees
 
 abbrev second : ℕ → Scheme
-second month = scheme_of 5000001 7 9 month 100 0
+second month = scheme_of 2 5000001 7 9 month 100 0
 
 -- the first entry, and what it is credited
 abbrev opener : ℕ → Party
-opener credited = party 1 7 10000 6000000 credited 0
+opener credited = party 1 1 7 10000 6000000 credited 0
 
 -- after the opening
 abbrev opened : State
@@ -51,20 +51,20 @@ short_table_cases =
     (let joiner = bill 5000000 24315 5000 in (
       joiner,
       accepted_as joiner (joined_as 2 2000000) None,
-      state_of (ledger 24315 2 11000000 0 2 1 (first 20000 ∷ replicate 63 no_scheme)) (opener 1980000 ∷ party 1 9 5000 2000000 0 0 ∷ []),
+      state_of (ledger 24315 2 11000000 0 2 1 (first 20000 ∷ replicate 63 no_scheme)) (opener 1980000 ∷ party 2 1 9 5000 2000000 0 0 ∷ []),
     )) ∷
     -- G 19,734 is small, and the one entry goes to the opening; 20,330 isn't
     (let joiner = bill 5000001 24315 33 in (
       joiner,
       accepted_as joiner Small (Some 2),
-      state_of (ledger 24315 2 11000001 0 2 2 (first 0 ∷ second 24315 ∷ replicate 62 no_scheme)) (opener 0 ∷ party 2 9 33 5000001 0 0 ∷ []),
+      state_of (ledger 24315 2 11000001 0 2 2 (first 0 ∷ second 24315 ∷ replicate 62 no_scheme)) (opener 0 ∷ party 2 2 9 33 5000001 0 0 ∷ []),
     )) ∷
     (bill 5000001 24315 34, is_refused (refusal 9 0 0), opened) ∷
     -- ended, and the last month in force
     (let joiner = bill 5000001 24399 5000 in (
       joiner,
       accepted_as joiner Ended (Some 2),
-      state_of (ledger 24399 2 11000001 0 2 2 (first 0 ∷ second 24399 ∷ replicate 62 no_scheme)) (opener 0 ∷ party 2 9 5000 5000001 0 0 ∷ []),
+      state_of (ledger 24399 2 11000001 0 2 2 (first 0 ∷ second 24399 ∷ replicate 62 no_scheme)) (opener 0 ∷ party 2 2 9 5000 5000001 0 0 ∷ []),
     )) ∷
     (bill 5000001 24398 5000, is_refused (refusal 9 0 0), opened) ∷
     []
@@ -75,5 +75,5 @@ ShortTableCasesHold =
     ≡ map (λ row. (row.1, row.2)) short_table_cases
 
 pub short_table_cases_hold : ShortTableCasesHold
-unfolding verdict sound parties_sound schemes_sound all_zero sum_over first_put_in scheme_place
+unfolding verdict sound sound_figures sound_numbers rise_to parties_sound schemes_sound all_zero sum_over first_put_in place_of
 short_table_cases_hold = refl

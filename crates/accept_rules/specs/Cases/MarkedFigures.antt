@@ -5,9 +5,9 @@ use Rattle.std.proofs.Common.{ap, ap₂}
 use Rattle.charge.specs.Cases.MarkedFigures.{slip_book, scheme_request, scheme_bills, MarkedFigures as PricingFigures, marked_figures as pricing_figures}
 use Rattle.charge.specs.Price.{Pricing}
 use Rattle.ledger.specs.Records.{no_party, new_ledger}
-use Rattle.ledger.specs.Lookup.{scheme_place}
+use Rattle.ledger.specs.Lookup.{place_of}
 use Rattle.ledger.specs.Columns.{sum_over, first_put_in}
-use Rattle.ledger.specs.Sound.{parties_sound, schemes_sound, all_zero, sound}
+use Rattle.ledger.specs.Sound.{parties_sound, schemes_sound, all_zero, sound_figures, rise_to, sound_numbers, sound}
 use Rattle.ledger.specs.declared.records.Party.{Party}
 use Rattle.calls.specs.Verdict.{verdict}
 use Rattle.calls.specs.Decision.{Call, accept, CallAnswer, is_accepted, is_done, is_refused}
@@ -69,9 +69,9 @@ pub record MarkedFigures : Type 0 where
   -- "cost 6,000,000, fee and minimum 20,000, capacities 10,000, 5,000, 5,000: collected 2,000,000 and 1,500,000; credits 1,980,000, then 986,666 and
   -- 493,334"
   pub m7 :
-      let first = party 1 4711 10000 6000000 in
-      let second = party 1 4711 5000 2000000 in
-      let third = party 1 4711 5000 1500000 in
+      let first = party 1 1 4711 10000 6000000 in
+      let second = party 2 1 4711 5000 2000000 in
+      let third = party 3 1 4711 5000 1500000 in
       in_turn start (accepting 6000000 24315 10000 0 ∷ accepting 1039630 24315 5000 1 ∷ accepting 1039630 24315 5000 1 ∷ [])
       ≡ (opened 1, first 0 0 ∷ no_party ∷ no_party ∷ []) ∷
       (joined 2 2000000, first 1980000 0 ∷ second 0 0 ∷ no_party ∷ []) ∷
@@ -94,7 +94,7 @@ abbrev answers_by : List Pricing → List AnswerParts
 answers_by pricings = map (λ after. after.0) (in_turn_by start pricings)
 
 pub marked_figures : MarkedFigures
-unfolding in_turn in_turn_by answered leaves verdict sound parties_sound schemes_sound all_zero sum_over first_put_in scheme_place
+unfolding in_turn in_turn_by answered leaves verdict sound sound_figures sound_numbers rise_to parties_sound schemes_sound all_zero sum_over first_put_in place_of
 marked_figures =
     record {
       pricing = pricing_figures;

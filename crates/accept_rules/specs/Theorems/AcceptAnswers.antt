@@ -1,6 +1,6 @@
 -- Exactly when accept answers what, in document 01's order of refusals: 13, pricing's own, 10, 7, 6, 8, 9; what it leaves as it was, and the numbers that it
 -- refuses with. Each case has the tests that lead to it, and every test goes one way or the other.
-use Rattle.std.specs.Prelude.{ℕ, ◌+◌, ◌<◌, ◌≤◌, ◌≡◌, refl, List, Bool, true, false, cond, ◌⊎◌, length, ltb, eqb, Err, None, Ok, Option, Some}
+use Rattle.std.specs.Prelude.{ℕ, ◌+◌, ◌<◌, ◌≤◌, ◌≡◌, refl, List, map, Bool, true, false, cond, ◌||◌, ◌⊎◌, length, leb, ltb, eqb, Err, None, Ok, Option, Some}
 use Rattle.std.proofs.Common.{sym, ap, ap₂, subst, ◌∙◌, inl, inr, ⊎_elim, arith, ltb-true, ltb-false, le-leb, lt-ltb, le-ltb, eq-eqb, ne_eqb}
 use mathlib.Mathlib.Data.Bool.Basic.{dichotomy}
 use Rattle.std.proofs.lemmas.Bool.{lt-leb}
@@ -9,46 +9,55 @@ use Rattle.tagged.specs.Refusals.{scheme_never_opened, month_before_last, no_sch
 use Rattle.tagged.specs.declared.file.Refusal.{Refusal}
 use Rattle.charge.specs.Price.{price_of, Pricing}
 use Rattle.charge.specs.declared.Bill.{Bill}
-use Rattle.ledger.specs.Limits.{most_schemes, most_entries, most_connections}
-use Rattle.ledger.specs.Books.{SchemeParticulars, Books}
+use Rattle.ledger.specs.Limits.{most_schemes, most_entries, most_connections, highest_next_scheme}
+use Rattle.ledger.specs.Books.{SchemeParticulars, Books, scheme_at}
 use Rattle.ledger.specs.Sound.{sound}
 use Rattle.ledger.specs.SoundConditions.{SoundLedger}
 use Rattle.ledger.proofs.Theorems.Sound.{not_both, sound_means}
+use Rattle.ledger.proofs.Theorems.Rising.{rise_length}
 use Rattle.calls.proofs.Theorems.Lists.{by_cond}
 use Rattle.calls.specs.Verdict.{joining_of, joining_part, opens_scheme, entries_of_joining, entries_needed, schemes_lacking, entries_lacking, course_verdict, verdict, Verdict}
 use Rattle.calls.proofs.Theorems.Verdict.{joining_ended, joining_small, joining_pays, verdict_refused_10, verdict_refused_7, verdict_refused_6, verdict_course, course_refused_8, course_refused_9, course_accepted}
 use Rattle.calls.specs.Decision.{accept, Decision, refused, credits_by, accept_by, decided_by as decided_of, CallAnswer, is_accepted, is_done, is_refused, joining_answer, answer_to}
-use Rattle.calls.specs.Carried.{State, books_on, booked, joined, opened, carried_out}
+use Rattle.calls.specs.Carried.{State, books_on, schemes_on, booked, joined, opened, carried_out}
 use Rattle.calls.specs.Calls.{answered, leaves}
 use Rattle.calls.proofs.Theorems.Calls.{refused_changes_nothing, verdict_refuses}
 use Rattle.calls.specs.CallRefusals.{Refuses as RefusesWith}
-use Rattle.calls.proofs.Theorems.ByPlace.{schemes_shown, entries_shown, scheme_opened}
+use Rattle.calls.proofs.Theorems.ByPlace.{schemes_shown, entries_shown}
 use Rattle.calls.specs.Answers.{accepted_as, joined_as}
 use Rattle.calls.specs.declared.courses.Joining.{Joining}
 use Rattle.calls.specs.declared.courses.Course.{Course}
 use Rattle.calls.specs.declared.answers.JoiningAnswer.{JoiningAnswer}
-use Rattle.accept_rules.specs.Laws.{ledger_numbers, AcceptRefuses, decided_by, answered_by, leaves_by, earlier_capacity, contribution_of, joined_with, EntriesLeft, EntriesLacking, Billed, MayConnect, MayJoin, InForce, JoiningAnswers, not_asked, ended, small, joins, OpeningAnswers, opens_none, opens, Answers, refused_13, refused_by_pricing, refused_10, refused_7, refused_6, refused_8, refused_9, accepts}
+use Rattle.accept_rules.specs.Laws.{ledger_numbers, AcceptRefuses, decided_by, answered_by, leaves_by, earlier_capacity, contribution_of, joined_with, SchemesLeft, SchemesLacking, EntriesLeft, EntriesLacking, Billed, MayConnect, MayJoin, InForce, JoiningAnswers, not_asked, ended, cleared, small, joins, OpeningAnswers, opens_none, opens, Answers, refused_13, refused_by_pricing, refused_10, refused_7, refused_6, refused_8, refused_9, accepts}
 
 -- ---- each case is accept's
 lt_or_le : (a b : ℕ) → (a < b) ⊎ (b ≤ a)
 lt_or_le a b = ⊎_elim (λ e. inr (ltb-false a b e)) (λ e. inl (ltb-true a b e)) (dichotomy (ltb a b))
 
 -- by the schemes and the entries that a sound ledger has: a scheme or an entry is lacking, or isn't
-schemes_lacking_lem : (opens : Bool) {new : ℕ} (count : ℕ) → new ≡ cond opens 1 0 → count ≤ most_schemes → most_schemes < count + new → schemes_lacking count opens ≡ true
-schemes_lacking_lem true count needs few lacks = rw (le-leb most_schemes count (omega arith))
-schemes_lacking_lem false count needs few lacks = absurd (omega arith)
+module _ (state : State) (stands : sound state.ledger state.table (length state.table) ≡ true) {new : ℕ} where
+  schemes_lacking_lem : (opens : Bool) → new ≡ cond opens 1 0 → SchemesLacking state new → schemes_lacking state.ledger.count state.ledger.next_scheme opens ≡ true
+  schemes_lacking_lem true needs (inl place) = rw (le-leb most_schemes state.ledger.count (omega arith))
+  schemes_lacking_lem true needs (inr number) = rw (le-leb highest_next_scheme state.ledger.next_scheme (omega arith)) (either (leb most_schemes state.ledger.count))
+    where
+      either : (b : Bool) → (b || true) ≡ true
+      either true = refl
+      either false = refl
+  schemes_lacking_lem false needs (inl place) = absurd (omega (arith, (sound_means _ _ _ stands).figures.schemes))
+  schemes_lacking_lem false needs (inr number) = absurd (omega (arith, (sound_means _ _ _ stands).numbers.next_scheme))
 
-schemes_left : (opens : Bool) {new : ℕ} (count : ℕ) → new ≡ cond opens 1 0 → count + new ≤ most_schemes → schemes_lacking count opens ≡ false
-schemes_left true count needs left = rw (lt-leb most_schemes count (omega arith))
-schemes_left false count needs left = refl
+  schemes_left : (opens : Bool) → new ≡ cond opens 1 0 → SchemesLeft state new → schemes_lacking state.ledger.count state.ledger.next_scheme opens ≡ false
+  schemes_left true needs left =
+      rw (lt-leb most_schemes state.ledger.count (omega (arith, left.place)), lt-leb highest_next_scheme state.ledger.next_scheme (omega (arith, left.number)))
+  schemes_left false needs left = refl
 
 module _ (state : State) (stands : sound state.ledger state.table (length state.table) ≡ true) (needed : ℕ) where
   entries_lacking_lem : EntriesLacking state needed → entries_lacking state.ledger.entries (length state.table) needed ≡ true
   entries_lacking_lem (inl limit) =
-      let few = (sound_means _ _ _ stands).entries in
+      let few = (sound_means _ _ _ stands).figures.entries in
       rw (ne_eqb needed 0 (λ e. omega arith), lt-ltb most_entries (state.ledger.entries + needed) limit)
   entries_lacking_lem (inr room) =
-      let few = (sound_means _ _ _ stands).in_table in
+      let few = (sound_means _ _ _ stands).figures.in_table in
       rw (ne_eqb needed 0 (λ e. omega arith), lt-ltb (length state.table) (state.ledger.entries + needed) room)
       (either (ltb most_entries (state.ledger.entries + needed)))
     where
@@ -87,20 +96,20 @@ module _ (state : State) (pricing : Pricing) (places : length state.ledger.schem
     record JoiningIs (joining : JoiningAnswer) (entries : ℕ) (between : State) : Type 0 where
       part : Joining
       is : joining_part (books_on state) bill ≡ part
-      was_opened : bill.applicant.scheme ≤ state.ledger.count
+      was_opened : bill.applicant.scheme < state.ledger.next_scheme
       answer : joining ≡ joining_answer (books_on state) part
       needs : entries ≡ entries_of_joining part
       leaving : between ≡ joined part (credits_by (books_on state) bill part) bill (booked bill state)
 
-    by_row : {scheme : SchemeParticulars} {joining : Joining} → MayJoin state bill scheme → joining_of (books_on state) bill scheme ≡ joining →
+    by_row : {scheme : SchemeParticulars} {joining : Joining} → MayJoin state bill (Some scheme) → joining_of (books_on state) bill scheme ≡ joining →
         joining_part (books_on state) bill ≡ joining
     by_row h e = rw (ne_eqb bill.applicant.scheme 0 (λ e. omega (arith, h.numbered)), h.is) e
 
-    joining_is : {joining : JoiningAnswer} {entries : ℕ} {between : State} → JoiningAnswers state bill joining entries between →
+    joining_is : 0 < state.ledger.next_scheme → {joining : JoiningAnswer} {entries : ℕ} {between : State} → JoiningAnswers state bill joining entries between →
         JoiningIs joining entries between
-    joining_is (not_asked none) =
-        record { part = Joining.NotAsked; is = rw (eq-eqb _ _ none); was_opened = omega (arith, none); answer = refl; needs = refl; leaving = refl }
-    joining_is (ended {scheme} h late) =
+    joining_is numbered (not_asked none) =
+        record { part = Joining.NotAsked; is = rw (eq-eqb _ _ none); was_opened = omega (arith, none, numbered); answer = refl; needs = refl; leaving = refl }
+    joining_is numbered (ended {scheme} h late) =
         record {
           part = Joining.Ended;
           is = by_row h (joining_ended (books_on state) bill scheme late);
@@ -109,7 +118,16 @@ module _ (state : State) (pricing : Pricing) (places : length state.ledger.schem
           needs = refl;
           leaving = refl;
         }
-    joining_is (small {scheme} h below) =
+    joining_is numbered (cleared h) =
+        record {
+          part = Joining.Ended;
+          is = rw (ne_eqb bill.applicant.scheme 0 (λ e. omega (arith, h.numbered)), h.is);
+          was_opened = h.opened;
+          answer = refl;
+          needs = refl;
+          leaving = refl;
+        }
+    joining_is numbered (small {scheme} h below) =
         record {
           part = Joining.Small;
           is = by_row h.joins (joining_small (books_on state) bill scheme h.not_ended refl refl below);
@@ -118,12 +136,12 @@ module _ (state : State) (pricing : Pricing) (places : length state.ledger.schem
           needs = refl;
           leaving = refl;
         }
-    joining_is (joins {scheme} h enough e) =
+    joining_is numbered (joins {scheme} h enough e) =
         record {
           part = Joining.Pays (record { collected = contribution_of state bill scheme; fee = scheme.fee; capacity = earlier_capacity state bill });
           is = by_row h.joins (joining_pays (books_on state) bill scheme h.not_ended refl refl enough);
           was_opened = h.joins.opened;
-          answer = ap (joined_as (state.ledger.entries + 1)) e;
+          answer = ap (joined_as state.ledger.next_entry) e;
           needs = refl;
           leaving = ap (joined_with state bill scheme) e;
         }
@@ -131,7 +149,7 @@ module _ (state : State) (pricing : Pricing) (places : length state.ledger.schem
     record OpeningIs (between : State) (opening : Option ℕ) (new : ℕ) (after : State) : Type 0 where
       part : Bool
       is : opens_scheme bill ≡ part
-      answer : opening ≡ cond part (Some (state.ledger.count + 1)) None
+      answer : opening ≡ cond part (Some state.ledger.next_scheme) None
       needs : new ≡ cond part 1 0
       leaving : after ≡ opened part bill between
 
@@ -152,7 +170,7 @@ module _ (state : State) (pricing : Pricing) (places : length state.ledger.schem
           Accepts-as (answer_to (books_on state) (decided_of (books_on state) bill v)) (carried_out state (decided_of (books_on state) bill v))
       by_course v judged =
           by_verdict v h.billed
-          (verdict_course (books_on state) bill h.connections h.month (omega (arith, joins.was_opened))
+          (verdict_course (books_on state) bill h.connections h.month joins.was_opened
           ∙ ap₂ (λ j o. course_verdict (books_on state) (record { joining = j; opens = o })) joins.is opens.is
           ∙ judged)
 
@@ -160,22 +178,22 @@ module _ (state : State) (pricing : Pricing) (places : length state.ledger.schem
       stands = sound_means _ _ _ h.billed.stands
 
       schemes : length (books_on state).schemes ≡ state.ledger.count
-      schemes = schemes_shown state.ledger state.table (omega (arith, stands.schemes))
+      schemes = schemes_shown state.ledger state.table (omega (arith, stands.figures.schemes))
 
       entered : length (books_on state).entries ≡ state.ledger.entries
-      entered = entries_shown state.ledger state.table stands.in_table
+      entered = entries_shown state.ledger state.table stands.figures.in_table
 
       needed : entries + new ≡ entries_needed course
       needed = ap₂ ◌+◌ joins.needs opens.needs
 
-      full : most_schemes < state.ledger.count + new → Accepts-as (is_refused (refusal no_scheme_left 0 0)) state
+      full : SchemesLacking state new → Accepts-as (is_refused (refusal no_scheme_left 0 0)) state
       full lacks =
           by_course (Err (refusal no_scheme_left 0 0))
-          (course_refused_8 (books_on state) course (rw schemes (schemes_lacking_lem opens.part state.ledger.count opens.needs stands.schemes lacks)))
+          (course_refused_8 (books_on state) course (rw schemes (schemes_lacking_lem state h.billed.stands opens.part opens.needs lacks)))
 
-      module _ (some : state.ledger.count + new ≤ most_schemes) where
-        few : schemes_lacking (length (books_on state).schemes) opens.part ≡ false
-        few = rw schemes (schemes_left opens.part state.ledger.count opens.needs some)
+      module _ (some : SchemesLeft state new) where
+        few : schemes_lacking (length (books_on state).schemes) state.ledger.next_scheme opens.part ≡ false
+        few = rw schemes (schemes_left state h.billed.stands opens.part opens.needs some)
 
         no_entries : EntriesLacking state (entries + new) → Accepts-as (is_refused (refusal no_entry_left 0 0)) state
         no_entries lacks =
@@ -190,16 +208,24 @@ module _ (state : State) (pricing : Pricing) (places : length state.ledger.schem
               is_after = opens.leaving ∙ ap (opened opens.part bill) joins.leaving ∙ same.is_after;
             }
 
+  -- "the next ones, which are above 0"
+  above_0 : {bill : Bill} → MayConnect state pricing bill → 0 < state.ledger.next_scheme
+  above_0 h =
+      omega (
+        arith,
+        rise_length state.ledger.next_scheme 0 (map (λ scheme. scheme.number) (schemes_on state)) (sound_means _ _ _ h.billed.stands).numbers.schemes_in_order,
+      )
+
   accepts_as : {answer : CallAnswer} {after : State} → Answers state pricing answer after → Accepts-as answer after
   accepts_as (refused_13 unsound) = by_decision (refused (refusal ledger_unsound 0 0)) (rw unsound)
   accepts_as (refused_by_pricing {r} stands e) = by_decision (refused r) (rw (stands, e))
   accepts_as (refused_10 {bill} h taken) = by_verdict bill (Err (refusal no_connection_left 0 0)) h (verdict_refused_10 (books_on state) bill taken)
   accepts_as (refused_7 {bill} h connections before) = by_verdict bill (Err (refusal month_before_last 0 0)) h (verdict_refused_7 (books_on state) bill connections before)
   accepts_as (refused_6 {bill} h never) =
-      by_verdict bill (Err (refusal scheme_never_opened 0 0)) h.billed (verdict_refused_6 (books_on state) bill h.connections h.month (omega arith))
-  accepts_as (refused_8 {bill} h joining opening lacks) = full bill h (joining_is bill joining) (opening_is bill opening) lacks
-  accepts_as (refused_9 {bill} h joining opening some lacks) = no_entries bill h (joining_is bill joining) (opening_is bill opening) some lacks
-  accepts_as (accepts {bill} h joining opening some left) = both bill h (joining_is bill joining) (opening_is bill opening) some left
+      by_verdict bill (Err (refusal scheme_never_opened 0 0)) h.billed (verdict_refused_6 (books_on state) bill h.connections h.month never)
+  accepts_as (refused_8 {bill} h joining opening lacks) = full bill h (joining_is bill (above_0 h) joining) (opening_is bill opening) lacks
+  accepts_as (refused_9 {bill} h joining opening some lacks) = no_entries bill h (joining_is bill (above_0 h) joining) (opening_is bill opening) some lacks
+  accepts_as (accepts {bill} h joining opening some left) = both bill h (joining_is bill (above_0 h) joining) (opening_is bill opening) some left
 
   -- ---- and one of the cases holds
 
@@ -219,14 +245,23 @@ module _ (state : State) (pricing : Pricing) (places : length state.ledger.schem
       (lt_or_le (length state.table) (state.ledger.entries + needed)))
       (lt_or_le most_entries (state.ledger.entries + needed))
 
+  schemes_there : (needed : ℕ) → SchemesLeft state needed ⊎ SchemesLacking state needed
+  schemes_there needed =
+      ⊎_elim (λ place. inr (inl place))
+      (λ place.
+      ⊎_elim (λ number. inr (inr number)) (λ number. inl (record { place = place; number = number }))
+      (lt_or_le highest_next_scheme (state.ledger.next_scheme + needed)))
+      (lt_or_le most_schemes (state.ledger.count + needed))
+
   module _ {bill : Bill} (h : MayConnect state pricing bill) where
     judged_answers : {joining : JoiningAnswer} {opening : Option ℕ} {entries new : ℕ} {between after : State} →
         JoiningAnswers state bill joining entries between → OpeningAnswers state bill between opening new after → Answered
     judged_answers {entries} {new} joining opening =
-        ⊎_elim (λ lacks. told (refused_8 h joining opening lacks))
+        ⊎_elim
         (λ some.
         ⊎_elim (λ left. told (accepts h joining opening some left)) (λ lacks. told (refused_9 h joining opening some lacks)) (entries_there (entries + new)))
-        (lt_or_le most_schemes (state.ledger.count + new))
+        (λ lacks. told (refused_8 h joining opening lacks))
+        (schemes_there new)
 
     -- after any joining
     opening_answers : {joining : JoiningAnswer} {entries : ℕ} {between : State} → JoiningAnswers state bill joining entries between → Answered
@@ -238,8 +273,9 @@ module _ (state : State) (pricing : Pricing) (places : length state.ledger.schem
         (λ within. judged_answers joining (opens_none (inr within)))
         (lt_or_le bill.terms.threshold bill.reconciliation.x)
 
-    joining_answers : {scheme : SchemeParticulars} → MayJoin state bill scheme → Answered
-    joining_answers {scheme} may =
+    joining_answers : (scheme : Option SchemeParticulars) → MayJoin state bill scheme → Answered
+    joining_answers None may = opening_answers (cleared may)
+    joining_answers (Some scheme) may =
         ⊎_elim
         (λ not_ended.
         let force : InForce state bill scheme = record { joins = may; not_ended = not_ended } in
@@ -254,15 +290,12 @@ module _ (state : State) (pricing : Pricing) (places : length state.ledger.schem
         asked : 1 ≤ bill.applicant.scheme → Answered
         asked numbered =
             ⊎_elim (λ never. told (refused_6 h never))
-            (λ opened.
-            let few = (sound_means _ _ _ h.billed.stands).schemes in
-            joining_answers
-            (record {
-              numbered = numbered;
-              opened = opened;
-              is = scheme_opened state.ledger state.table bill.applicant.scheme numbered opened (omega arith);
-            }))
-            (lt_or_le state.ledger.count bill.applicant.scheme)
+            (λ opened. joining_answers (scheme_at (books_on state) bill.applicant.scheme) (record { numbered = numbered; opened = opened; is = refl }))
+            (either (lt_or_le bill.applicant.scheme state.ledger.next_scheme))
+          where
+            either : {A B : Type 0} → A ⊎ B → B ⊎ A
+            either (inl a) = inr a
+            either (inr b) = inl b
 
   billed_answers : {bill : Bill} → Billed state pricing bill → Answered
   billed_answers {bill} h =

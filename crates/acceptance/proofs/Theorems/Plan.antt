@@ -1,5 +1,5 @@
 -- The plan by what it goes by, and what its steps leave of the counts.
-use Rattle.std.specs.Prelude.{ℕ, ◌+◌, ◌≤◌, ◌≡◌, refl, List, true, None, Option, Some}
+use Rattle.std.specs.Prelude.{ℕ, ◌+◌, ◌≤◌, ◌≡◌, refl, List, true, take, None, Option, Some}
 use Rattle.std.proofs.Math.Path.{ap}
 use Rattle.std.proofs.Common.{arith}
 use Rattle.charge.specs.declared.Bill.{Bill}
@@ -19,24 +19,20 @@ module _ (ledger : Ledger) (parties : List Party) (room : ℕ) where
   unfolding plan_of
   plan_priced stands e = rw stands (ap (priced_plan ledger parties room) e)
 
--- a joining leaves the number of schemes, and counts the entry that it needs
-fee_count : (at : Option ℕ) (fee : ℕ) (ledger : Ledger) → (fee_at_place at fee ledger).count ≡ ledger.count
-fee_count (Some at) fee ledger = refl
-fee_count None fee ledger = refl
+-- a joining leaves the number of schemes and the next one's, and counts the entry that it needs
+pub record JoinedCounts (ledger : Ledger) (needed : ℕ) (after : Ledger) : Type 0 where
+  pub count : after.count ≡ ledger.count
+  pub next_scheme : after.next_scheme ≡ ledger.next_scheme
+  pub entries : after.entries ≤ ledger.entries + needed
+  pub next_entry : after.next_entry ≤ ledger.next_entry + needed
 
-fee_entries : (at : Option ℕ) (fee : ℕ) (ledger : Ledger) → (fee_at_place at fee ledger).entries ≤ ledger.entries + 1
-fee_entries (Some at) fee ledger = omega arith
-fee_entries None fee ledger = omega arith
+fee_counts : (at : Option ℕ) (fee : ℕ) (ledger : Ledger) → JoinedCounts ledger 1 (fee_at_place at fee ledger)
+fee_counts (Some at) fee ledger = record { count = refl; next_scheme = refl; entries = omega arith; next_entry = omega arith }
+fee_counts None fee ledger = record { count = refl; next_scheme = refl; entries = omega arith; next_entry = omega arith }
 
-pub joined_count : (joining : Joining) (bill : Bill) (ledger : Ledger) → (joined_ledger joining bill ledger).count ≡ ledger.count
-joined_count NotAsked bill ledger = refl
-joined_count Ended bill ledger = refl
-joined_count Small bill ledger = refl
-joined_count (Pays paid) bill ledger = fee_count (scheme_place ledger.count bill.applicant.scheme) _ _
-
-pub joined_entries : (joining : Joining) (bill : Bill) (ledger : Ledger) →
-    (joined_ledger joining bill ledger).entries ≤ ledger.entries + entries_of_joining joining
-joined_entries NotAsked bill ledger = omega arith
-joined_entries Ended bill ledger = omega arith
-joined_entries Small bill ledger = omega arith
-joined_entries (Pays paid) bill ledger = fee_entries (scheme_place ledger.count bill.applicant.scheme) _ _
+pub joined_counts : (joining : Joining) (bill : Bill) (ledger : Ledger) →
+    JoinedCounts ledger (entries_of_joining joining) (joined_ledger joining bill ledger)
+joined_counts NotAsked bill ledger = record { count = refl; next_scheme = refl; entries = omega arith; next_entry = omega arith }
+joined_counts Ended bill ledger = record { count = refl; next_scheme = refl; entries = omega arith; next_entry = omega arith }
+joined_counts Small bill ledger = record { count = refl; next_scheme = refl; entries = omega arith; next_entry = omega arith }
+joined_counts (Pays paid) bill ledger = fee_counts (scheme_place bill.applicant.scheme (take ledger.count ledger.schemes)) _ _

@@ -1,5 +1,5 @@
 -- A plan over a snapshot of the table comes to what the call answers and leaves: booked, joined and opened, each by place.
-use Rattle.std.specs.Prelude.{ℕ, zero, suc, ◌+◌, ◌-◌, ◌<◌, ◌≤◌, ◌≡◌, List, [], ◌∷◌, ◌++◌, Bool, true, false, cond, length, take, set, replicate, Err, Ok}
+use Rattle.std.specs.Prelude.{ℕ, zero, suc, ◌+◌, ◌-◌, ◌<◌, ◌≤◌, ◌≡◌, List, [], ◌∷◌, ◌++◌, Bool, true, false, cond, length, take, set, replicate, Err, Ok, Some}
 use Rattle.std.proofs.Math.Path.{refl, subst}
 use Rattle.std.proofs.Common.{sym, ap, ap₂, ◌∙◌, add-zero, arith, length-set, length-take-le, take_at}
 use Rattle.std.proofs.lemmas.List.Edits.{sets}
@@ -10,9 +10,9 @@ use Rattle.charge.specs.Price.{price_of, Pricing}
 use Rattle.charge.specs.declared.Bill.{Bill}
 use Rattle.ledger.specs.Limits.{most_schemes, most_entries}
 use Rattle.ledger.specs.Books.{books_of}
-use Rattle.ledger.proofs.Theorems.Lookup.{placed_scheme}
 use Rattle.ledger.proofs.Theorems.SameEntries.{snapshot_sound}
-use Rattle.ledger.specs.Sound.{sound}
+use Rattle.ledger.specs.Lookup.{scheme_place}
+use Rattle.ledger.specs.Sound.{schemes_rise, entries_rise, sound}
 use Rattle.ledger.specs.SoundConditions.{SoundLedger}
 use Rattle.ledger.proofs.Theorems.Sound.{sound_means}
 use Rattle.ledger.specs.Table.{credit_each}
@@ -20,7 +20,8 @@ use Rattle.ledger.proofs.Theorems.Table.{length_credit_each, credit_none}
 use Rattle.ledger.specs.declared.records.Party.{Party}
 use Rattle.ledger.specs.declared.records.Ledger.{Ledger}
 use Rattle.calls.specs.Verdict.{entries_of_joining, entries_needed, verdict, Verdict}
-use Rattle.calls.proofs.Theorems.VerdictConditions.{CourseConditions, course_conditions}
+use Rattle.calls.specs.VerdictConditions.{PaysAt}
+use Rattle.calls.proofs.Theorems.VerdictConditions.{CourseConditions, course_conditions, pays_at}
 use Rattle.calls.specs.Decision.{accept, Decision, refused, decided_by, accept_by, credits_by as credits_in, acceptance_of, answer_to, is_accepted, of_accept}
 use Rattle.calls.specs.Carried.{State, booked, joined, opened, new_party, carried_out}
 use Rattle.calls.specs.Calls.{state_of, answered, leaves}
@@ -53,32 +54,33 @@ credit_nothing [] (suc n) (suc many) = refl
 credit_nothing (party ∷ parties) (suc n) (suc many) = rw (add-zero, credit_nothing parties n many)
 
 -- ---- the entries that a plan adds, as a list
-abbrev pub joiner_parties : Bill → Joining → List Party
-joiner_parties bill NotAsked = []
-joiner_parties bill Ended = []
-joiner_parties bill Small = []
-joiner_parties bill (Pays paid) = new_party bill.applicant.scheme bill paid.collected ∷ []
+abbrev pub joiner_parties : ℕ → Bill → Joining → List Party
+joiner_parties number bill NotAsked = []
+joiner_parties number bill Ended = []
+joiner_parties number bill Small = []
+joiner_parties number bill (Pays paid) = new_party number bill.applicant.scheme bill paid.collected ∷ []
 
-abbrev pub opener_parties : ℕ → Bill → Bool → List Party
-opener_parties number bill opens = cond opens (new_party number bill bill.reconciliation.x ∷ []) []
+abbrev pub opener_parties : ℕ → ℕ → Bill → Bool → List Party
+opener_parties number scheme bill opens = cond opens (new_party number scheme bill bill.reconciliation.x ∷ []) []
 
-pub added_in_order : (number : ℕ) (bill : Bill) (joining : Joining) (opens : Bool) →
-    let added = opener_added number bill opens (joiner_added bill joining) in
-    take added.count added.parties ≡ joiner_parties bill joining ++ opener_parties number bill opens
-added_in_order number bill NotAsked true = refl
-added_in_order number bill NotAsked false = refl
-added_in_order number bill Ended true = refl
-added_in_order number bill Ended false = refl
-added_in_order number bill Small true = refl
-added_in_order number bill Small false = refl
-added_in_order number bill (Pays paid) true = refl
-added_in_order number bill (Pays paid) false = refl
+pub added_in_order : (number scheme : ℕ) (bill : Bill) (joining : Joining) (opens : Bool) →
+    let joiner = joiner_parties number bill joining in
+    let added = opener_added number scheme bill opens (joiner_added number bill joining) in
+    take added.count added.parties ≡ joiner ++ opener_parties (number + length joiner) scheme bill opens
+added_in_order number scheme bill NotAsked true = refl
+added_in_order number scheme bill NotAsked false = refl
+added_in_order number scheme bill Ended true = refl
+added_in_order number scheme bill Ended false = refl
+added_in_order number scheme bill Small true = refl
+added_in_order number scheme bill Small false = refl
+added_in_order number scheme bill (Pays paid) true = refl
+added_in_order number scheme bill (Pays paid) false = refl
 
-pub one_entry : (bill : Bill) (joining : Joining) → length (joiner_parties bill joining) ≡ entries_of_joining joining
-one_entry bill NotAsked = refl
-one_entry bill Ended = refl
-one_entry bill Small = refl
-one_entry bill (Pays paid) = refl
+pub one_entry : (number : ℕ) (bill : Bill) (joining : Joining) → length (joiner_parties number bill joining) ≡ entries_of_joining joining
+one_entry number bill NotAsked = refl
+one_entry number bill Ended = refl
+one_entry number bill Small = refl
+one_entry number bill (Pays paid) = refl
 
 -- ---- booked, and joined
 abbrev pub ledger_joined : Ledger → Bill → Joining → Ledger
@@ -87,7 +89,7 @@ ledger_joined ledger bill joining = joined_ledger joining bill (booked_ledger bi
 abbrev pub table_joined : Ledger → List Party → Bill → Joining → List Party
 table_joined ledger table bill joining =
     sets (credit_each table (take ledger.entries (padded (credits_by (take ledger.entries table) bill joining)))) ledger.entries
-    (joiner_parties bill joining)
+    (joiner_parties ledger.next_entry bill joining)
 
 abbrev pub state_joined : Ledger → List Party → Bill → Joining → State
 state_joined ledger table bill joining = state_of (ledger_joined ledger bill joining) (table_joined ledger table bill joining)
@@ -95,15 +97,17 @@ state_joined ledger table bill joining = state_of (ledger_joined ledger bill joi
 pub record Step (ledger : Ledger) (table : List Party) (bill : Bill) (joining : Joining) : Type 0 where
   pub is : state_joined ledger table bill joining ≡ joined joining (credits_in (books_of ledger table) bill joining) bill (booked bill (state_of ledger table))
   pub count : (ledger_joined ledger bill joining).count ≡ ledger.count
-  pub entries : (ledger_joined ledger bill joining).entries ≡ ledger.entries + length (joiner_parties bill joining)
+  pub next_scheme : (ledger_joined ledger bill joining).next_scheme ≡ ledger.next_scheme
+  pub entries : (ledger_joined ledger bill joining).entries ≡ ledger.entries + length (joiner_parties ledger.next_entry bill joining)
+  pub next_entry : (ledger_joined ledger bill joining).next_entry ≡ ledger.next_entry + length (joiner_parties ledger.next_entry bill joining)
   pub places : length (ledger_joined ledger bill joining).schemes ≡ length ledger.schemes
 
 -- a joiner that pays has its scheme and its place in the table
 pub record Joinable (ledger : Ledger) (table : List Party) (bill : Bill) (joining : Joining) : Type 0 where
-  pub numbered : (paid : Contribution) → joining ≡ Pays paid → 1 ≤ bill.applicant.scheme
-  pub opened : bill.applicant.scheme ≤ ledger.count
-  pub places : ledger.count ≤ length ledger.schemes
-  pub left : ledger.entries + length (joiner_parties bill joining) ≤ length table
+  pub scheme : (paid : Contribution) → joining ≡ Pays paid → PaysAt (take ledger.count ledger.schemes) bill paid
+  pub schemes_in_order : schemes_rise ledger ≡ true
+  pub entries_in_order : entries_rise ledger (take ledger.entries table) ≡ true
+  pub left : ledger.entries + length (joiner_parties ledger.next_entry bill joining) ≤ length table
 
 module _ (ledger : Ledger) (table : List Party) (bill : Bill) where
   unjoined : state_of (booked_ledger bill ledger) (credit_each table (take ledger.entries (padded []))) ≡ booked bill (state_of ledger table)
@@ -114,25 +118,27 @@ module _ (ledger : Ledger) (table : List Party) (bill : Bill) where
       let s = bill.applicant.scheme in
       let amount = paid.collected - paid.fee in
       let earlier : List Party = take ledger.entries table in
-      let numbered : 1 ≤ s = may.numbered paid refl in
       let left : ledger.entries < length table = omega (arith, may.left) in
-      let place = placed_scheme ledger.count s (s - 1) (record { numbered = numbered; kept = may.opened; next = omega arith }) in
+      let scheme : PaysAt (take ledger.count ledger.schemes) bill paid = may.scheme paid refl in
+      let place : scheme_place s (take ledger.count ledger.schemes) ≡ Some scheme.place = scheme.at in
       let told : take ledger.entries (padded (credits_among s amount earlier)) ≡ credits_among s amount earlier =
       take_at (credits_among s amount earlier) _ ledger.entries
       (length_credits_among s amount earlier ∙ length-take-le ledger.entries table (omega arith)) in
       record {
         is =
             rw (place, told)
-            (sym (joined_by_place (booked bill (state_of ledger table)) bill amount paid numbered may.opened may.places left));
+            (sym (joined_by_place (booked bill (state_of ledger table)) bill amount scheme.place paid place may.schemes_in_order may.entries_in_order left));
         count = rw place;
+        next_scheme = rw place;
         entries = rw place;
+        next_entry = rw place;
         places = rw place (simp length-set);
       }
 
   pub joined_step : (joining : Joining) → Joinable ledger table bill joining → Step ledger table bill joining
-  joined_step NotAsked may = record { is = unjoined; count = refl; entries = sym (add-zero _); places = refl }
-  joined_step Ended may = record { is = unjoined; count = refl; entries = sym (add-zero _); places = refl }
-  joined_step Small may = record { is = unjoined; count = refl; entries = sym (add-zero _); places = refl }
+  joined_step NotAsked may = record { is = unjoined; count = refl; next_scheme = refl; entries = sym (add-zero _); next_entry = sym (add-zero _); places = refl }
+  joined_step Ended may = record { is = unjoined; count = refl; next_scheme = refl; entries = sym (add-zero _); next_entry = sym (add-zero _); places = refl }
+  joined_step Small may = record { is = unjoined; count = refl; next_scheme = refl; entries = sym (add-zero _); next_entry = sym (add-zero _); places = refl }
   joined_step (Pays paid) may = paid_step paid may
 
   -- ---- and opened
@@ -140,19 +146,25 @@ module _ (ledger : Ledger) (table : List Party) (bill : Bill) where
   module _ (joining : Joining) (step : Step ledger table bill joining) where
     abbrev table_opened : Bool → List Party
     table_opened opens =
-        sets (table_joined ledger table bill joining) (ledger.entries + length (joiner_parties bill joining)) (opener_parties (ledger.count + 1) bill opens)
+        let joiner = length (joiner_parties ledger.next_entry bill joining) in
+        sets (table_joined ledger table bill joining) (ledger.entries + joiner) (opener_parties (ledger.next_entry + joiner) ledger.next_scheme bill opens)
 
     opened_step : (opens : Bool) →
-        (opens ≡ true → (ledger.count < length ledger.schemes) × (ledger.entries + length (joiner_parties bill joining) < length table)) →
+        (opens ≡ true → (ledger.count < length ledger.schemes) × (ledger.entries + length (joiner_parties ledger.next_entry bill joining) < length table)) →
         state_of (opened_ledger opens bill (ledger_joined ledger bill joining)) (table_opened opens) ≡ opened opens bill (state_joined ledger table bill joining)
     opened_step false may = refl
     opened_step true may =
         let after = ledger_joined ledger bill joining in
         let records : length (table_joined ledger table bill joining) ≡ length table =
-        length-sets _ ledger.entries (joiner_parties bill joining) ∙ length_credit_each table _ in
+        length-sets _ ledger.entries (joiner_parties ledger.next_entry bill joining) ∙ length_credit_each table _ in
         let place = state_joined ledger table bill joining in
-        ap₂ (λ at number. state_of (opened_ledger true bill after) (set place.table at (new_party (number + 1) bill bill.reconciliation.x)))
-        (sym step.entries) (sym step.count)
+        ap (λ at.
+        state_of (opened_ledger true bill after)
+        (set place.table at
+        (new_party (ledger.next_entry + length (joiner_parties ledger.next_entry bill joining)) ledger.next_scheme bill bill.reconciliation.x)))
+        (sym step.entries)
+        ∙ ap₂ (λ number scheme. state_of (opened_ledger true bill after) (set place.table after.entries (new_party number scheme bill bill.reconciliation.x)))
+        (sym step.next_entry) (sym step.next_scheme)
         ∙ sym (
         opened_by_place place bill (omega (arith, (may refl).0, step.count, step.places)) (omega (arith, (may refl).1, step.entries, records))
         )
@@ -172,23 +184,24 @@ module _ (ledger : Ledger) (table parties : List Party) (snapshot : take ledger.
       let sound_ledger : SoundLedger ledger table (length table) = sound_means ledger table (length table) stands in
       let has : CourseConditions (books_of ledger table) bill course = course_conditions (books_of ledger table) bill course accepts in
       let counted : Counted (books_of ledger table) ledger.count ledger.entries (length table) =
-      snapshot_counted ledger table (length table) (omega (arith, sound_ledger.schemes)) sound_ledger.in_table in
+      snapshot_counted ledger table (length table) (omega (arith, sound_ledger.figures.schemes)) sound_ledger.figures.in_table in
       let fits : ledger.entries + entries_needed course ≤ length table =
-      where_needed (entries_needed course) ledger.entries (length table) sound_ledger.in_table
+      where_needed (entries_needed course) ledger.entries (length table) sound_ledger.figures.in_table
       (λ some. omega (arith, has.in_table some, counted.entries)) in
       let may : Joinable ledger table bill joining =
       record {
-        numbered = λ paid pays. (course_pays ledger table (length table) bill course has paid pays).numbered;
-        opened = omega (arith, has.opened);
-        places = omega (arith, sound_ledger.schemes);
-        left = omega (arith, one_entry bill joining);
+        scheme = λ paid pays. pays_at ledger table bill paid (course_pays ledger table (length table) bill course has paid pays);
+        schemes_in_order = sound_ledger.numbers.schemes_in_order;
+        entries_in_order = sound_ledger.numbers.entries_in_order;
+        left = omega (arith, one_entry ledger.next_entry bill joining);
       } in
       let step : Step ledger table bill joining = joined_step ledger table bill joining may in
-      let added = added_in_order (ledger.count + 1) bill joining course.opens in
+      let joiner : List Party = joiner_parties ledger.next_entry bill joining in
+      let added = added_in_order ledger.next_entry ledger.next_scheme bill joining course.opens in
       let tables : plan_table ledger table plan ≡ table_opened ledger table bill joining step course.opens =
       rw (snapshot, added)
       (set_each_more (credit_each table (take ledger.entries (padded (credits_by (take ledger.entries table) bill joining)))) ledger.entries
-      (joiner_parties bill joining) (opener_parties (ledger.count + 1) bill course.opens)) in
+      joiner (opener_parties (ledger.next_entry + length joiner) ledger.next_scheme bill course.opens)) in
       record {
         answers = ap (λ books. is_accepted (acceptance_of books bill course)) (snapshot_books_lem ledger table parties snapshot);
         leaving =
@@ -196,7 +209,7 @@ module _ (ledger : Ledger) (table parties : List Party) (snapshot : take ledger.
             ∙ opened_step ledger table bill joining step course.opens
             (λ opens. (
               omega (arith, has.schemes opens, counted.schemes),
-              omega (arith, one_entry bill joining, ap (λ t. cond {A = ℕ} t 1 0) opens),
+              omega (arith, one_entry ledger.next_entry bill joining, ap (λ t. cond {A = ℕ} t 1 0) opens),
             ))
             ∙ ap (opened course.opens bill) step.is;
       }

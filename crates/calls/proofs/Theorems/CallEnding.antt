@@ -1,5 +1,5 @@
 -- What the ending of a call tells: by its number whether the call is done, and by all of it the answer.
-use Rattle.std.specs.Prelude.{ℕ, ◌+◌, ◌≡◌, refl, List, [], ◌∷◌, ◌++◌, Bool, true, false, cond, eqb, ℤ, pos, nat_abs, get_or, drop, None, Option, Some}
+use Rattle.std.specs.Prelude.{ℕ, ◌<◌, ◌≡◌, refl, List, [], ◌∷◌, ◌++◌, map, length, Bool, true, false, cond, eqb, ℤ, pos, nat_abs, get_or, drop, None, Option, Some}
 use Rattle.std.proofs.Common.{sym, ap, ◌∙◌, arith}
 use Rattle.tagged.proofs.Theorems.Impossible.{impossible}
 use Rattle.tagged.specs.Ending.{Ending}
@@ -7,10 +7,15 @@ use Rattle.tagged.specs.EndingTests.{number_is_0}
 use Rattle.tagged.proofs.Theorems.Ending.{refused_by_number, refused_not_done, refusal_by_ending}
 use Rattle.reconciliation.specs.Figures.{figure_values}
 use Rattle.reconciliation.proofs.Theorems.Figures.{reconciliation_by_figures}
+use Rattle.tagged.specs.File.{refusal}
+use Rattle.tagged.specs.Refusals.{ledger_unsound}
+use Rattle.ledger.specs.Sound.{sound}
+use Rattle.ledger.proofs.Theorems.Sound.{sound_means}
+use Rattle.ledger.proofs.Theorems.Rising.{rise_length}
 use Rattle.ledger.specs.RefusalNumbers.{one_of}
 use Rattle.ledger.proofs.Theorems.RefusalNumbers.{one_of_positive}
-use Rattle.calls.specs.Decision.{Call, accept, pay_out, hand_over, Decision, accepted, paid_out, handed_over, refused, CallAnswer, is_accepted, is_done, is_refused, answer_to}
-use Rattle.calls.specs.Carried.{State, books_on}
+use Rattle.calls.specs.Decision.{Call, accept, pay_out, hand_over, clear, Decision, accepted, paid_out, handed_over, cleared, refused, decided, CallAnswer, is_accepted, is_done, is_refused, answer_to}
+use Rattle.calls.specs.Carried.{State, books_on, schemes_on}
 use Rattle.calls.specs.Calls.{decided_on, answered}
 use Rattle.calls.specs.CallRefusals.{call_numbers, Refuses}
 use Rattle.calls.proofs.Theorems.Calls.{refusal_numbers}
@@ -22,23 +27,42 @@ use Rattle.calls.specs.declared.answers.JoiningAnswer.TheVariants.{NotAsked, End
 
 pub answered_numbered : (state : State) (call : Call) → Numbered (answered state call)
 unfolding answered
-answered_numbered state call = by (decided_on state call) (not_0 call) (refusal_numbers state call)
+answered_numbered state call = by_soundness (not_0 call) (refusal_numbers state call)
   where
-    opened : (opens : Bool) → SchemeNumbered (cond opens (Some (state.ledger.count + 1)) None)
-    opened true = omega arith
-    opened false = tt
+    opened : (opens : Bool) → 0 < state.ledger.next_scheme → SchemeNumbered (cond opens (Some state.ledger.next_scheme) None)
+    opened true above = above
+    opened false above = tt
 
-    by : (decision : Decision) → one_of (call_numbers call) 0 ≡ false → Refuses (call_numbers call) (answer_to (books_on state) decision) →
+    by : (decision : Decision) → 0 < state.ledger.next_scheme → one_of (call_numbers call) 0 ≡ false → Refuses (call_numbers call) (answer_to (books_on state) decision) →
         Numbered (answer_to (books_on state) decision)
-    by (accepted bill course credits) none told = opened course.opens
-    by (paid_out s e amount) none told = tt
-    by (handed_over e person) none told = tt
-    by (refused r) none told = one_of_positive (call_numbers call) r.number none told
+    by (accepted bill course credits) above none told = opened course.opens above
+    by (paid_out s e amount) above none told = tt
+    by (handed_over e person) above none told = tt
+    by (cleared month gone) above none told = tt
+    by (refused r) above none told = one_of_positive (call_numbers call) r.number none told
 
     not_0 : (call : Call) → one_of (call_numbers call) 0 ≡ false
     not_0 (accept book request) = refl
     not_0 (pay_out e amount) = refl
     not_0 (hand_over e person) = refl
+    not_0 (clear month) = refl
+
+    numbered_by : (stands : Bool) → sound state.ledger state.table (length state.table) ≡ stands → one_of (call_numbers call) 0 ≡ false →
+        Refuses (call_numbers call) (answer_to (books_on state) (cond stands (decided (books_on state) call) (refused (refusal ledger_unsound 0 0)))) →
+        Numbered (answer_to (books_on state) (cond stands (decided (books_on state) call) (refused (refusal ledger_unsound 0 0))))
+    numbered_by true stands none told =
+        by (decided (books_on state) call)
+        (omega (
+          arith,
+          rise_length state.ledger.next_scheme 0 (map (λ scheme. scheme.number) (schemes_on state))
+              (sound_means state.ledger state.table (length state.table) stands).numbers.schemes_in_order,
+        ))
+        none told
+    numbered_by false stands none told = one_of_positive (call_numbers call) ledger_unsound none told
+
+    by_soundness : one_of (call_numbers call) 0 ≡ false → Refuses (call_numbers call) (answer_to (books_on state) (decided_on state call)) →
+        Numbered (answer_to (books_on state) (decided_on state call))
+    by_soundness = numbered_by (sound state.ledger state.table (length state.table)) refl
 
 pub call_by_number : (state : State) (call : Call) → number_is_0 (call_ending (answered state call)) ≡ not_refused (answered state call)
 call_by_number state call = by (answered state call) (answered_numbered state call)

@@ -1,5 +1,5 @@
 -- What holds of every call alike: a refusal changes nothing and has one of its call's numbers.
-use Rattle.std.specs.Prelude.{ℕ, ◌+◌, ◌≡◌, refl, List, true, length, leb, Err, Ok, None, Some, Option}
+use Rattle.std.specs.Prelude.{ℕ, ◌+◌, ◌≡◌, refl, List, true, length, leb, ltb, Err, Ok, None, Some, Option}
 use Rattle.tagged.proofs.Theorems.Impossible.{impossible}
 use Rattle.tagged.specs.Refusals.{ledger_unsound}
 use Rattle.tagged.specs.declared.file.Refusal.{Refusal}
@@ -11,7 +11,7 @@ use Rattle.ledger.specs.Sound.{sound}
 use Rattle.ledger.specs.RefusalNumbers.{one_of, one_to}
 use Rattle.ledger.specs.NumberLists.{Among}
 use Rattle.ledger.proofs.Theorems.RefusalNumbers.{one_of_more, within_one_to}
-use Rattle.calls.specs.Decision.{Call, CallAnswer, accept, pay_out, hand_over, Decision, accepted, paid_out, handed_over, refused, decided_by, accept_by, pay_out_by, hand_over_by, decided, is_accepted, is_done, is_refused, answer_to}
+use Rattle.calls.specs.Decision.{Call, CallAnswer, accept, pay_out, hand_over, clear, Decision, accepted, paid_out, handed_over, cleared, refused, decided_by, accept_by, pay_out_by, hand_over_by, decided, is_accepted, is_done, is_refused, answer_to}
 use Rattle.calls.specs.Carried.{State, books_on, carried_out}
 use Rattle.calls.specs.Calls.{answered, leaves, decided_on}
 use Rattle.calls.proofs.Theorems.Lists.{by_cond}
@@ -24,6 +24,7 @@ refused_leaves : (state : State) (books : Books) (decision : Decision) {r : Refu
 refused_leaves state books (accepted bill course credits) e = impossible cc
 refused_leaves state books (paid_out s entry amount) e = impossible cc
 refused_leaves state books (handed_over entry person) e = impossible cc
+refused_leaves state books (cleared month gone) e = impossible cc
 refused_leaves state books (refused r) e = refl
 
 -- "A refusal returns number, file .. and place, and changes nothing."
@@ -61,6 +62,8 @@ decided_refuses books (hand_over e person) = by_entry (entry_at books e)
     by_entry : (at : Option EntryParticulars) → RefusesAmong books (rule_numbers (hand_over e person)) (hand_over_by at person)
     by_entry None = refl
     by_entry (Some row) = tt
+decided_refuses books (clear month) =
+    by_cond (RefusesAmong books (rule_numbers (clear month))) (ltb month books.month) _ _ (λ early. refl) (λ in_order. tt)
 
 -- 13 comes before everything else, and no rule refuses with it
 with_13 : (call : Call) (answer : CallAnswer) → Refuses (rule_numbers call) answer → Refuses (call_numbers call) answer
@@ -69,11 +72,13 @@ with_13 call is_done told = tt
 with_13 (accept book request) (is_refused r) told = one_of_more (rule_numbers (accept book request)) (call_numbers (accept book request)) r.number refl told
 with_13 (pay_out e amount) (is_refused r) told = one_of_more (rule_numbers (pay_out e amount)) (call_numbers (pay_out e amount)) r.number refl told
 with_13 (hand_over e person) (is_refused r) told = one_of_more (rule_numbers (hand_over e person)) (call_numbers (hand_over e person)) r.number refl told
+with_13 (clear month) (is_refused r) told = one_of_more (rule_numbers (clear month)) (call_numbers (clear month)) r.number refl told
 
 has_13 : (call : Call) → one_of (call_numbers call) ledger_unsound ≡ true
 has_13 (accept book request) = refl
 has_13 (pay_out e amount) = refl
 has_13 (hand_over e person) = refl
+has_13 (clear month) = refl
 
 pub refusal_numbers : (state : State) (call : Call) → Refuses (call_numbers call) (answered state call)
 unfolding answered

@@ -48,14 +48,30 @@ module _ {A : Type 0} where
       go false true e f r = rw e r
       go false false e f r = r
 
+  -- a restriction that leaves those that pass another test, or none of them
+  pub filter_within : (p q : A → Bool) (xs : List A) → ((x : A) → p x ≡ true → q x ≡ true) → filter p (filter q xs) ≡ filter p xs
+  filter_within p q [] within = refl
+  filter_within p q (x ∷ xs) within = by (p x) refl (q x) refl (filter_within p q xs within)
+    where
+      by : (a : Bool) → p x ≡ a → (b : Bool) → q x ≡ b → filter p (filter q xs) ≡ filter p xs → filter p (cons_if b x (filter q xs)) ≡ cons_if a x (filter p xs)
+      by true f true e r = rw f (ap (λ (l : List A). x ∷ l) r)
+      by true f false e r = absurd (true≢false (sym (within x f) ∙ e))
+      by false f true e r = rw f r
+      by false f false e r = r
+
+  pub filter_apart : (p q : A → Bool) (xs : List A) → ((x : A) → p x ≡ true → q x ≡ false) → filter p (filter q xs) ≡ []
+  filter_apart p q [] apart = refl
+  filter_apart p q (x ∷ xs) apart = by (p x) refl (q x) refl (filter_apart p q xs apart)
+    where
+      by : (a : Bool) → p x ≡ a → (b : Bool) → q x ≡ b → filter p (filter q xs) ≡ [] → filter p (cons_if b x (filter q xs)) ≡ []
+      by true f true e r = absurd (true≢false (sym e ∙ apart x f))
+      by false f true e r = rw f r
+      by a f false e r = r
+
   -- none of them passes
   pub filter_none : {test : A → Bool} {xs : List A} → All (λ x. test x ≡ false) xs → filter test xs ≡ []
   filter_none nil = refl
   filter_none (more h hs) = rw h (filter_none hs)
-
-  pub find_none : {test : A → Bool} {xs : List A} → All (λ x. test x ≡ false) xs → find test xs ≡ None
-  find_none nil = refl
-  find_none (more h hs) = rw h (find_none hs)
 
   -- what is found is the first of those that pass
   abbrev pub first : List A → Option A

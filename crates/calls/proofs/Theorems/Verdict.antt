@@ -43,10 +43,10 @@ module _ (books : Books) (bill : Bill) where
       verdict_course opened = rw (lt-leb _ _ left, le-ltb _ _ in_order, lt-leb _ _ opened)
 
 module _ (books : Books) (course : Course) where
-  pub course_refused_8 : schemes_lacking (length books.schemes) course.opens ≡ true → course_verdict books course ≡ Err (refusal no_scheme_left 0 0)
+  pub course_refused_8 : schemes_lacking (length books.schemes) books.next_scheme course.opens ≡ true → course_verdict books course ≡ Err (refusal no_scheme_left 0 0)
   course_refused_8 all = rw all
 
-  module _ (some : schemes_lacking (length books.schemes) course.opens ≡ false) where
+  module _ (some : schemes_lacking (length books.schemes) books.next_scheme course.opens ≡ false) where
     pub course_refused_9 : entries_lacking (length books.entries) books.room (entries_needed course) ≡ true → course_verdict books course ≡ Err (refusal no_entry_left 0 0)
     course_refused_9 lacking = rw (some, lacking)
 

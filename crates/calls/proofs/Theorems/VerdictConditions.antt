@@ -1,15 +1,15 @@
 -- What a request that is accepted has: the tests that it passed, one after the other.
-use Rattle.std.specs.Prelude.{ℕ, ◌+◌, ◌-◌, ◌<◌, ◌≤◌, ◌≡◌, refl, List, [], ◌∷◌, Bool, true, false, cond, length, get_or, leb, ltb, eqb, Err, Ok, None, Some, Option}
-use Rattle.std.proofs.Common.{ap, subst, ◌∙◌, arith, leb-false, ltb-true, ltb-false, eqb-true}
+use Rattle.std.specs.Prelude.{ℕ, ◌+◌, ◌<◌, ◌≤◌, ◌≡◌, refl, List, Bool, true, false, cond, ◌&&◌, ◌||◌, length, take, get_or, option_map, leb, ltb, eqb, Err, Ok, None, Some, Option}
+use Rattle.std.proofs.Common.{sym, ap, subst, ◌∙◌, arith, leb-false, ltb-true, ltb-false, eqb-true}
 use Rattle.std.proofs.lemmas.Bool.{eqb-false}
 use Rattle.tagged.proofs.Theorems.Impossible.{impossible}
 use Rattle.tagged.specs.File.{refusal}
 use Rattle.tagged.specs.Refusals.{scheme_never_opened, month_before_last, no_scheme_left, no_entry_left, no_connection_left}
 use Rattle.charge.specs.declared.Bill.{Bill}
-use Rattle.ledger.specs.Limits.{most_schemes, most_entries, most_connections}
+use Rattle.ledger.specs.Limits.{most_schemes, most_entries, most_connections, highest_next_scheme}
 use Rattle.ledger.specs.Records.{no_scheme}
+use Rattle.ledger.specs.Lookup.{scheme_place}
 use Rattle.ledger.specs.Books.{SchemeParticulars, Books, scheme_particulars, books_of, scheme_at}
-use Rattle.ledger.specs.Sound.{all_hold}
 use Rattle.ledger.specs.RefusalNumbers.{one_of}
 use Rattle.ledger.proofs.Theorems.Sound.{both_true}
 use Rattle.ledger.specs.declared.records.Scheme.{Scheme}
@@ -19,7 +19,7 @@ use Rattle.calls.specs.Rules.{parties_of, capacity_of, contribution}
 use Rattle.calls.specs.Verdict.{joining_by, joining_part, opens_scheme, course_of, entries_needed, schemes_lacking, entries_lacking, verdict, Verdict}
 use Rattle.calls.proofs.Theorems.Lists.{by_cond}
 use Rattle.calls.proofs.Theorems.CreditColumns.{contribution_le_cost}
-use Rattle.calls.proofs.Theorems.ByPlace.{scheme_opened}
+use Rattle.calls.proofs.Theorems.ByPlace.{scheme_by_place}
 use Rattle.calls.specs.VerdictConditions.{verdict_numbers, PaysAt}
 use Rattle.calls.specs.declared.courses.Contribution.{Contribution}
 use Rattle.calls.specs.declared.courses.Joining.{Joining}
@@ -33,6 +33,7 @@ pub record CourseConditions (books : Books) (bill : Bill) (course : Course) : Ty
   pub opened : bill.applicant.scheme < books.next_scheme
   pub is : course ≡ course_of books bill
   pub schemes : course.opens ≡ true → length books.schemes < most_schemes
+  pub next_scheme : course.opens ≡ true → books.next_scheme < highest_next_scheme
   pub entries : 1 ≤ entries_needed course → length books.entries + entries_needed course ≤ most_entries
   pub in_table : 1 ≤ entries_needed course → length books.entries + entries_needed course ≤ books.room
 
@@ -55,10 +56,10 @@ entries_left entries room needed h = by (eqb needed 0) refl (ltb most_entries (e
     by false e true m h = impossible cc
     by false e false m h = record { limit = λ some. ltb-false _ _ m; in_table = λ some. ltb-false _ _ h }
 
-not_many : (opens many : Bool) → all_hold (opens ∷ many ∷ []) ≡ false → opens ≡ true → many ≡ false
-not_many true true h o = h
-not_many true false h o = refl
-not_many false many h o = impossible cc
+not_many : (opens many last : Bool) → (opens && (many || last)) ≡ false → opens ≡ true → (many ≡ false) × (last ≡ false)
+not_many true true last h o = impossible cc
+not_many true false last h o = (refl, h)
+not_many false many last h o = impossible cc
 
 -- a verdict refuses with one of them, or accepts the request's course, which has passed every test
 pub verdict_by : (P : Verdict → Type 0) (books : Books) (bill : Bill) →
@@ -73,10 +74,11 @@ verdict_by P books bill refuses accepts =
     (λ in_order.
     by_cond P (leb books.next_scheme bill.applicant.scheme) _ _ (λ never. refuses scheme_never_opened refl)
     (λ was_opened.
-    by_cond P (schemes_lacking (length books.schemes) course.opens) _ _ (λ many. refuses no_scheme_left refl)
+    by_cond P (schemes_lacking (length books.schemes) books.next_scheme course.opens) _ _ (λ many. refuses no_scheme_left refl)
     (λ few.
     by_cond P (entries_lacking (length books.entries) books.room (entries_needed course)) _ _ (λ lacking. refuses no_entry_left refl)
     (λ enough.
+    let few_schemes = not_many course.opens (leb most_schemes (length books.schemes)) (leb highest_next_scheme books.next_scheme) few in
     let left = entries_left (length books.entries) books.room (entries_needed course) enough in
     accepts
     (record {
@@ -84,7 +86,8 @@ verdict_by P books bill refuses accepts =
       month = ltb-false _ _ in_order;
       opened = leb-false _ _ was_opened;
       is = refl;
-      schemes = λ opens. leb-false _ _ (not_many course.opens (leb most_schemes (length books.schemes)) few opens);
+      schemes = λ opens. leb-false _ _ (few_schemes opens).0;
+      next_scheme = λ opens. leb-false _ _ (few_schemes opens).1;
       entries = left.limit;
       in_table = left.in_table;
     }))))))
@@ -155,21 +158,30 @@ joining_conditions books bill =
           minimum = ltb-false _ _ enough;
         }))
 
+-- the scheme that a joiner pays into, by its place
 pub pays_at : (ledger : Ledger) (table : List Party) (bill : Bill) (paid : Contribution) → PayingConditions (books_of ledger table) bill paid →
-    bill.applicant.scheme ≤ ledger.count → ledger.count ≤ length ledger.schemes → PaysAt ledger.schemes bill paid
-pays_at ledger table bill paid has opened places =
-    let s = bill.applicant.scheme in
-    let scheme : Scheme = get_or ledger.schemes (s - 1) no_scheme in
-    let row : has.row ≡ scheme_particulars s scheme =
-    cc (has.stands, scheme_opened ledger table s has.numbered opened places) in
-    record {
-      fee = has.fee ∙ ap (λ r. r.fee) row;
-      minimum = omega (arith, has.minimum, ap (λ r. r.minimum) row);
-      cost =
-          omega (
-            arith,
-            has.collected,
-            contribution_le_cost has.row.cost bill.applicant.capacity (capacity_of (parties_of s (books_of ledger table))),
-            ap (λ r. r.cost) row,
-          );
-    }
+    PaysAt (take ledger.count ledger.schemes) bill paid
+pays_at ledger table bill paid has =
+    by (scheme_place bill.applicant.scheme schemes) refl (sym has.stands ∙ scheme_by_place ledger table bill.applicant.scheme)
+  where
+    schemes : List Scheme
+    schemes = take ledger.count ledger.schemes
+
+    by : (at : Option ℕ) → scheme_place bill.applicant.scheme schemes ≡ at → Some has.row ≡ option_map (λ k. scheme_particulars (get_or schemes k no_scheme)) at →
+        PaysAt schemes bill paid
+    by None at shown = impossible cc
+    by (Some k) at shown =
+        let row : has.row ≡ scheme_particulars (get_or schemes k no_scheme) = cc in
+        record {
+          place = k;
+          at = at;
+          fee = has.fee ∙ ap (λ r. r.fee) row;
+          minimum = omega (arith, has.minimum, ap (λ r. r.minimum) row);
+          cost =
+              omega (
+                arith,
+                has.collected,
+                contribution_le_cost has.row.cost bill.applicant.capacity (capacity_of (parties_of bill.applicant.scheme (books_of ledger table))),
+                ap (λ r. r.cost) row,
+              );
+        }

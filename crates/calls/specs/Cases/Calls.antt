@@ -3,9 +3,9 @@
 use Rattle.std.specs.Prelude.{ℕ, ◌≡◌, refl, List, [], ◌∷◌, ◌++◌, map, Some}
 use Rattle.tagged.specs.File.{refusal}
 use Rattle.ledger.specs.Books.{SchemeParticulars, EntryParticulars, Books}
-use Rattle.ledger.specs.Lookup.{scheme_place}
+use Rattle.ledger.specs.Lookup.{place_of}
 use Rattle.ledger.specs.Columns.{sum_over, first_put_in}
-use Rattle.ledger.specs.Sound.{parties_sound, schemes_sound, all_zero, sound}
+use Rattle.ledger.specs.Sound.{parties_sound, schemes_sound, all_zero, sound_figures, rise_to, sound_numbers, sound}
 use Rattle.ledger.specs.declared.records.Party.{Party}
 use Rattle.calls.specs.Decision.{Call, pay_out, hand_over, Decision, accepted, paid_out, handed_over, refused, decided, CallAnswer, is_done, is_refused, answer_to}
 use Rattle.calls.specs.Carried.{State, books_on, carried_out}
@@ -98,14 +98,14 @@ table_of entries = record { ledger = three; table = entries ++ (past ∷ past �
 
 -- all of entry 1's standing credit paid out
 abbrev all_paid : State
-all_paid = table_of (party 1 7 20 3000 900 900 ∷ party 2 8 30 1800 0 0 ∷ party 1 9 10 1000 0 0 ∷ [])
+all_paid = table_of (party 1 1 7 20 3000 900 900 ∷ party 2 2 8 30 1800 0 0 ∷ party 3 1 9 10 1000 0 0 ∷ [])
 
 abbrev paid_cases : List (Decision × State)
 paid_cases =
     (paid_out 1 1 600, all_paid) ∷
-    (paid_out 1 1 0, table_of (party 1 7 20 3000 900 300 ∷ party 2 8 30 1800 0 0 ∷ party 1 9 10 1000 0 0 ∷ [])) ∷
-    (handed_over 1 5, table_of (party 1 5 20 3000 900 300 ∷ party 2 8 30 1800 0 0 ∷ party 1 9 10 1000 0 0 ∷ [])) ∷
-    (handed_over 3 5, table_of (party 1 7 20 3000 900 300 ∷ party 2 8 30 1800 0 0 ∷ party 1 5 10 1000 0 0 ∷ [])) ∷
+    (paid_out 1 1 0, table_of (party 1 1 7 20 3000 900 300 ∷ party 2 2 8 30 1800 0 0 ∷ party 3 1 9 10 1000 0 0 ∷ [])) ∷
+    (handed_over 1 5, table_of (party 1 1 5 20 3000 900 300 ∷ party 2 2 8 30 1800 0 0 ∷ party 3 1 9 10 1000 0 0 ∷ [])) ∷
+    (handed_over 3 5, table_of (party 1 1 7 20 3000 900 300 ∷ party 2 2 8 30 1800 0 0 ∷ party 3 1 5 10 1000 0 0 ∷ [])) ∷
     []
 
 pub paid_cases_hold : map (λ row. carried_out state row.0) paid_cases ≡ map (λ row. row.1) paid_cases
@@ -124,27 +124,27 @@ pub both_carried_out : carried_out state both ≡
     record {
       ledger =
           ledger 24317 4 16006 470 5 3
-          (scheme 3000 200 ∷
-          scheme 1800 0 ∷
-          record { cost = 7001; fee = 400; minimum = 2000; opening = 24317; term = 120; fees = 0 } ∷
+          (scheme 1 3000 200 ∷
+          scheme 2 1800 0 ∷
+          record { number = 3; cost = 7001; fee = 400; minimum = 2000; opening = 24317; term = 120; fees = 0 } ∷
           places 61);
       table =
-          party 1 7 20 3000 1166 300 ∷
-          party 2 8 30 1800 0 0 ∷
-          party 1 9 10 1000 134 0 ∷
-          party 1 9 6 500 0 0 ∷
-          party 3 9 6 7001 0 0 ∷
+          party 1 1 7 20 3000 1166 300 ∷
+          party 2 2 8 30 1800 0 0 ∷
+          party 3 1 9 10 1000 134 0 ∷
+          party 4 1 9 6 500 0 0 ∷
+          party 5 3 9 6 7001 0 0 ∷
           [];
     }
 both_carried_out = refl
 
 -- ---- 13 before everything else: a table shorter than its entries, and an account that doesn't balance on a table long enough
 abbrev short : State
-short = record { ledger = three; table = party 1 7 20 3000 900 300 ∷ party 2 8 30 1800 0 0 ∷ [] }
+short = record { ledger = three; table = party 1 1 7 20 3000 900 300 ∷ party 2 2 8 30 1800 0 0 ∷ [] }
 
 -- a cent more put in by the last entry, so that the account alone is unsound
 abbrev unbalanced : State
-unbalanced = table_of (party 1 7 20 3000 900 300 ∷ party 2 8 30 1800 0 0 ∷ party 1 9 10 1001 0 0 ∷ [])
+unbalanced = table_of (party 1 1 7 20 3000 900 300 ∷ party 2 2 8 30 1800 0 0 ∷ party 3 1 9 10 1001 0 0 ∷ [])
 
 abbrev call_cases : List ((State × Call) × CallAnswer × State)
 call_cases =
@@ -160,5 +160,5 @@ call_cases =
 pub call_cases_hold :
     map {B = CallAnswer × State} (λ row. (answered row.0.0 row.0.1, leaves row.0.0 row.0.1)) call_cases
     ≡ map (λ row. (row.1, row.2)) call_cases
-unfolding answered leaves sound parties_sound schemes_sound all_zero sum_over first_put_in scheme_place
+unfolding answered leaves sound sound_figures sound_numbers rise_to parties_sound schemes_sound all_zero sum_over first_put_in place_of
 call_cases_hold = refl

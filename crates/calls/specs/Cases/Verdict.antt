@@ -1,14 +1,13 @@
 -- Accept's rules at their boundaries, over literal books: the verdict on a bill, each condition at its limit and one past it; what is credited, answered and
 -- carried out of it. Every expected side is a literal.
-use Rattle.std.specs.Prelude.{ℕ, ◌+◌, ◌≡◌, refl, List, [], ◌∷◌, ◌++◌, map, true, false, take, length, replicate, Err, None, Ok, Some}
+use Rattle.std.specs.Prelude.{ℕ, suc, ◌+◌, ◌≡◌, refl, List, [], ◌∷◌, ◌++◌, map, true, false, take, length, replicate, Err, None, Ok, Some}
 use Rattle.tagged.specs.File.{refusal}
 use Rattle.reconciliation.specs.Reconciliation.{reconciliation_of}
 use Rattle.reconciliation.specs.declared.Reconciliation.{Reconciliation}
 use Rattle.rate_book.specs.declared.fields.Terms.{Terms}
 use Rattle.charge.specs.declared.Applicant.{Applicant}
 use Rattle.charge.specs.declared.Bill.{Bill}
-use Rattle.ledger.specs.Lists.{numbered_from}
-use Rattle.ledger.specs.Records.{scheme_of, party_of, ledger_of, no_scheme}
+use Rattle.ledger.specs.Records.{scheme_of, party_of, no_scheme, new_ledger}
 use Rattle.ledger.specs.Books.{SchemeParticulars, EntryParticulars, Books}
 use Rattle.ledger.specs.declared.records.Scheme.{Scheme}
 use Rattle.ledger.specs.declared.records.Party.{Party}
@@ -91,6 +90,11 @@ building_on_by_other = in_scheme 1 (bill_of other_book 7001)
 
 -- ---- books
 
+-- each with its number, from this one on
+abbrev pub numbered : {A B : Type 0} → ℕ → (ℕ → A → B) → List A → List B
+numbered number each [] = []
+numbered number each (x ∷ xs) = each number x ∷ numbered (suc number) each xs
+
 -- a scheme of this cost, opened in month 24,315 by a book's terms
 abbrev scheme_by : Terms → ℕ → ℕ → SchemeParticulars
 scheme_by terms number cost =
@@ -110,8 +114,8 @@ books cost connections schemes entries room =
       next_scheme = schemes + 1;
       next_entry = entries + 1;
       room = room;
-      schemes = numbered_from 1 (scheme_by book) (take schemes (cost ∷ replicate 63 1800));
-      entries = numbered_from 1 entry_by (take entries ((1, 20) ∷ (1, 10) ∷ replicate 510 (2, 7)));
+      schemes = numbered 1 (scheme_by book) (take schemes (cost ∷ replicate 63 1800));
+      entries = numbered 1 entry_by (take entries ((1, 20) ∷ (1, 10) ∷ replicate 510 (2, 7)));
     }
 
 -- scheme 1 alone, opened by the slip's book, with entries of these capacities
@@ -124,7 +128,7 @@ slip_books cost capacities next_entry =
       next_entry = next_entry;
       room = 3;
       schemes = scheme_by slip_book 1 cost ∷ [];
-      entries = numbered_from 1 (λ number capacity. entry_by number (1, capacity)) capacities;
+      entries = numbered 1 (λ number capacity. entry_by number (1, capacity)) capacities;
     }
 
 -- scheme 1 alone, of this cost, opened in this month by a book's terms, with entries of these capacities and room for one more
@@ -138,7 +142,7 @@ one_scheme_books terms cost opening capacities =
       room = length capacities + 1;
       schemes =
           record { number = 1; cost = cost; fee = terms.fee; minimum = terms.minimum; opening = opening; term = terms.term } ∷ [];
-      entries = numbered_from 1 (λ number capacity. entry_by number (1, capacity)) capacities;
+      entries = numbered 1 (λ number capacity. entry_by number (1, capacity)) capacities;
     }
 
 -- no fee and no minimum
@@ -404,50 +408,61 @@ decision_cases_hold = refl
 -- ---- what it makes of a ledger and its table
 
 -- a scheme opened in month 24,315 by the book, with this cost and these fees
-abbrev pub scheme : ℕ → ℕ → Scheme
-scheme cost fees = scheme_of cost 100 500 24315 84 fees
+abbrev pub scheme : ℕ → ℕ → ℕ → Scheme
+scheme number cost fees = scheme_of number cost 100 500 24315 84 fees
 
--- scheme, person and capacity; put in, credited and paid out
-abbrev pub party : ℕ → ℕ → ℕ → ℕ → ℕ → ℕ → Party
+-- number, scheme, person and capacity; put in, credited and paid out
+abbrev pub party : ℕ → ℕ → ℕ → ℕ → ℕ → ℕ → ℕ → Party
 party = party_of
 
--- the last month; connections, charged and borne; entries, and the schemes in order
+-- the last month; connections, charged and borne; entries, and the schemes in order. The next numbers are the counts and one: nothing was cleared.
 abbrev pub ledger : ℕ → ℕ → ℕ → ℕ → ℕ → ℕ → List Scheme → Ledger
-ledger = ledger_of
+ledger month connections charged borne entries count schemes =
+    record new_ledger {
+      month = month;
+      connections = connections;
+      charged = charged;
+      borne = borne;
+      next_scheme = count + 1;
+      next_entry = entries + 1;
+      entries = entries;
+      count = count;
+      schemes = schemes;
+    }
 
 abbrev pub places : ℕ → List Scheme
 places n = replicate n no_scheme
 
 -- a record past the last entry: of no account, and left as it is unless an entry takes its place
 abbrev pub past : Party
-past = party 77 66 55 44 33 22
+past = party 99 77 66 55 44 33 22
 
 -- scheme 1 was joined once: its entries are 1 and 3, with one of scheme 2 between them
 abbrev pub three : Ledger
-three = ledger 24316 3 9000 400 3 2 (scheme 3000 100 ∷ scheme 1800 0 ∷ places 62)
+three = ledger 24316 3 9000 400 3 2 (scheme 1 3000 100 ∷ scheme 2 1800 0 ∷ places 62)
 
 abbrev pub first_three : List Party
-first_three = party 1 7 20 3000 900 300 ∷ party 2 8 30 1800 0 0 ∷ party 1 9 10 1000 0 0 ∷ []
+first_three = party 1 1 7 20 3000 900 300 ∷ party 2 2 8 30 1800 0 0 ∷ party 3 1 9 10 1000 0 0 ∷ []
 
 abbrev carried_cases : List (Decision × State)
 carried_cases =
     -- plain, small and ended: one connection more, CC, the borne sum and the month
     (
       accepted (with_month 24317 (bill_of book 1000)) plain [],
-      record { ledger = ledger 24317 4 10005 470 3 2 (scheme 3000 100 ∷ scheme 1800 0 ∷ places 62); table = first_three ++ (past ∷ past ∷ []) },
+      record { ledger = ledger 24317 4 10005 470 3 2 (scheme 1 3000 100 ∷ scheme 2 1800 0 ∷ places 62); table = first_three ++ (past ∷ past ∷ []) },
     ) ∷ (
       accepted (with_month 24317 (in_scheme 1 (bill_of book 0))) small [],
-      record { ledger = ledger 24317 4 9005 470 3 2 (scheme 3000 100 ∷ scheme 1800 0 ∷ places 62); table = first_three ++ (past ∷ past ∷ []) },
+      record { ledger = ledger 24317 4 9005 470 3 2 (scheme 1 3000 100 ∷ scheme 2 1800 0 ∷ places 62); table = first_three ++ (past ∷ past ∷ []) },
     ) ∷ (
       accepted (with_month 24399 (in_scheme 1 (bill_of book 0))) ended [],
-      record { ledger = ledger 24399 4 9005 470 3 2 (scheme 3000 100 ∷ scheme 1800 0 ∷ places 62); table = first_three ++ (past ∷ past ∷ []) },
+      record { ledger = ledger 24399 4 9005 470 3 2 (scheme 1 3000 100 ∷ scheme 2 1800 0 ∷ places 62); table = first_three ++ (past ∷ past ∷ []) },
     ) ∷
     -- joined: the fee taken once, G no part of CC, the credits on top of what was credited
     (
       accepted (with_month 24317 (in_scheme 1 (bill_of book 0))) (joins 500 100 30) (credit 1 266 ∷ credit 3 134 ∷ []),
       record {
-        ledger = ledger 24317 4 9005 470 4 2 (scheme 3000 200 ∷ scheme 1800 0 ∷ places 62);
-        table = party 1 7 20 3000 1166 300 ∷ party 2 8 30 1800 0 0 ∷ party 1 9 10 1000 134 0 ∷ party 1 9 6 500 0 0 ∷ past ∷ [];
+        ledger = ledger 24317 4 9005 470 4 2 (scheme 1 3000 200 ∷ scheme 2 1800 0 ∷ places 62);
+        table = party 1 1 7 20 3000 1166 300 ∷ party 2 2 8 30 1800 0 0 ∷ party 3 1 9 10 1000 134 0 ∷ party 4 1 9 6 500 0 0 ∷ past ∷ [];
       },
     ) ∷
     -- opened by the book's fee, minimum and term
@@ -456,25 +471,25 @@ carried_cases =
       record {
         ledger =
             ledger 24317 4 16006 470 4 3
-            (scheme 3000 100 ∷
-            scheme 1800 0 ∷
-            scheme_of 7001 400 2000 24317 120 0 ∷
+            (scheme 1 3000 100 ∷
+            scheme 2 1800 0 ∷
+            scheme_of 3 7001 400 2000 24317 120 0 ∷
             places 61);
-        table = first_three ++ (party 3 9 6 7001 0 0 ∷ past ∷ []);
+        table = first_three ++ (party 4 3 9 6 7001 0 0 ∷ past ∷ []);
       },
     ) ∷
     -- "small" and "ended" that open: one connection, one entry, nothing collected
     (
       accepted (with_month 24317 (in_scheme 1 (bill_of other_book 7001))) (and_opens small) [],
       record {
-        ledger = ledger 24317 4 16006 470 4 3 (scheme 3000 100 ∷ scheme 1800 0 ∷ scheme_of 7001 400 2000 24317 120 0 ∷ places 61);
-        table = first_three ++ (party 3 9 6 7001 0 0 ∷ past ∷ []);
+        ledger = ledger 24317 4 16006 470 4 3 (scheme 1 3000 100 ∷ scheme 2 1800 0 ∷ scheme_of 3 7001 400 2000 24317 120 0 ∷ places 61);
+        table = first_three ++ (party 4 3 9 6 7001 0 0 ∷ past ∷ []);
       },
     ) ∷ (
       accepted (with_month 24399 (in_scheme 1 (bill_of other_book 7001))) (and_opens ended) [],
       record {
-        ledger = ledger 24399 4 16006 470 4 3 (scheme 3000 100 ∷ scheme 1800 0 ∷ scheme_of 7001 400 2000 24399 120 0 ∷ places 61);
-        table = first_three ++ (party 3 9 6 7001 0 0 ∷ past ∷ []);
+        ledger = ledger 24399 4 16006 470 4 3 (scheme 1 3000 100 ∷ scheme 2 1800 0 ∷ scheme_of 3 7001 400 2000 24399 120 0 ∷ places 61);
+        table = first_three ++ (party 4 3 9 6 7001 0 0 ∷ past ∷ []);
       },
     ) ∷
     (refused (refusal 9 0 0), record { ledger = three; table = first_three ++ (past ∷ past ∷ []) }) ∷
@@ -489,20 +504,20 @@ carried_cases_hold = refl
 
 -- 64 schemes, each with the cost of its number and its first entry
 abbrev full_schemes : List Scheme
-full_schemes = numbered_from 1 (λ number none. scheme number 0) (replicate 64 no_scheme)
+full_schemes = numbered 1 (λ number none. scheme number number 0) (replicate 64 no_scheme)
 
 abbrev full_entries : List Party
-full_entries = numbered_from 1 (λ number none. party number 7 20 number 0 0) (replicate 64 no_scheme)
+full_entries = numbered 1 (λ number none. party number number 7 20 number 0 0) (replicate 64 no_scheme)
 
 -- figures past 32 bits
 abbrev high_scheme : ℕ → Scheme
-high_scheme fees = scheme_of 2000000000 1000000000 1000000000 24315 84 fees
+high_scheme fees = scheme_of 1 2000000000 1000000000 1000000000 24315 84 fees
 
 abbrev high : State
 high =
     record {
       ledger = ledger 24316 999999 1099998900000000000 1099998800000000000 2 1 (high_scheme 500000000000 ∷ places 63);
-      table = party 1 7 1000000 2000000000 1000000000000 999999999998 ∷ party 1 8 999999 1999999999 4294967295 4294967295 ∷ past ∷ [];
+      table = party 1 1 7 1000000 2000000000 1000000000000 999999999998 ∷ party 2 1 8 999999 1999999999 4294967295 4294967295 ∷ past ∷ [];
     }
 
 -- entries up to the table's last record
@@ -518,8 +533,8 @@ other_carried_cases =
         accepted (with_month 24317 (in_scheme 64 (bill_of book 0))) (joins 10 4 20) (credit 64 6 ∷ []),
       ),
       record {
-        ledger = ledger 24317 65 9005 470 65 64 (take 63 full_schemes ++ (scheme 64 4 ∷ []));
-        table = take 63 full_entries ++ (party 64 7 20 64 6 0 ∷ party 64 9 6 10 0 0 ∷ []);
+        ledger = ledger 24317 65 9005 470 65 64 (take 63 full_schemes ++ (scheme 64 64 4 ∷ []));
+        table = take 63 full_entries ++ (party 64 64 7 20 64 6 0 ∷ party 65 64 9 6 10 0 0 ∷ []);
       },
     ) ∷
     -- joined to the second of two: the first scheme and its entries stay as they are
@@ -529,8 +544,8 @@ other_carried_cases =
         accepted (with_month 24317 (in_scheme 2 (bill_of book 0))) (joins 450 100 30) (credit 2 350 ∷ []),
       ),
       record {
-        ledger = ledger 24317 4 9005 470 4 2 (scheme 3000 100 ∷ scheme 1800 100 ∷ places 62);
-        table = party 1 7 20 3000 900 300 ∷ party 2 8 30 1800 350 0 ∷ party 1 9 10 1000 0 0 ∷ party 2 9 6 450 0 0 ∷ past ∷ [];
+        ledger = ledger 24317 4 9005 470 4 2 (scheme 1 3000 100 ∷ scheme 2 1800 100 ∷ places 62);
+        table = party 1 1 7 20 3000 900 300 ∷ party 2 2 8 30 1800 350 0 ∷ party 3 1 9 10 1000 0 0 ∷ party 4 2 9 6 450 0 0 ∷ past ∷ [];
       },
     ) ∷
     -- the millionth connection; each sum goes on above 32 bits
@@ -539,18 +554,18 @@ other_carried_cases =
       record {
         ledger = ledger 24317 1000000 1099998900000000005 1099998800000000070 3 1 (high_scheme 501000000000 ∷ places 63);
         table =
-            party 1 7 1000000 2000000000 1000500000250 999999999998 ∷
-            party 1 8 999999 1999999999 4794967045 4294967295 ∷
-            party 1 9 6 2000000000 0 0 ∷
+            party 1 1 7 1000000 2000000000 1000500000250 999999999998 ∷
+            party 2 1 8 999999 1999999999 4794967045 4294967295 ∷
+            party 3 1 9 6 2000000000 0 0 ∷
             [];
       },
     ) ∷
     -- paid out of the second entry and of the first
-    ((high, paid_out 1 2 5), record { ledger = high.ledger; table = party 1 7 1000000 2000000000 1000000000000 999999999998 ∷ party 1 8 999999 1999999999 4294967295 4294967300 ∷ past ∷ [] }) ∷
-    ((high, paid_out 1 1 2), record { ledger = high.ledger; table = party 1 7 1000000 2000000000 1000000000000 1000000000000 ∷ party 1 8 999999 1999999999 4294967295 4294967295 ∷ past ∷ [] }) ∷
+    ((high, paid_out 1 2 5), record { ledger = high.ledger; table = party 1 1 7 1000000 2000000000 1000000000000 999999999998 ∷ party 2 1 8 999999 1999999999 4294967295 4294967300 ∷ past ∷ [] }) ∷
+    ((high, paid_out 1 1 2), record { ledger = high.ledger; table = party 1 1 7 1000000 2000000000 1000000000000 1000000000000 ∷ party 2 1 8 999999 1999999999 4294967295 4294967295 ∷ past ∷ [] }) ∷
     -- the table's last record is an entry: paid out and handed over
-    ((no_room, paid_out 1 3 50), record { ledger = three; table = party 1 7 20 3000 900 300 ∷ party 2 8 30 1800 0 0 ∷ party 1 9 10 1000 0 50 ∷ [] }) ∷
-    ((no_room, handed_over 3 5), record { ledger = three; table = party 1 7 20 3000 900 300 ∷ party 2 8 30 1800 0 0 ∷ party 1 5 10 1000 0 0 ∷ [] }) ∷
+    ((no_room, paid_out 1 3 50), record { ledger = three; table = party 1 1 7 20 3000 900 300 ∷ party 2 2 8 30 1800 0 0 ∷ party 3 1 9 10 1000 0 50 ∷ [] }) ∷
+    ((no_room, handed_over 3 5), record { ledger = three; table = party 1 1 7 20 3000 900 300 ∷ party 2 2 8 30 1800 0 0 ∷ party 3 1 5 10 1000 0 0 ∷ [] }) ∷
     []
 
 pub other_carried_cases_hold : map (λ row. carried_out row.0.0 row.0.1) other_carried_cases ≡ map (λ row. row.1) other_carried_cases

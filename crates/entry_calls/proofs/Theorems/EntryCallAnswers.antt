@@ -1,11 +1,11 @@
 -- When pay-out and hand-over answer what, and what they leave: the entry's record changed at its place, every other as it was.
-use Rattle.std.specs.Prelude.{ℕ, ◌+◌, ◌<◌, ◌≤◌, ◌≡◌, refl, List, true, false, length, take, get_or, set, Err, None, Ok, Some}
-use Rattle.std.proofs.Common.{sym, ap, ◌∙◌, length-take-le, get_or-set_other}
+use Rattle.std.specs.Prelude.{ℕ, ◌+◌, ◌<◌, ◌≤◌, ◌≡◌, refl, List, true, false, length, take, get_or, set, Err, None, Ok, Option, Some}
+use Rattle.std.proofs.Common.{sym, ap, subst, ◌∙◌, arith, length-take-le, get_or-take, get_or-set_other}
 use Rattle.tagged.specs.File.{refusal}
 use Rattle.tagged.specs.Refusals.{no_such_entry, pay_out_above_credit, ledger_unsound}
 use Rattle.ledger.specs.Records.{no_party}
-use Rattle.ledger.specs.EntryPlace.{entry_place, Placed}
-use Rattle.ledger.proofs.Theorems.Lookup.{by_number, placed_entry}
+use Rattle.ledger.specs.EntryPlace.{entry_place}
+use Rattle.ledger.proofs.Theorems.Lookup.{own_place}
 use Rattle.ledger.specs.Sound.{sound}
 use Rattle.ledger.proofs.Theorems.Sound.{sound_means}
 use Rattle.ledger.specs.declared.records.Party.{Party}
@@ -14,7 +14,7 @@ use Rattle.calls.specs.Calls.{state_of, answered, leaves}
 use Rattle.calls.specs.Carried.{State}
 use Rattle.calls.specs.Decision.{CallAnswer, pay_out, hand_over, is_done, is_refused, of_entry_call, Answer}
 use Rattle.entry_calls.specs.EntryCalls.{EntryChange, refused_change, done_change, paid_more, handed_to, pay_out_change, hand_over_change, changed_table}
-use Rattle.entry_calls.proofs.Theorems.EntryCalls.{pay_out_within, pay_out_above, pay_out_missing, hand_over_there, hand_over_missing}
+use Rattle.entry_calls.proofs.Theorems.EntryCalls.{kept_below, own_number, pay_out_within, pay_out_above, pay_out_missing, hand_over_there, hand_over_missing}
 use Rattle.entry_calls.proofs.Theorems.ChangeIsCall.{pay_out_is_call, hand_over_is_call}
 
 -- the change over the whole table says what the call answers and leaves
@@ -36,16 +36,14 @@ module _ (ledger : Ledger) (table : List Party) (e : ℕ) where
   hand_over_refused_13 person unsound = rw unsound
 
   module _ (stands : sound ledger table (length table) ≡ true) where
-    every_entry : length (take ledger.entries table) ≡ ledger.entries
-    every_entry = length-take-le ledger.entries table (sound_means ledger table (length table) stands).in_table
-
-    module _ (missing : 1 ≤ e → e ≤ ledger.entries → ⊥) where
-      no_place : entry_place (length (take ledger.entries table)) e ≡ None
-      unfolding entry_place
-      no_place =
-          rw every_entry
-          (by_number None Some ledger.entries e (λ at. at ≡ None) (λ k placed. absurd (missing placed.numbered placed.kept))
-          (λ none. refl))
+    -- no entry that stands has the number
+    module _ (missing : (k : ℕ) → k < ledger.entries → (get_or table k no_party).number ≡ e → ⊥) where
+      no_place : entry_place e (take ledger.entries table) ≡ None
+      no_place = by (entry_place e (take ledger.entries table)) refl
+        where
+          by : (at : Option ℕ) → entry_place e (take ledger.entries table) ≡ at → at ≡ None
+          by None none = refl
+          by (Some k) at = absurd (missing k (kept_below ledger table e k at).0 (own_number ledger table e k at))
 
       pub pay_out_refused_11 : (amount : ℕ) → answered (state_of ledger table) (pay_out e amount) ≡ is_refused (refusal no_such_entry 0 0)
       unfolding pay_out_change
@@ -59,13 +57,18 @@ module _ (ledger : Ledger) (table : List Party) (e : ℕ) where
           (known ledger table (hand_over_change ledger table (length table) e person) (refused_change no_such_entry) (rw stands (hand_over_missing ledger table e no_place person))
           (hand_over_is_call ledger table table e person refl)).0
 
-    -- an entry that exists, at its place
-    module _ (k : ℕ) (placed : Placed ledger.entries e k) where
+    -- an entry that stands, at its place
+    module _ (k : ℕ) (within : k < ledger.entries) (own : (get_or table k no_party).number ≡ e) where
       abbrev party : Party
       party = get_or table k no_party
 
-      place : entry_place (length (take ledger.entries table)) e ≡ Some k
-      place = rw every_entry (placed_entry ledger.entries e k placed)
+      place : entry_place e (take ledger.entries table) ≡ Some k
+      place =
+          let means = sound_means ledger table (length table) stands in
+          let all : length (take ledger.entries table) ≡ ledger.entries = length-take-le ledger.entries table means.figures.in_table in
+          let same : get_or (take ledger.entries table) k no_party ≡ party = get_or-take ledger.entries table k no_party within in
+          subst (λ n. entry_place n (take ledger.entries table) ≡ Some k) (ap (λ (entry : Party). entry.number) same ∙ own)
+          (own_place (λ entry. entry.number) (take ledger.entries table) no_party ledger.next_entry 0 means.numbers.entries_in_order k (omega arith))
 
       pub pay_out_refused_12 : (amount : ℕ) → party.credited < party.paid_out + amount →
           answered (state_of ledger table) (pay_out e amount) ≡ is_refused (refusal pay_out_above_credit 0 0)

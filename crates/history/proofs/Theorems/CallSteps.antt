@@ -1,30 +1,37 @@
 -- Each call on a sound history: the history stays sound and within the limits, and what the call leaves shows it.
-use Rattle.std.specs.Prelude.{ℕ, zero, suc, ◌+◌, ◌-◌, ◌≤◌, ◌<◌, ◌≡◌, refl, List, Bool, true, false, cond, length}
-use Rattle.std.proofs.Common.{sym, ap, ap₂, ◌∙◌, subst, arith}
+use Rattle.std.specs.Prelude.{ℕ, zero, suc, ◌+◌, ◌-◌, ◌≤◌, ◌<◌, ◌≡◌, refl, List, map, filter, Bool, true, false, cond, not, length, eqb, ltb}
+use Rattle.std.proofs.Common.{sym, ap, ap₂, ◌∙◌, subst, arith, eqb-true, ltb-true, ltb-false}
+use Rattle.std.proofs.lemmas.Bool.{eqb-false}
 use Rattle.charge.specs.BillLimits.{BillWithin}
 use Rattle.charge.proofs.Theorems.Bill.{priced_within}
 use Rattle.charge.specs.declared.Bill.{Bill}
 use Rattle.ledger.specs.Limits.{most_schemes, most_entries}
-use Rattle.ledger.specs.Books.{EntryParticulars, Books}
+use Rattle.ledger.specs.Lists.{oldest_first, sum_by, at_start}
+use Rattle.ledger.specs.RefusalNumbers.{one_of}
+use Rattle.ledger.specs.Books.{SchemeParticulars, EntryParticulars, Books}
 use Rattle.ledger.specs.declared.records.Party.{Party}
 use Rattle.calls.specs.Rules.{Holding, Credit, parties_of, capacity_of, contribution, shared}
 use Rattle.calls.specs.Verdict.{entries_of_joining, entries_needed}
-use Rattle.calls.specs.Decision.{Call, accepted, paid_out, handed_over, credits_by, decided}
+use Rattle.calls.specs.Decision.{Call, accepted, paid_out, handed_over, goes, credits_by, decided}
 use Rattle.calls.specs.Carried.{joined, opened}
 use Rattle.calls.specs.Calls.{Fits}
+use Rattle.calls.proofs.Theorems.Lists.{by_test, all_any, filter_swap, sum_by_filter, sum_by_in_order, sum_by_le, sum_by_map, sum_by_same}
+use Rattle.calls.proofs.Theorems.ByPlace.{eqb_sym}
+use Rattle.kept_sound.proofs.Theorems.Lengths.{length_filter}
+use Rattle.kept_sound.proofs.Theorems.Parted.{count_of}
 use Rattle.calls.proofs.Theorems.VerdictConditions.{CourseConditions, JoiningConditions, joining_conditions}
 use Rattle.calls.specs.declared.courses.Joining.{Joining}
 use Rattle.calls.specs.declared.courses.Joining.TheVariants.{NotAsked, Ended, Small, Pays}
 use Rattle.calls.specs.declared.courses.Course.{Course}
 use Rattle.kept_sound.proofs.Theorems.EachDecision.{by_decision}
-use Rattle.history.specs.History.{Entering, Payment, HandOver, History, enterings_of, fee, openings, scheme_particulars_in, entry_particulars_in, books_in, billed_in, joined_in, opened_in, recorded, no_history}
+use Rattle.history.specs.History.{Entering, Payment, HandOver, History, enterings_of, fee, openings, times, scheme_particulars_in, entry_particulars_in, books_in, billed_in, joined_in, opened_in, cleared_in, recorded, parties_in, no_history}
 use Rattle.history.specs.SoundHistory.{Joins, SoundHistory}
 use Rattle.history.specs.ShownState.{state_in, CountsWithin, HistoryStands}
 use Rattle.history.specs.CallSteps.{Step}
 use Rattle.history.proofs.Theorems.Split.{capacity_holdings}
-use Rattle.history.proofs.Theorems.SoundHistory.{sound_billed, PaidJoining, joiner_in, JoinsIn, sound_joined, opener_opens, sound_opened, sound_paid, sound_handed}
+use Rattle.history.proofs.Theorems.SoundHistory.{sound_billed, PaidJoining, joiner_in, JoinsIn, sound_joined, opener_opens, sound_opened, sound_paid, sound_handed, sound_cleared}
 use Rattle.history.proofs.Theorems.Numbering.{length_shown}
-use Rattle.history.proofs.Theorems.Shows.{shows_joined, shows_opened, shows_paid, shows_handed}
+use Rattle.history.proofs.Theorems.Shows.{shows_joined, shows_opened, shows_paid, shows_handed, shows_cleared}
 use Rattle.history.proofs.Theorems.Terms.{terms_at, parties_shown, EntryIn, entry_at_lem}
 
 -- ---- the limits
@@ -140,8 +147,65 @@ no_more within same =
       in_table = omega (arith, within.in_table, ap (λ (c : List Entering). length c) same);
     }
 
+-- ---- a clearing
+
+-- each number that goes is that of one scheme that stands
+goes_once : (room : ℕ) (h : History) → SoundHistory h → (month n : ℕ) →
+    count_of n (map (λ row. row.number) (filter (goes (books_in room h) month) (books_in room h).schemes)) ≤ 1
+goes_once room h sound month n =
+    let rows = map scheme_particulars_in (oldest_first (openings h.entered)) in
+    let given : times (λ e. e.scheme) n (openings h.entered) ≤ 1 = at_most_once n in
+    let standing : sum_by (λ row. cond (eqb n row.number) 1 0) rows ≡ times (λ e. e.scheme) n (openings h.entered) =
+    sum_by_map (λ (row : SchemeParticulars). cond (eqb n row.number) 1 0) scheme_particulars_in (oldest_first (openings h.entered))
+    ∙ sum_by_in_order (λ (e : Entering). cond (eqb n e.scheme) 1 0) (openings h.entered)
+    ∙ sum_by_same (λ (e : Entering). cond (eqb n e.scheme) 1 0) (λ (e : Entering). cond (eqb e.scheme n) 1 0)
+    (all_any (openings h.entered) (λ e. ap (λ (t : Bool). cond t 1 0) (eqb_sym n e.scheme))) in
+    omega (
+      arith,
+      given,
+      standing,
+      sum_by_map (λ s. cond (eqb n s) 1 0) (λ (row : SchemeParticulars). row.number) (filter (goes (books_in room h) month) rows),
+      fewer (λ (row : SchemeParticulars). cond (eqb n row.number) 1 0) (goes (books_in room h) month) rows,
+    )
+  where
+    fewer : (figure : SchemeParticulars → ℕ) (test : SchemeParticulars → Bool) (rows : List SchemeParticulars) → sum_by figure (filter test rows) ≤ sum_by figure rows
+    fewer figure test rows =
+        omega (
+          arith,
+          sum_by_filter figure test rows,
+          sum_by_le (λ row. cond (test row) (figure row) 0) figure (all_any rows (λ row. at_most (test row) (figure row))),
+        )
+      where
+        at_most : (t : Bool) (w : ℕ) → cond t w 0 ≤ w
+        at_most true w = omega arith
+        at_most false w = omega arith
+
+    at_most_once : (n : ℕ) → times (λ e. e.scheme) n (openings h.entered) ≤ 1
+    at_most_once n =
+        by_test (ltb n h.next_scheme)
+        (λ below. by_test (eqb n 0) (λ none.
+        subst (λ (m : ℕ). times (λ e. e.scheme) m (openings h.entered) ≤ 1) (sym (eqb-true n 0 none)) (omega (arith, sound.numbers.schemes_once.none_at_0)))
+        (λ some. omega (arith, sound.numbers.schemes_once.once n (omega (arith, eqb-false n 0 some)) (ltb-true _ _ below))))
+        (λ past. omega (arith, sound.numbers.schemes_once.none_past n (ltb-false _ _ past)))
+
+within_cleared : {room : ℕ} {h : History} (month : ℕ) (gone : List ℕ) → CountsWithin room h → CountsWithin room (cleared_in month gone h)
+within_cleared {room} {h} month gone within =
+    let stays : Entering → Bool = λ e. not (one_of gone e.scheme) in
+    let fewer : length (filter stays h.entered) ≤ length h.entered = length_filter stays h.entered in
+    record {
+      schemes_limit =
+          omega (
+            arith,
+            within.schemes_limit,
+            ap length (filter_swap (λ (e : Entering). e.opens) stays h.entered),
+            length_filter stays (openings h.entered),
+          );
+      entries_limit = omega (arith, within.entries_limit, fewer);
+      in_table = omega (arith, within.in_table, fewer);
+    }
+
 -- ---- every call
-module _ (start : List Party) (h : History) (stands : HistoryStands (length start) h) where
+module _ (start : List Party) (h : History) (stands : HistoryStands (length start) h) (whole : at_start (parties_in h) start ≡ start) where
   abbrev books : Books
   books = books_in (length start) h
 
@@ -169,7 +233,7 @@ module _ (start : List Party) (h : History) (stands : HistoryStands (length star
           sound = sound_paid p h x entry.in_account entry.made entry.scheme_made enough stands.sound;
           within = no_more stands.within refl;
         };
-        shows = shows_paid start h stands.sound p entry.no_other;
+        shows = shows_paid start h p entry.no_other;
       })
 
   hands_over : (person : ℕ) (row : EntryParticulars) → EntryIn h row → Step start h (handed_over row.number person)
@@ -178,7 +242,7 @@ module _ (start : List Party) (h : History) (stands : HistoryStands (length star
       subst (λ (row : EntryParticulars). Step start h (handed_over row.number person)) (sym entry.shown)
       (record {
         stands = record { sound = sound_handed hand_over h entry.made stands.sound; within = no_more stands.within refl };
-        shows = shows_handed start h stands.sound hand_over;
+        shows = shows_handed start h hand_over;
       })
 
   pub step : (call : Call) → Fits call → Step start h (decided books call)
@@ -189,4 +253,12 @@ module _ (start : List Party) (h : History) (stands : HistoryStands (length star
         accepts = λ book request fits bill is course has. accepts bill (priced_within book request bill fits.0 fits.1 is) course has;
         pays_out = λ n amount row at enough. pays_out amount row (entry_at_lem (length start) h stands.sound n row at) enough;
         hands_over = λ n person fits row at. hands_over person row (entry_at_lem (length start) h stands.sound n row at);
+        clears =
+            λ month fits in_order.
+            let gone = map (λ row. row.number) (filter (goes books month) books.schemes) in
+            let once = goes_once (length start) h stands.sound month in
+            record {
+              stands = record { sound = sound_cleared month gone h once stands.sound; within = within_cleared month gone stands.within };
+              shows = shows_cleared start month gone h once stands.sound whole;
+            };
       })

@@ -12,7 +12,7 @@ use Rattle.history.specs.SoundHistory.{holding_of, Chain, SoundHistory}
 use Rattle.history.specs.Split.{Numbered}
 use Rattle.history.proofs.Theorems.Split.{all_below}
 use Rattle.history.proofs.Theorems.Chain.{cost_kept, fee_kept, cost_opened}
-use Rattle.history.proofs.Theorems.SoundHistory.{by_cons_if, numbered}
+use Rattle.history.proofs.Theorems.SoundHistory.{by_cons_if}
 
 pub record Terms (c : List Entering) (row : SchemeParticulars) : Type 0 where
   pub some_entering : 1 ≤ length c
@@ -43,7 +43,7 @@ chain_terms (e ∷ d ∷ older) row h at =
       fee_within = before.fee_within;
     }
 
-scheme_shown : (room : ℕ) (h : History) (s : ℕ) → scheme_at (books_in room h) s ≡ first (map scheme_particulars_in (oldest_first (openings (enterings_of s h.entered))))
+pub scheme_shown : (room : ℕ) (h : History) (s : ℕ) → scheme_at (books_in room h) s ≡ first (map scheme_particulars_in (oldest_first (openings (enterings_of s h.entered))))
 scheme_shown room h s =
     find_first (λ (row : SchemeParticulars). eqb row.number s) (books_in room h).schemes
     ∙ ap first (filter_rows (λ (row : SchemeParticulars). eqb row.number s) scheme_particulars_in (openings h.entered)
@@ -99,7 +99,7 @@ entry_of h sound n x one =
     record {
       entering = x;
       shown = refl;
-      made = of_it (all_filter (λ e. eqb n e.entry) (all_below h.next_entry h.entered (numbered h sound)));
+      made = of_it (all_filter (λ e. eqb n e.entry) (all_below h.next_entry h.entered sound.numbers.entries_in_order));
       scheme_made = of_it (all_filter (λ e. eqb n e.entry) sound.numbers.schemes_made);
       in_account =
           filter_swap (λ (e : Entering). eqb x.entry e.entry) (λ (e : Entering). eqb e.scheme x.scheme) h.entered
@@ -116,7 +116,7 @@ entry_of h sound n x one =
 
 pub entry_at_lem : (room : ℕ) (h : History) → SoundHistory h → (n : ℕ) (row : EntryParticulars) → entry_at (books_in room h) n ≡ Some row → EntryIn h row
 entry_at_lem room h sound n row at =
-    by (filter (λ e. eqb n e.entry) h.entered) refl (one_at n h.next_entry h.entered (numbered h sound))
+    by (filter (λ e. eqb n e.entry) h.entered) refl (one_at n h.next_entry h.entered sound.numbers.entries_in_order)
     (sym
     (find_first (λ (row : EntryParticulars). eqb n row.number) (books_in room h).entries
     ∙ ap first (filter_rows (λ (row : EntryParticulars). eqb n row.number) (entry_particulars_in h) h.entered))

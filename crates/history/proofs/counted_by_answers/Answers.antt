@@ -1,6 +1,7 @@
--- The theorem of CountedByAnswers, which goes by the verdict's cases.
+-- The theorems of CountedByAnswers, which goes by the verdict's cases, and of CreditedGrows.
 use Rattle.history.proofs.Theorems.CountedByAnswers.{counted_by_answers}
+use Rattle.history.proofs.Theorems.CreditedGrows.{credited_in_joinings, cleared_whole}
 use Rattle.history.proofs.counted_by_answers.Goals as goal
 
-pub returns-clause-accepts : goal.returns-clause-accepts
-returns-clause-accepts c = counted_by_answers
+pub returns : goal.returns
+returns c = record { accepts = counted_by_answers; others = credited_in_joinings; cleared = cleared_whole }

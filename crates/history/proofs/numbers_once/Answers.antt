@@ -1,6 +1,6 @@
--- Numbers in order are given once each (each_once), of enterings here.
-use Rattle.history.proofs.Theorems.Numbering.{each_once}
+-- The numbers of a history that a list of calls comes to.
+use Rattle.history.proofs.Theorems.Ended.{numbers_once}
 use Rattle.history.proofs.numbers_once.Goals as goal
 
 pub returns : goal.returns
-returns c = each_once
+returns c = numbers_once

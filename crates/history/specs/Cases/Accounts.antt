@@ -4,7 +4,7 @@ use Rattle.std.specs.Prelude.{ℕ, ◌≡◌, Bool, true, false, List, [], ◌�
 use Rattle.tagged.specs.File.{refusal}
 use Rattle.charge.specs.Cases.MarkedFigures.{slip_book, scheme_request, scheme_bill}
 use Rattle.charge.specs.declared.Bill.{Bill}
-use Rattle.ledger.specs.Records.{scheme_of, party_of, ledger_of, no_scheme}
+use Rattle.ledger.specs.Records.{scheme_of, party_of, no_scheme, new_ledger}
 use Rattle.ledger.specs.Books.{SchemeParticulars, EntryParticulars}
 use Rattle.calls.specs.Rules.{Credit}
 use Rattle.calls.specs.Decision.{Call, accept, pay_out, hand_over, CallAnswer, is_accepted, is_done, is_refused}
@@ -180,14 +180,23 @@ pub record HistoryIs (history : History) (answers : List CallAnswer) : Type 0 wh
       }
   pub ledger :
       ledger_in history
-      ≡ ledger_of 24398 4 13511261 2235480 4 2
-      (scheme_of 6000000 20000 20000 24315 84 40000 ∷ scheme_of 5000001 20000 20000 24315 84 0 ∷ replicate 62 no_scheme)
+      ≡ record new_ledger {
+        month = 24398;
+        connections = 4;
+        charged = 13511261;
+        borne = 2235480;
+        next_scheme = 3;
+        next_entry = 5;
+        entries = 4;
+        count = 2;
+        schemes = scheme_of 1 6000000 20000 20000 24315 84 40000 ∷ scheme_of 2 5000001 20000 20000 24315 84 0 ∷ replicate 62 no_scheme;
+      }
   pub table :
       parties_in history
-      ≡ party_of 1 4711 10000 6000000 2966666 1000000 ∷
-      party_of 1 4712 5000 2000000 493334 0 ∷
-      party_of 2 4711 10000 5000001 0 0 ∷
-      party_of 1 4711 5000 1500000 0 0 ∷
+      ≡ party_of 1 1 4711 10000 6000000 2966666 1000000 ∷
+      party_of 2 1 4712 5000 2000000 493334 0 ∷
+      party_of 3 2 4711 10000 5000001 0 0 ∷
+      party_of 4 1 4711 5000 1500000 0 0 ∷
       []
   pub answered :
       answers

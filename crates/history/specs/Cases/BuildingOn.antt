@@ -1,7 +1,7 @@
 -- Document 02, E4: a joiner who builds on, as a history from bytes, by books of different fee, minimum and term. Both schemes are joined later, and each counts the
 -- accept by its own answer: entry 3, with which the second scheme opens, is no party of the first. Every figure stands here as a literal.
 use Rattle.std.specs.Prelude.{◌≡◌, true, false, List, [], ◌∷◌, replicate, None, Some}
-use Rattle.ledger.specs.Records.{scheme_of, party_of, ledger_of, no_scheme}
+use Rattle.ledger.specs.Records.{scheme_of, party_of, no_scheme, new_ledger}
 use Rattle.calls.specs.Decision.{Call, accept, pay_out, CallAnswer, is_done}
 use Rattle.calls.specs.declared.answers.JoiningAnswer.TheVariants.{NotAsked}
 use Rattle.history.specs.History.{History, account_of, connections, charged, borne, cost_entered, ledger_in, parties_in, history_of, answers_of}
@@ -62,15 +62,23 @@ pub record BuiltOn (history : History) (answers : List CallAnswer) : Type 0 wher
   pub sums : connections history ∷ charged history ∷ borne history ∷ cost_entered history ∷ [] ≡ 4 ∷ 11000001 ∷ 0 ∷ 11000001 ∷ []
   pub ledger :
       ledger_in history
-      ≡ ledger_of 24315 4 11000001 0 5 2
-      (scheme_of 6000000 20000 20000 24315 84 40000 ∷ scheme_of 5000001 7 9 24315 100 7 ∷ replicate 62 no_scheme)
+      ≡ record new_ledger {
+        month = 24315;
+        connections = 4;
+        charged = 11000001;
+        next_scheme = 3;
+        next_entry = 6;
+        entries = 5;
+        count = 2;
+        schemes = scheme_of 1 6000000 20000 20000 24315 84 40000 ∷ scheme_of 2 5000001 7 9 24315 100 7 ∷ replicate 62 no_scheme;
+      }
   pub table :
       parties_in history
-      ≡ party_of 1 4711 10000 6000000 2966666 0 ∷
-      party_of 1 4711 5000 2000000 493334 0 ∷
-      party_of 2 4711 5000 5000001 2499993 2499993 ∷
-      party_of 1 4711 5000 1500000 0 0 ∷
-      party_of 2 4711 5000 2500000 0 0 ∷
+      ≡ party_of 1 1 4711 10000 6000000 2966666 0 ∷
+      party_of 2 1 4711 5000 2000000 493334 0 ∷
+      party_of 3 2 4711 5000 5000001 2499993 2499993 ∷
+      party_of 4 1 4711 5000 1500000 0 0 ∷
+      party_of 5 2 4711 5000 2500000 0 0 ∷
       []
   pub answered :
       answers

@@ -1,26 +1,28 @@
 -- One entry more, and what the earlier ones are credited, keep a ledger sound where each scheme's account stays balanced: what an entry was credited is
 -- then at most what its scheme's entries put in.
-use Rattle.std.specs.Prelude.{ℕ, ◌+◌, ◌*◌, ◌-◌, ◌<◌, ◌≤◌, ◌≡◌, refl, List, [], Bool, true, false, ◌⊎◌, length, get_or, set, eqb, Some}
-use Rattle.std.proofs.Common.{sym, ap, ◌∙◌, inl, inr, arith, length-take, length-set, eqb-true}
-use Rattle.std.proofs.lemmas.List.{length-map}
-use Rattle.std.proofs.lemmas.Bool.{eqb-false}
+use Rattle.std.specs.Prelude.{ℕ, ◌+◌, ◌*◌, ◌-◌, ◌<◌, ◌≤◌, ◌≡◌, refl, List, [], ◌∷◌, ◌++◌, map, Bool, true, false, ◌⊎◌, length, take, get_or, set, eqb, None, Option, Some, is_some}
+use Rattle.std.proofs.Common.{sym, ap, ap₂, ◌∙◌, inl, inr, arith, length-take, length-set, eqb-true}
+use Rattle.std.proofs.lemmas.List.{length-map, map-append}
+use Rattle.std.proofs.lemmas.Bool.{eqb-false, false≢true}
 use Rattle.field_values.specs.Limits.{highest_capacity}
 use Rattle.charge.specs.BillLimits.{BillWithin}
 use Rattle.charge.specs.declared.Bill.{Bill}
-use Rattle.ledger.specs.Limits.{most_schemes, most_entries, highest_put_in, highest_credited}
+use Rattle.ledger.specs.Limits.{most_schemes, most_entries, highest_put_in, highest_credited, highest_next_scheme}
 use Rattle.ledger.specs.Records.{no_scheme, no_party}
-use Rattle.ledger.specs.Updates.{with_fees, with_entries, with_schemes}
+use Rattle.ledger.specs.Updates.{with_fees, with_entry}
 use Rattle.ledger.specs.Columns.{scheme_column, put_in_column, credited_column, ones_column, sum_over, entries_of, first_put_in}
 use Rattle.ledger.proofs.Theorems.Columns.{column_at, own_le_sum, sum_at_most, sum_none}
 use Rattle.ledger.specs.Lookup.{scheme_place}
-use Rattle.ledger.proofs.Theorems.Lookup.{placed_scheme}
+use Rattle.ledger.proofs.Theorems.Lookup.{placed}
+use Rattle.ledger.proofs.Theorems.Rising.{rise_more}
+use Rattle.ledger.specs.Sound.{rise_to}
 use Rattle.ledger.specs.Table.{credited_more, credit_each}
-use Rattle.ledger.proofs.Theorems.Table.{after_joining, length_credit_each, joined_table, joined_earlier, joined_last, length_joined, first_joined, first_opened, own_grown, other_grown}
+use Rattle.ledger.proofs.Theorems.Table.{after_joining, length_credit_each, credit_each_numbers, joined_table, joined_earlier, joined_last, length_joined, first_joined, first_opened, own_grown, other_grown}
 use Rattle.ledger.specs.SoundConditions.{SoundParty, SoundScheme}
 use Rattle.ledger.specs.declared.records.Scheme.{Scheme}
 use Rattle.ledger.specs.declared.records.Party.{Party}
-use Rattle.calls.specs.Carried.{State, entries_on, new_party, new_scheme}
-use Rattle.kept_sound.specs.SoundState.{SoundState}
+use Rattle.calls.specs.Carried.{State, schemes_on, entries_on, new_party, new_scheme}
+use Rattle.kept_sound.specs.SoundState.{SoundState, RoomFor}
 
 pub same_or_other : (a b : ℕ) → (a ≡ b) ⊎ (a ≡ b → ⊥)
 same_or_other a b = by (eqb a b) refl
@@ -29,8 +31,8 @@ same_or_other a b = by (eqb a b) refl
     by true e = inl (eqb-true a b e)
     by false e = inr (eqb-false a b e)
 
-pub place_of : (count s : ℕ) → 1 ≤ s → s ≤ count → scheme_place count s ≡ Some (s - 1)
-place_of count s numbered opened = placed_scheme count s (s - 1) (record { numbered = numbered; kept = opened; next = omega arith })
+pub some_same : {A : Type 0} {x y : A} → Some x ≡ Some y → x ≡ y
+some_same e = cc
 
 -- ---- one scheme
 
@@ -41,8 +43,8 @@ pub record SameFigures (s : ℕ) (parties later : List Party) : Type 0 where
   pub put_in : sum_over s (scheme_column later) (put_in_column later) ≡ sum_over s (scheme_column parties) (put_in_column parties)
   pub credited : sum_over s (scheme_column later) (credited_column later) ≡ sum_over s (scheme_column parties) (credited_column parties)
 
-pub same_account : {s month : ℕ} {parties later : List Party} {scheme : Scheme} → SameFigures s parties later → SoundScheme month parties s scheme →
-    SoundScheme month later s scheme
+pub same_account : {month : ℕ} {parties later : List Party} {scheme : Scheme} → SameFigures scheme.number parties later → SoundScheme month parties scheme →
+    SoundScheme month later scheme
 same_account {scheme} same h =
     record {
       fee = h.fee;
@@ -69,9 +71,10 @@ abbrev pub credited_in : ℕ → Addition → ℕ
 credited_in s added = sum_over s (scheme_column added.earlier) added.amounts
 
 -- another scheme: its account stays
-pub other_scheme : (month s : ℕ) (added : Addition) (scheme : Scheme) → (added.party.scheme ≡ s → ⊥) → credited_in s added ≡ 0 →
-    SoundScheme month added.earlier s scheme → SoundScheme month (after_addition added) s scheme
-other_scheme month s added scheme other none h =
+pub other_scheme : (month : ℕ) (added : Addition) (scheme : Scheme) → (added.party.scheme ≡ scheme.number → ⊥) → credited_in scheme.number added ≡ 0 →
+    SoundScheme month added.earlier scheme → SoundScheme month (after_addition added) scheme
+other_scheme month added scheme other none h =
+    let s = scheme.number in
     let grown = other_grown added.earlier added.amounts added.party s added.few other none in
     same_account
     (record {
@@ -82,16 +85,17 @@ other_scheme month s added scheme other none h =
     })
     h
 
--- the new entry is of scheme s: what it put in is collected, of which the fee is taken and the rest credited
-pub record Contributes (s : ℕ) (added : Addition) (scheme : Scheme) (fee : ℕ) : Type 0 where
+-- the new entry is of this scheme: what it put in is collected, of which the fee is taken and the rest credited
+pub record Contributes (added : Addition) (scheme : Scheme) (fee : ℕ) : Type 0 where
   pub due : fee ≡ scheme.fee
-  pub own : added.party.scheme ≡ s
+  pub own : added.party.scheme ≡ scheme.number
   pub uncredited : added.party.credited ≡ 0
-  pub shared : credited_in s added + fee ≡ added.party.put_in
+  pub shared : credited_in scheme.number added + fee ≡ added.party.put_in
 
-pub joined_scheme : (month s : ℕ) (added : Addition) (scheme : Scheme) (fee : ℕ) → Contributes s added scheme fee →
-    SoundScheme month added.earlier s scheme → SoundScheme month (after_addition added) s (with_fees (scheme.fees + fee) scheme)
-joined_scheme month s added scheme fee by h =
+pub joined_scheme : (month : ℕ) (added : Addition) (scheme : Scheme) (fee : ℕ) → Contributes added scheme fee →
+    SoundScheme month added.earlier scheme → SoundScheme month (after_addition added) (with_fees (scheme.fees + fee) scheme)
+joined_scheme month added scheme fee by h =
+    let s = scheme.number in
     let grown = own_grown added.earlier added.amounts added.party s added.few by.own in
     let joinings : entries_of s (after_addition added) - 1 ≡ (entries_of s added.earlier - 1) + 1 =
     omega (arith, grown.entries, h.some_entry) in
@@ -107,11 +111,11 @@ joined_scheme month s added scheme fee by h =
     }
 
 -- the scheme opened: its one entry put in its cost
-pub opened_scheme : (month s : ℕ) (parties : List Party) (bill : Bill) → BillWithin bill → bill.applicant.month ≤ month →
+pub opened_scheme : (month s e : ℕ) (parties : List Party) (bill : Bill) → BillWithin bill → bill.applicant.month ≤ month →
     ((e : ℕ) → e < length parties → (get_or parties e no_party).scheme ≡ s → ⊥) →
-    SoundScheme month (after_joining parties [] (new_party s bill bill.reconciliation.x)) s (new_scheme bill)
-opened_scheme month s parties bill within passed none =
-    let party = new_party s bill bill.reconciliation.x in
+    SoundScheme month (after_joining parties [] (new_party e s bill bill.reconciliation.x)) (new_scheme s bill)
+opened_scheme month s e parties bill within passed none =
+    let party = new_party e s bill bill.reconciliation.x in
     let no_sum : (figures : List ℕ) → sum_over s (scheme_column parties) figures ≡ 0 =
     λ figures.
     sum_none s (scheme_column parties) figures
@@ -133,12 +137,11 @@ opened_scheme month s parties bill within passed none =
     }
 
 -- ---- the ledger with one entry more
-pub new_party_sound : (count s : ℕ) (bill : Bill) (put_in_given : ℕ) → BillWithin bill → 1 ≤ s → s ≤ count → put_in_given ≤ highest_put_in →
-    SoundParty count (new_party s bill put_in_given)
-new_party_sound count s bill put_in_given within numbered opened put_in =
+pub new_party_sound : (schemes : List Scheme) (e s : ℕ) (bill : Bill) (put_in_given : ℕ) → BillWithin bill → is_some (scheme_place s schemes) ≡ true →
+    put_in_given ≤ highest_put_in → SoundParty schemes (new_party e s bill put_in_given)
+new_party_sound schemes e s bill put_in_given within stands put_in =
     record {
-      numbered = numbered;
-      opened = opened;
+      stands = stands;
       some_capacity = within.some_capacity;
       capacity = within.capacity;
       put_in = put_in;
@@ -148,31 +151,37 @@ new_party_sound count s bill put_in_given within numbered opened put_in =
 
 -- its schemes after that, what the earlier entries are credited, and the new entry
 pub record NewEntry : Type 0 where
+  pub next_scheme : ℕ
   pub count : ℕ
   pub schemes : List Scheme
   pub amounts : List ℕ
   pub party : Party
 
--- the ledger's entries with it
+-- the ledger's entries with it, and the schemes that stand then
 abbrev pub entries_with : State → NewEntry → List Party
 entries_with state new = after_joining (entries_on state) new.amounts new.party
+
+abbrev pub standing : NewEntry → List Scheme
+standing new = take new.count new.schemes
 
 abbrev pub state_with : State → NewEntry → State
 state_with state new =
     record {
-      ledger = with_entries (state.ledger.entries + 1) (with_schemes new.count new.schemes state.ledger);
+      ledger = with_entry (record state.ledger { next_scheme = new.next_scheme; count = new.count; schemes = new.schemes });
       table = set (credit_each state.table new.amounts) state.ledger.entries new.party;
     }
 
 pub record Enters (state : State) (new : NewEntry) : Type 0 where
   pub before : SoundState state
-  pub left : state.ledger.entries < most_entries
-  pub in_table : state.ledger.entries < length state.table
+  pub room : RoomFor 1 state
   pub limit : new.count ≤ most_schemes
-  pub grown : state.ledger.count ≤ new.count
-  pub new_party_stands : SoundParty new.count new.party
-  pub each_scheme : (s k : ℕ) → scheme_place new.count s ≡ Some k →
-      SoundScheme state.ledger.month (entries_with state new) s (get_or new.schemes k no_scheme)
+  pub schemes_in_order : rise_to new.next_scheme 0 (map (λ scheme. scheme.number) (standing new)) ≡ true
+  pub next_scheme : new.next_scheme ≤ highest_next_scheme
+  -- what stood still stands
+  pub grown : (s : ℕ) → is_some (scheme_place s (schemes_on state)) ≡ true → is_some (scheme_place s (standing new)) ≡ true
+  pub numbered : new.party.number ≡ state.ledger.next_entry
+  pub new_party_stands : SoundParty (standing new) new.party
+  pub each_scheme : (k : ℕ) → k < length (standing new) → SoundScheme state.ledger.month (entries_with state new) (get_or (standing new) k no_scheme)
   pub rest_zero : (i : ℕ) → new.count ≤ i → get_or new.schemes i no_scheme ≡ no_scheme
 
 module _ (state : State) (new : NewEntry) (h : Enters state new) where
@@ -184,7 +193,7 @@ module _ (state : State) (new : NewEntry) (h : Enters state new) where
 
   -- what holds of each earlier entry with its credit, and of the new one
   at_each : (P : Party → Type 0) →
-      ((e : ℕ) → SoundParty state.ledger.count (get_or earlier e no_party) → P (credited_more (get_or earlier e no_party) (get_or new.amounts e 0))) →
+      ((e : ℕ) → SoundParty (schemes_on state) (get_or earlier e no_party) → P (credited_more (get_or earlier e no_party) (get_or new.amounts e 0))) →
       P new.party → (e : ℕ) → e < length later → P (get_or later e no_party)
   at_each P of_earlier of_new e below = by (same_or_other (length earlier) e)
     where
@@ -192,63 +201,91 @@ module _ (state : State) (new : NewEntry) (h : Enters state new) where
       by (inl same) = rw (sym same, joined_last earlier new.amounts new.party) of_new
       by (inr other) =
           let within : e < length earlier = omega (arith, length_joined earlier new.amounts new.party) in
-          rw (joined_earlier earlier new.amounts new.party e within) (of_earlier e (h.before.each_party e within))
+          rw (joined_earlier earlier new.amounts new.party e within) (of_earlier e (h.before.figures.each_party e within))
 
   put_in_within : (e : ℕ) → e < length later → (get_or later e no_party).put_in ≤ highest_put_in
   put_in_within = at_each (λ entry. entry.put_in ≤ highest_put_in) (λ e sound. sound.put_in) h.new_party_stands.put_in
 
   -- a scheme's entries were credited at most what they put in
-  credited_within : (e : ℕ) → e < length later → 1 ≤ (get_or later e no_party).scheme → (get_or later e no_party).scheme ≤ new.count →
+  credited_within : (e : ℕ) → e < length later → is_some (scheme_place (get_or later e no_party).scheme (standing new)) ≡ true →
       (get_or later e no_party).credited ≤ highest_credited
-  credited_within e below numbered opened =
-      let s : ℕ = (get_or later e no_party).scheme in
-      let numbers : length (scheme_column later) ≡ length later = length-map later (λ entry. entry.scheme) in
-      let puts : length (put_in_column later) ≡ length later = length-map later (λ entry. entry.put_in) in
-      let credits : length (credited_column later) ≡ length later = length-map later (λ entry. entry.credited) in
-      let few : length later ≤ most_entries =
-      omega (arith, h.left, length_joined earlier new.amounts new.party, length-take state.ledger.entries state.table) in
-      omega (
-        arith,
-        (h.each_scheme s (s - 1) (place_of new.count s numbered opened)).account,
-        own_le_sum s (scheme_column later) (credited_column later) e (omega arith) (column_at (λ entry. entry.scheme) later e no_party (omega arith)),
-        column_at (λ entry. entry.credited) later e no_party (omega arith),
-        sum_at_most s highest_put_in (scheme_column later) (put_in_column later)
-            (λ i within. rw (column_at (λ entry. entry.put_in) later i no_party within) (put_in_within i (omega arith))),
-      )
+  credited_within e below stands = by (scheme_place (get_or later e no_party).scheme (standing new)) refl stands
+    where
+      by : (at : Option ℕ) → scheme_place (get_or later e no_party).scheme (standing new) ≡ at → is_some at ≡ true → (get_or later e no_party).credited ≤ highest_credited
+      by None at stands = absurd (false≢true stands)
+      by (Some k) at stands =
+          let s : ℕ = (get_or later e no_party).scheme in
+          let found = placed (λ scheme. scheme.number) (standing new) no_scheme s k at in
+          let numbers : length (scheme_column later) ≡ length later = length-map later (λ entry. entry.scheme) in
+          let puts : length (put_in_column later) ≡ length later = length-map later (λ entry. entry.put_in) in
+          let credits : length (credited_column later) ≡ length later = length-map later (λ entry. entry.credited) in
+          let few : length later ≤ most_entries =
+          omega (arith, h.room.limit, length_joined earlier new.amounts new.party, length-take state.ledger.entries state.table) in
+          let account : sum_over s (scheme_column later) (credited_column later) ≤ sum_over s (scheme_column later) (put_in_column later) =
+          rw (sym found.1) (omega (arith, (h.each_scheme k found.0).account)) in
+          omega (
+            arith,
+            account,
+            own_le_sum s (scheme_column later) (credited_column later) e (omega arith) (column_at (λ entry. entry.scheme) later e no_party (omega arith)),
+            column_at (λ entry. entry.credited) later e no_party (omega arith),
+            sum_at_most s highest_put_in (scheme_column later) (put_in_column later)
+                (λ i within. rw (column_at (λ entry. entry.put_in) later i no_party within) (put_in_within i (omega arith))),
+          )
 
-  each_later : (e : ℕ) → e < length later → SoundParty new.count (get_or later e no_party)
+  each_later : (e : ℕ) → e < length later → SoundParty (standing new) (get_or later e no_party)
   each_later e below =
-      let numbered : 1 ≤ (get_or later e no_party).scheme =
-      at_each (λ entry. 1 ≤ entry.scheme) (λ e sound. sound.numbered) h.new_party_stands.numbered e below in
-      let opened : (get_or later e no_party).scheme ≤ new.count =
-      at_each (λ entry. entry.scheme ≤ new.count) (λ e sound. omega (arith, sound.opened, h.grown)) h.new_party_stands.opened e below in
+      let stands : is_some (scheme_place (get_or later e no_party).scheme (standing new)) ≡ true =
+      at_each (λ entry. is_some (scheme_place entry.scheme (standing new)) ≡ true)
+      (λ e sound. h.grown (get_or earlier e no_party).scheme sound.stands) h.new_party_stands.stands e below in
       record {
-        numbered = numbered;
-        opened = opened;
+        stands = stands;
         some_capacity = at_each (λ entry. 1 ≤ entry.capacity) (λ e sound. sound.some_capacity) h.new_party_stands.some_capacity e below;
         capacity = at_each (λ entry. entry.capacity ≤ highest_capacity) (λ e sound. sound.capacity) h.new_party_stands.capacity e below;
         put_in = put_in_within e below;
-        credited = credited_within e below numbered opened;
+        credited = credited_within e below stands;
         paid_out = at_each (λ entry. entry.paid_out ≤ entry.credited) (λ e sound. omega (arith, sound.paid_out)) h.new_party_stands.paid_out e below;
       }
 
+  -- the new entry has the next number
+  numbers_later : map (λ entry. entry.number) later ≡ map (λ entry. entry.number) earlier ++ (state.ledger.next_entry ∷ [])
+  numbers_later =
+      map-append (λ entry. entry.number) (credit_each earlier new.amounts) (new.party ∷ [])
+      ∙ ap₂ (λ (numbers : List ℕ) (number : ℕ). numbers ++ (number ∷ [])) (credit_each_numbers earlier new.amounts) h.numbered
+
   pub entering_keeps_sound : SoundState (state_with state new)
   entering_keeps_sound =
-      let now : entries_on (state_with state new) ≡ later = joined_table state.table new.amounts state.ledger.entries new.party h.in_table in
+      let now : entries_on (state_with state new) ≡ later = joined_table state.table new.amounts state.ledger.entries new.party (omega (arith, h.room.in_table)) in
+      let numbers = h.before.numbers in
       record {
-        schemes = h.limit;
-        entries = omega (arith, h.left);
-        in_table =
-            omega (
-              arith,
-              h.in_table,
-              length-set (credit_each state.table new.amounts) state.ledger.entries new.party,
-              length_credit_each state.table new.amounts,
-            );
-        connections = h.before.connections;
-        charged = h.before.charged;
-        borne = h.before.borne;
-        each_party = rw now each_later;
-        each_scheme = λ s k place within. rw now (h.each_scheme s k place);
-        rest_zero = h.rest_zero;
+        figures =
+            record {
+              schemes = h.limit;
+              entries = h.room.limit;
+              in_table =
+                  omega (
+                    arith,
+                    h.room.in_table,
+                    length-set (credit_each state.table new.amounts) state.ledger.entries new.party,
+                    length_credit_each state.table new.amounts,
+                  );
+              connections = h.before.figures.connections;
+              charged = h.before.figures.charged;
+              borne = h.before.figures.borne;
+              each_party = rw now each_later;
+              each_scheme = λ k below. rw now (h.each_scheme k below);
+              rest_zero = h.rest_zero;
+            };
+        numbers =
+            record {
+              schemes_in_order = h.schemes_in_order;
+              entries_in_order =
+                  rw (now, numbers_later)
+                  (rise_more state.ledger.next_entry (state.ledger.next_entry + 1) 0 (map (λ entry. entry.number) earlier) (omega arith) numbers.entries_in_order);
+              next_scheme = h.next_scheme;
+              next_entry = h.room.numbers;
+              cleared_account = numbers.cleared_account;
+              cleared_limit =
+                  let same : state.ledger.next_entry + 1 - 1 - (state.ledger.entries + 1) ≡ state.ledger.next_entry - 1 - state.ledger.entries = omega arith in
+                  rw same numbers.cleared_limit;
+            };
       }

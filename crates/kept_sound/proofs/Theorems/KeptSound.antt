@@ -1,6 +1,6 @@
 -- Every call leaves a sound ledger sound, whatever it answers, and the ledger's 64 places and the table's length as they are: a call that is refused changes
 -- nothing, and each step of one that isn't keeps them.
-use Rattle.std.specs.Prelude.{ℕ, ◌+◌, ◌≤◌, ◌≡◌, refl, true, length, get_or, None, Some}
+use Rattle.std.specs.Prelude.{ℕ, ◌+◌, ◌≤◌, ◌≡◌, refl, true, map, filter, length, get_or, None, Option, Some, option_map}
 use Rattle.std.proofs.Common.{sym, ap, subst, ◌∙◌, arith}
 use Rattle.tagged.proofs.Theorems.Impossible.{impossible}
 use Rattle.charge.specs.BillLimits.{BillWithin}
@@ -11,42 +11,38 @@ use Rattle.ledger.specs.Records.{no_party}
 use Rattle.ledger.specs.Updates.{with_person, with_paid_out}
 use Rattle.ledger.specs.Books.{EntryParticulars, entry_particulars, entry_at}
 use Rattle.ledger.specs.EntryPlace.{entry_place}
-use Rattle.ledger.proofs.Theorems.Lookup.{by_number}
+use Rattle.ledger.proofs.Theorems.Lookup.{placed}
 use Rattle.ledger.specs.Sound.{sound}
 use Rattle.ledger.proofs.Theorems.Sound.{sound_means, means_sound}
-use Rattle.calls.specs.Decision.{Call, Decision, paid_out, handed_over, credits_by, decided}
-use Rattle.calls.specs.Carried.{State, books_on, booked, joined, opened, is_paid, is_handed, carried_out}
+use Rattle.calls.specs.Decision.{Call, Decision, paid_out, handed_over, goes, credits_by, decided}
+use Rattle.calls.specs.Carried.{State, books_on, schemes_on, entries_on, booked, joined, opened, is_paid, is_handed, carried_out}
 use Rattle.calls.specs.Calls.{leaves, Fits}
 use Rattle.calls.proofs.Theorems.Lists.{by_cond}
-use Rattle.calls.proofs.Theorems.ByPlace.{entry_found, entry_by_place}
+use Rattle.calls.proofs.Theorems.ByPlace.{entry_by_place}
 use Rattle.calls.proofs.Theorems.VerdictConditions.{CourseConditions, JoiningConditions, joining_conditions, pays_at}
 use Rattle.calls.specs.declared.courses.Joining.{Joining}
 use Rattle.calls.specs.declared.courses.Joining.TheVariants.{NotAsked, Ended, Small, Pays}
 use Rattle.calls.specs.declared.courses.Course.{Course}
 use Rattle.kept_sound.specs.SoundState.{SoundState, WholeState, Joinable}
 use Rattle.kept_sound.proofs.Theorems.EachDecision.{by_decision}
-use Rattle.kept_sound.proofs.Theorems.Lengths.{Lengths, changed_lengths, joined_state, joining_room, after_joining, opening_room, opening_place, accepted_lengths}
+use Rattle.kept_sound.proofs.Theorems.Lengths.{Lengths, changed_lengths, cleared_lengths, joined_state, joining_room, after_joining, opening_room, opening_place, accepted_lengths}
 use Rattle.kept_sound.proofs.Theorems.SoundSteps.{booked_keeps_sound, joined_keeps_sound, opened_keeps_sound}
 use Rattle.kept_sound.proofs.Theorems.EntryChanged.{paid_alike, handed_alike, changed_keeps_sound}
+use Rattle.kept_sound.proofs.Theorems.Entering.{some_same}
+use Rattle.kept_sound.proofs.Theorems.Clearing.{clear_keeps_sound}
 use Rattle.kept_sound.specs.EntryPlaced.{EntryPlaced}
 
 -- ---- an accepted course
 module _ (state : State) (whole : WholeState state) (bill : Bill) (course : Course) (has : CourseConditions (books_on state) bill course) where
-  course_joinable : Joinable state.ledger.count state.ledger.schemes bill course.joining
+  course_joinable : Joinable (schemes_on state) bill course.joining
   course_joinable =
       by course.joining (subst (λ joining. JoiningConditions (books_on state) bill joining) (sym (ap (λ c. c.joining) has.is)) (joining_conditions (books_on state) bill))
     where
-      by : (joining : Joining) → JoiningConditions (books_on state) bill joining → Joinable state.ledger.count state.ledger.schemes bill joining
+      by : (joining : Joining) → JoiningConditions (books_on state) bill joining → Joinable (schemes_on state) bill joining
       by NotAsked asks = tt
       by Ended asks = tt
       by Small asks = tt
-      by (Pays paid) pays =
-          let opened : bill.applicant.scheme ≤ state.ledger.count = omega (arith, has.opened) in
-          record {
-            numbered = pays.numbered;
-            opened = opened;
-            pays = pays_at state.ledger state.table bill paid pays opened (omega (arith, whole.sound.schemes, whole.places));
-          }
+      by (Pays paid) pays = pays_at state.ledger state.table bill paid pays
 
   accepted_keeps_sound : BillWithin bill → SoundState (opened course.opens bill (joined_state state whole bill course has))
   accepted_keeps_sound within =
@@ -67,16 +63,16 @@ module _ (state : State) (whole : WholeState state) (bill : Bill) (course : Cour
       same_credits Small = refl
       same_credits (Pays paid) = refl
 
-entry_placed : (state : State) (e : ℕ) (row : EntryParticulars) → state.ledger.entries ≤ length state.table → entry_at (books_on state) e ≡ Some row →
-    EntryPlaced state e row
-unfolding entry_place
-entry_placed state e row in_table is =
-    by_number None Some state.ledger.entries e (λ at. entry_found state.table at ≡ Some row → EntryPlaced state e row)
-    (λ k placed at.
-    let number : 1 + k ≡ e = omega (arith, placed.next) in
-    let shown : entry_particulars (1 + k) (get_or state.table k no_party) ≡ row = cc in
-    record { place = k; placed = placed; shown = sym (rw number at shown) })
-    (λ past at. impossible cc) (sym (entry_by_place state.ledger state.table e in_table) ∙ is)
+entry_placed : (state : State) (e : ℕ) (row : EntryParticulars) → entry_at (books_on state) e ≡ Some row → EntryPlaced state row
+entry_placed state e row is = by (entry_place e (entries_on state)) refl (sym is ∙ entry_by_place state.ledger state.table e)
+  where
+    by : (at : Option ℕ) → entry_place e (entries_on state) ≡ at → Some row ≡ option_map (λ k. entry_particulars (get_or (entries_on state) k no_party)) at →
+        EntryPlaced state row
+    by None at shown = impossible cc
+    by (Some k) at shown =
+        let same : row ≡ entry_particulars (get_or (entries_on state) k no_party) = some_same shown in
+        let number : e ≡ row.number = sym (placed (λ entry. entry.number) (entries_on state) no_party e k at).1 ∙ ap (λ r. r.number) (sym same) in
+        record { place = k; placed = rw number at at; shown = same }
 
 -- ---- by the call
 module _ (state : State) (whole : WholeState state) where
@@ -91,26 +87,27 @@ module _ (state : State) (whole : WholeState state) where
         accepts = λ book request known bill is course has. accepted_lengths state whole bill course has;
         pays_out = λ e amount row at enough. record { table = changed_lengths (is_paid row.number amount) state; schemes = refl };
         hands_over = λ e person known row at. record { table = changed_lengths (is_handed row.number person) state; schemes = refl };
+        clears = λ month known in_order. cleared_lengths month (map (λ row. row.number) (filter (goes (books_on state) month) (books_on state).schemes)) state whole;
       })
       call tt
 
   abbrev KeepsSound : Decision → Type 0
   KeepsSound decision = SoundState (carried_out state decision)
 
-  pays_out_keeps_sound : (e amount : ℕ) (row : EntryParticulars) → EntryPlaced state e row → row.paid_out + amount ≤ row.credited →
+  pays_out_keeps_sound : (amount : ℕ) (row : EntryParticulars) → EntryPlaced state row → row.paid_out + amount ≤ row.credited →
       KeepsSound (paid_out row.scheme row.number amount)
-  pays_out_keeps_sound e amount row at =
-      let party = get_or state.table at.place no_party in
-      subst (λ row. row.paid_out + amount ≤ row.credited → KeepsSound (paid_out row.scheme row.number amount)) (sym at.shown)
-      (λ enough.
-      changed_keeps_sound state (λ party. with_paid_out (party.paid_out + amount) party) e at.place at.placed
-      (paid_alike state.ledger.count party amount enough) whole.sound)
+  pays_out_keeps_sound amount row at enough =
+      let party = get_or (entries_on state) at.place no_party in
+      subst (λ row. KeepsSound (paid_out row.scheme row.number amount)) (sym at.shown)
+      (changed_keeps_sound state (λ party. with_paid_out (party.paid_out + amount) party) party.number at.place (rw (ap (λ r. r.number) at.shown) at at.placed)
+      (paid_alike (schemes_on state) party amount (rw at.shown at enough)) whole.sound)
 
-  hands_over_keeps_sound : (e person : ℕ) (row : EntryParticulars) → EntryPlaced state e row → KeepsSound (handed_over row.number person)
-  hands_over_keeps_sound e person row at =
+  hands_over_keeps_sound : (person : ℕ) (row : EntryParticulars) → EntryPlaced state row → KeepsSound (handed_over row.number person)
+  hands_over_keeps_sound person row at =
+      let party = get_or (entries_on state) at.place no_party in
       subst (λ row. KeepsSound (handed_over row.number person)) (sym at.shown)
-      (changed_keeps_sound state (with_person person) e at.place at.placed
-      (handed_alike state.ledger.count (get_or state.table at.place no_party) person) whole.sound)
+      (changed_keeps_sound state (with_person person) party.number at.place (rw (ap (λ r. r.number) at.shown) at at.placed)
+      (handed_alike (schemes_on state) party person) whole.sound)
 
   decided_keeps_sound : (call : Call) → Fits call → KeepsSound (decided (books_on state) call)
   decided_keeps_sound =
@@ -120,8 +117,9 @@ module _ (state : State) (whole : WholeState state) where
         accepts =
             λ book request fits bill is course has.
             accepted_keeps_sound state whole bill course has (priced_within book request bill fits.0 fits.1 is);
-        pays_out = λ e amount row at. pays_out_keeps_sound e amount row (entry_placed state e row whole.sound.in_table at);
-        hands_over = λ e person fits row at. hands_over_keeps_sound e person row (entry_placed state e row whole.sound.in_table at);
+        pays_out = λ e amount row at. pays_out_keeps_sound amount row (entry_placed state e row at);
+        hands_over = λ e person fits row at. hands_over_keeps_sound person row (entry_placed state e row at);
+        clears = λ month fits in_order. clear_keeps_sound month state in_order whole.sound;
       })
 
 -- ---- every call

@@ -1,15 +1,14 @@
 -- A sound ledger has every condition, and back; a new ledger is sound.
-use Prim.Native.Nat.{ℕ, zero, suc, ◌+◌, ◌*◌, ◌-◌, ◌<◌, ◌≤◌, min, zero-le}
-use Rattle.std.specs.Prelude.{◌≡◌, Bool, false, cond, drop, leb, is_some, None, Some}
-use Rattle.std.proofs.Math.Path.{refl, subst}
+use Prim.Native.Nat.{ℕ, zero, suc, ◌+◌, ◌*◌, ◌-◌, ◌<◌, ◌≤◌, zero-le}
+use Rattle.std.specs.Prelude.{◌≡◌, Bool, false, cond, drop, leb, is_some}
+use Rattle.std.proofs.Math.Path.{refl}
 use Rattle.std.proofs.Common.{sym, ◌∙◌, not-suc-le-zero, mul-le-mul, mul-le-mul_left}
 use mathlib.Core.List.{List, [], ◌∷◌, map}
 use Rattle.std.proofs.Math.Bool.{true}
-use Rattle.std.proofs.lemmas.Bool.{false≢true}
 use native.Mathlib.Omega.{arith}
 use Rattle.std.proofs.Math.ListN.{length, take, get_or, length-take}
 use Rattle.std.proofs.lemmas.List.{length-map}
-use Rattle.std.proofs.Math.Seq.{get_or-take, get_or-drop}
+use Rattle.std.proofs.Math.Seq.{get_or-drop}
 use borrow.Author.Tests.{leb-true, eqb-true, le-leb, eq-eqb}
 use Rattle.tagged.proofs.Theorems.Impossible.{impossible}
 use Rattle.field_values.specs.Limits.{highest_minimum, highest_capacity}
@@ -19,10 +18,8 @@ use Rattle.ledger.specs.Columns.{scheme_column, put_in_column, ones_column, sum_
 use Rattle.ledger.specs.CapacityColumns.{capacity_column, capacity_of}
 use Rattle.ledger.proofs.Theorems.Columns.{column_at, sum_le, sum_at_most, first_at_most}
 use Rattle.ledger.specs.Lookup.{scheme_place}
-use Rattle.ledger.specs.EntryPlace.{Placed}
-use Rattle.ledger.proofs.Theorems.Lookup.{by_number, scheme_placed, placed_scheme}
-use Rattle.ledger.specs.Sound.{all_hold, counts_within, counts_sound, sums_within, figures_within, tally_of, accounts_hold, zeros, records_sound, party_sound, parties_sound, scheme_sound, schemes_sound, is_zero, all_zero, sound}
-use Rattle.ledger.specs.SoundConditions.{SoundParty, SoundScheme, SoundLedger}
+use Rattle.ledger.specs.Sound.{rise_to, all_hold, counts_within, counts_sound, sums_within, figures_within, tally_of, accounts_hold, zeros, records_sound, party_sound, parties_sound, scheme_sound, schemes_sound, is_zero, all_zero, sound_figures, schemes_rise, entries_rise, cleared_within, cleared_sound, sound_numbers, sound}
+use Rattle.ledger.specs.SoundConditions.{SoundParty, SoundScheme, SoundFigures, SoundNumbers, SoundLedger}
 use Rattle.ledger.specs.declared.records.Scheme.{Scheme}
 use Rattle.ledger.specs.declared.records.Party.{Party}
 use Rattle.ledger.specs.declared.records.Ledger.{Ledger}
@@ -44,24 +41,11 @@ held [] all i = refl
 held (condition ∷ others) all zero = (both_true condition (all_hold others) all).0
 held (condition ∷ others) all (suc i) = held others (both_true condition (all_hold others) all).1 i
 
-exists_means : (count s : ℕ) → is_some (scheme_place count s) ≡ true → (1 ≤ s) × (s ≤ count)
-unfolding scheme_place
-exists_means count s =
-    by_number None Some count s (λ found. is_some found ≡ true → (1 ≤ s) × (s ≤ count))
-    (λ k placed h. (placed.numbered, placed.kept)) (λ missing h. absurd (false≢true h))
-
-means_exists : (count s : ℕ) → 1 ≤ s → s ≤ count → is_some (scheme_place count s) ≡ true
-unfolding scheme_place
-means_exists count s numbered opened =
-    by_number None Some count s (λ found. is_some found ≡ true) (λ k placed. refl) (λ missing. absurd (missing numbered opened))
-
-pub party_means : (count : ℕ) (party : Party) → party_sound count party ≡ true → SoundParty count party
-party_means count party h =
-    let each = held (is_some (scheme_place count party.scheme) ∷ figures_within party) h in
-    let exists = exists_means count party.scheme (each 0) in
+pub party_means : (schemes : List Scheme) (party : Party) → party_sound schemes party ≡ true → SoundParty schemes party
+party_means schemes party h =
+    let each = held (is_some (scheme_place party.scheme schemes) ∷ figures_within party) h in
     record {
-      numbered = exists.0;
-      opened = exists.1;
+      stands = each 0;
       some_capacity = leb-true _ _ (each 1);
       capacity = leb-true _ _ (each 2);
       put_in = leb-true _ _ (each 3);
@@ -69,10 +53,10 @@ party_means count party h =
       paid_out = leb-true _ _ (each 5);
     }
 
-pub means_party : (count : ℕ) (party : Party) → SoundParty count party → party_sound count party ≡ true
-means_party count party h =
+pub means_party : (schemes : List Scheme) (party : Party) → SoundParty schemes party → party_sound schemes party ≡ true
+means_party schemes party h =
     rw (
-      means_exists count party.scheme h.numbered h.opened,
+      h.stands,
       le-leb _ _ h.some_capacity,
       le-leb _ _ h.capacity,
       le-leb _ _ h.put_in,
@@ -80,9 +64,9 @@ means_party count party h =
       le-leb _ _ h.paid_out,
     )
 
-scheme_means : (month : ℕ) (parties : List Party) (s : ℕ) (scheme : Scheme) → scheme_sound month parties s scheme ≡ true → SoundScheme month parties s scheme
-scheme_means month parties s scheme h =
-    let each = held (accounts_hold month scheme (tally_of s parties)) h in
+scheme_means : (month : ℕ) (parties : List Party) (scheme : Scheme) → scheme_sound month parties scheme ≡ true → SoundScheme month parties scheme
+scheme_means month parties scheme h =
+    let each = held (accounts_hold month scheme (tally_of scheme.number parties)) h in
     record {
       fee = leb-true _ _ (each 0);
       minimum = leb-true _ _ (each 1);
@@ -94,8 +78,8 @@ scheme_means month parties s scheme h =
       account = eqb-true _ _ (each 7);
     }
 
-means_scheme : (month : ℕ) (parties : List Party) (s : ℕ) (scheme : Scheme) → SoundScheme month parties s scheme → scheme_sound month parties s scheme ≡ true
-means_scheme month parties s scheme h =
+means_scheme : (month : ℕ) (parties : List Party) (scheme : Scheme) → SoundScheme month parties scheme → scheme_sound month parties scheme ≡ true
+means_scheme month parties scheme h =
     rw (
       le-leb _ _ h.fee,
       le-leb _ _ h.minimum,
@@ -111,54 +95,44 @@ zero_means : (scheme : Scheme) → is_zero scheme ≡ true → scheme ≡ no_sch
 zero_means scheme h =
     let each = held (zeros scheme) h in
     assembled (eqb-true _ _ (each 0)) (eqb-true _ _ (each 1)) (eqb-true _ _ (each 2)) (eqb-true _ _ (each 3)) (eqb-true _ _ (each 4))
-    (eqb-true _ _ (each 5))
+    (eqb-true _ _ (each 5)) (eqb-true _ _ (each 6))
   where
-    assembled : {cost fee minimum opening term fees : ℕ} → cost ≡ 0 → fee ≡ 0 → minimum ≡ 0 → opening ≡ 0 → term ≡ 0 → fees ≡ 0 →
-        scheme_of cost fee minimum opening term fees ≡ no_scheme
-    assembled a b c d e f = rw (a, b, c, d, e, f)
+    assembled : {number cost fee minimum opening term fees : ℕ} → number ≡ 0 → cost ≡ 0 → fee ≡ 0 → minimum ≡ 0 → opening ≡ 0 → term ≡ 0 → fees ≡ 0 →
+        scheme_of number cost fee minimum opening term fees ≡ no_scheme
+    assembled a b c d e f g = rw (a, b, c, d, e, f, g)
 
 -- ---- each of a list's records
-parties_mean : (count : ℕ) (parties : List Party) → parties_sound count parties ≡ true →
-    (i : ℕ) → i < length parties → SoundParty count (get_or parties i no_party)
+pub parties_mean : (schemes : List Scheme) (parties : List Party) → parties_sound schemes parties ≡ true →
+    (i : ℕ) → i < length parties → SoundParty schemes (get_or parties i no_party)
 unfolding parties_sound
-parties_mean count [] h i below = absurd (not-suc-le-zero below)
-parties_mean count (party ∷ parties) h zero below = party_means count party (both_true (party_sound count party) (parties_sound count parties) h).0
-parties_mean count (party ∷ parties) h (suc i) below =
-    parties_mean count parties (both_true (party_sound count party) (parties_sound count parties) h).1 i (omega arith)
+parties_mean schemes [] h i below = absurd (not-suc-le-zero below)
+parties_mean schemes (party ∷ parties) h zero below = party_means schemes party (both_true (party_sound schemes party) (parties_sound schemes parties) h).0
+parties_mean schemes (party ∷ parties) h (suc i) below =
+    parties_mean schemes parties (both_true (party_sound schemes party) (parties_sound schemes parties) h).1 i (omega arith)
 
-mean_parties : (count : ℕ) (parties : List Party) → ((i : ℕ) → i < length parties → SoundParty count (get_or parties i no_party)) →
-    parties_sound count parties ≡ true
+mean_parties : (schemes : List Scheme) (parties : List Party) → ((i : ℕ) → i < length parties → SoundParty schemes (get_or parties i no_party)) →
+    parties_sound schemes parties ≡ true
 unfolding parties_sound
-mean_parties count [] h = refl
-mean_parties count (party ∷ parties) h =
-    rw (means_party count party (h 0 (omega arith)), mean_parties count parties (λ i below. h (suc i) (omega arith)))
+mean_parties schemes [] h = refl
+mean_parties schemes (party ∷ parties) h =
+    rw (means_party schemes party (h 0 (omega arith)), mean_parties schemes parties (λ i below. h (suc i) (omega arith)))
 
 module _ (month : ℕ) (parties : List Party) where
-  schemes_mean : (s : ℕ) (schemes : List Scheme) → schemes_sound month parties s schemes ≡ true →
-      (i : ℕ) → i < length schemes → SoundScheme month parties (s + i) (get_or schemes i no_scheme)
+  schemes_mean : (schemes : List Scheme) → schemes_sound month parties schemes ≡ true →
+      (i : ℕ) → i < length schemes → SoundScheme month parties (get_or schemes i no_scheme)
   unfolding schemes_sound
-  schemes_mean s [] h i below = absurd (not-suc-le-zero below)
-  schemes_mean s (scheme ∷ schemes) h zero below =
-      let number : s + 0 ≡ s = omega arith in
-      rw number (scheme_means month parties s scheme (both_true (scheme_sound month parties s scheme) (schemes_sound month parties (suc s) schemes) h).0)
-  schemes_mean s (scheme ∷ schemes) h (suc i) below =
-      let number : s + suc i ≡ suc s + i = omega arith in
-      rw number
-      (schemes_mean (suc s) schemes (both_true (scheme_sound month parties s scheme) (schemes_sound month parties (suc s) schemes) h).1 i (omega arith))
+  schemes_mean [] h i below = absurd (not-suc-le-zero below)
+  schemes_mean (scheme ∷ schemes) h zero below =
+      scheme_means month parties scheme (both_true (scheme_sound month parties scheme) (schemes_sound month parties schemes) h).0
+  schemes_mean (scheme ∷ schemes) h (suc i) below =
+      schemes_mean schemes (both_true (scheme_sound month parties scheme) (schemes_sound month parties schemes) h).1 i (omega arith)
 
-  mean_schemes : (s : ℕ) (schemes : List Scheme) → ((i : ℕ) → i < length schemes → SoundScheme month parties (s + i) (get_or schemes i no_scheme)) →
-      schemes_sound month parties s schemes ≡ true
+  mean_schemes : (schemes : List Scheme) → ((i : ℕ) → i < length schemes → SoundScheme month parties (get_or schemes i no_scheme)) →
+      schemes_sound month parties schemes ≡ true
   unfolding schemes_sound
-  mean_schemes s [] h = refl
-  mean_schemes s (scheme ∷ schemes) h =
-      let first : s + 0 ≡ s = omega arith in
-      rw (
-        means_scheme month parties s scheme (subst (λ number. SoundScheme month parties number scheme) first (h 0 (omega arith))),
-        mean_schemes
-            (suc s)
-            schemes
-            (λ i below. subst (λ number. SoundScheme month parties number (get_or schemes i no_scheme)) (omega arith) (h (suc i) (omega arith))),
-      )
+  mean_schemes [] h = refl
+  mean_schemes (scheme ∷ schemes) h =
+      rw (means_scheme month parties scheme (h 0 (omega arith)), mean_schemes schemes (λ i below. h (suc i) (omega arith)))
 
 zeros_mean : (schemes : List Scheme) → all_zero schemes ≡ true → (i : ℕ) → get_or schemes i no_scheme ≡ no_scheme
 unfolding all_zero
@@ -172,10 +146,31 @@ mean_zeros [] h = refl
 mean_zeros (scheme ∷ schemes) h = rw (h 0, mean_zeros schemes (λ i. h (suc i)))
 
 -- ---- the whole ledger
+
+-- document 02's conditions
+module _ (ledger : Ledger) (entries : List Party) where
+  pub numbers_mean : sound_numbers ledger entries ≡ true → SoundNumbers ledger entries
+  unfolding sound_numbers
+  numbers_mean h =
+      let each = held (schemes_rise ledger ∷ entries_rise ledger entries ∷ cleared_sound ledger ∷ []) h in
+      let cleared = held (cleared_within ledger) (each 2) in
+      record {
+        schemes_in_order = each 0;
+        entries_in_order = each 1;
+        next_scheme = leb-true _ _ (cleared 0);
+        next_entry = leb-true _ _ (cleared 1);
+        cleared_account = eqb-true _ _ (cleared 2);
+        cleared_limit = leb-true _ _ (cleared 3);
+      }
+
+  pub mean_numbers : SoundNumbers ledger entries → sound_numbers ledger entries ≡ true
+  unfolding sound_numbers
+  mean_numbers h = rw (h.schemes_in_order, h.entries_in_order, le-leb _ _ h.next_scheme, le-leb _ _ h.next_entry, eq-eqb _ _ h.cleared_account, le-leb _ _ h.cleared_limit)
+
 module _ (ledger : Ledger) (parties : List Party) (room : ℕ) where
-  pub sound_means : sound ledger parties room ≡ true → SoundLedger ledger parties room
-  unfolding sound
-  sound_means h =
+  pub figures_mean : sound_figures ledger parties room ≡ true → SoundFigures ledger parties room
+  unfolding sound_figures
+  figures_mean h =
       let kept : List Party = take ledger.entries parties in
       let schemes : List Scheme = take ledger.count ledger.schemes in
       let both = both_true (counts_sound ledger room) _ h in
@@ -189,16 +184,8 @@ module _ (ledger : Ledger) (parties : List Party) (room : ℕ) where
         connections = leb-true _ _ (sums 0);
         charged = leb-true _ _ (sums 1);
         borne = leb-true _ _ (sums 2);
-        each_party = parties_mean ledger.count kept (each 1);
-        each_scheme =
-            λ s k place within.
-            let placed = scheme_placed ledger.count s k place in
-            let number : 1 + k ≡ s = omega (arith, placed.next) in
-            let before : k < ledger.count = omega (arith, placed.kept) in
-            let below : k < length schemes = omega (arith, length-take ledger.count ledger.schemes) in
-            let told : SoundScheme ledger.month kept (1 + k) (get_or schemes k no_scheme) =
-            schemes_mean ledger.month kept 1 schemes (each 2) k below in
-            rw (number, get_or-take ledger.count ledger.schemes k no_scheme before) at told;
+        each_party = parties_mean schemes kept (each 1);
+        each_scheme = schemes_mean ledger.month kept schemes (each 2);
         rest_zero =
             λ i past.
             let place : ledger.count + (i - ledger.count) ≡ i = omega arith in
@@ -207,19 +194,13 @@ module _ (ledger : Ledger) (parties : List Party) (room : ℕ) where
             rw (get_or-drop, place) at told;
       }
 
-  pub means_sound : SoundLedger ledger parties room → sound ledger parties room ≡ true
-  unfolding sound
-  means_sound h =
+  pub mean_figures : SoundFigures ledger parties room → sound_figures ledger parties room ≡ true
+  unfolding sound_figures
+  mean_figures h =
       let kept : List Party = take ledger.entries parties in
       let schemes : List Scheme = take ledger.count ledger.schemes in
-      let kept_sound : parties_sound ledger.count kept ≡ true = mean_parties ledger.count kept h.each_party in
-      let schemes_sound_here : schemes_sound ledger.month kept 1 schemes ≡ true =
-      mean_schemes ledger.month kept 1 schemes
-      (λ i below.
-      let within : i < min ledger.count (length ledger.schemes) = omega (arith, length-take ledger.count ledger.schemes) in
-      let placed : Placed ledger.count (1 + i) i = record { numbered = omega arith; kept = omega arith; next = omega arith } in
-      rw (get_or-take ledger.count ledger.schemes i no_scheme (omega arith))
-      (h.each_scheme (1 + i) i (placed_scheme ledger.count (1 + i) i placed) (omega arith))) in
+      let kept_sound : parties_sound schemes kept ≡ true = mean_parties schemes kept h.each_party in
+      let schemes_sound_here : schemes_sound ledger.month kept schemes ≡ true = mean_schemes ledger.month kept schemes h.each_scheme in
       let zeros : all_zero (drop ledger.count ledger.schemes) ≡ true =
       mean_zeros (drop ledger.count ledger.schemes) (λ i. rw get_or-drop (h.rest_zero (ledger.count + i) (omega arith))) in
       rw (
@@ -234,11 +215,21 @@ module _ (ledger : Ledger) (parties : List Party) (room : ℕ) where
         zeros,
       )
 
-  module _ (h : SoundLedger ledger parties room) (s : ℕ) where
+  pub sound_means : sound ledger parties room ≡ true → SoundLedger ledger parties room
+  unfolding sound
+  sound_means h =
+      let both = both_true (sound_figures ledger parties room) _ h in
+      record { figures = figures_mean both.0; numbers = numbers_mean ledger (take ledger.entries parties) both.1 }
+
+  pub means_sound : SoundLedger ledger parties room → sound ledger parties room ≡ true
+  unfolding sound
+  means_sound h = rw (mean_figures h.figures, mean_numbers ledger (take ledger.entries parties) h.numbers)
+
+  module _ (h : SoundFigures ledger parties room) where
     -- a figure that no sound entry has above a bound, over the entries of scheme s
-    sum_within : (figure : Party → ℕ) (bound : ℕ) → ((party : Party) → SoundParty ledger.count party → figure party ≤ bound) →
+    sum_within : (s : ℕ) (figure : Party → ℕ) (bound : ℕ) → ((party : Party) → SoundParty (take ledger.count ledger.schemes) party → figure party ≤ bound) →
         sum_over s (scheme_column (take ledger.entries parties)) (map figure (take ledger.entries parties)) ≤ bound * most_entries
-    sum_within figure bound within =
+    sum_within s figure bound within =
         let entries : List Party = take ledger.entries parties in
         let same : length (map figure entries) ≡ length entries = length-map entries figure in
         let few : length (map figure entries) ≤ most_entries = omega (arith, h.entries, length-take ledger.entries parties) in
@@ -246,52 +237,53 @@ module _ (ledger : Ledger) (parties : List Party) (room : ℕ) where
           arith,
           mul-le-mul_left bound few,
           sum_at_most s bound (scheme_column entries) (map figure entries)
-              (λ e below. rw (column_at figure entries e no_party below) (within (get_or entries e no_party) (h.each_party e (omega arith)))),
+              (λ e less. rw (column_at figure entries e no_party less) (within (get_or entries e no_party) (h.each_party e (omega arith)))),
         )
 
     -- bounds of K
-    pub some_capacity : (k : ℕ) → scheme_place ledger.count s ≡ Some k → k < length ledger.schemes →
-        1 ≤ capacity_of s (scheme_column (take ledger.entries parties)) (capacity_column (take ledger.entries parties))
-    some_capacity k place kept =
+    pub some_capacity : (k : ℕ) → k < length (take ledger.count ledger.schemes) →
+        1 ≤ capacity_of (get_or (take ledger.count ledger.schemes) k no_scheme).number (scheme_column (take ledger.entries parties)) (capacity_column (take ledger.entries parties))
+    some_capacity k below =
         let entries : List Party = take ledger.entries parties in
         let ones : length (ones_column entries) ≡ length entries = length-map entries (λ party. 1) in
         let same : length (ones_column entries) ≡ length (capacity_column entries) = ones ∙ sym (length-map entries (λ party. party.capacity)) in
         omega (
           arith,
-          (h.each_scheme s k place kept).some_entry,
-          sum_le s (scheme_column entries) (ones_column entries) (capacity_column entries) same
-              (λ e below.
+          (h.each_scheme k below).some_entry,
+          sum_le (get_or (take ledger.count ledger.schemes) k no_scheme).number (scheme_column entries) (ones_column entries) (capacity_column entries) same
+              (λ e less.
               let within : e < length (capacity_column entries) = omega arith in
-              rw (column_at (λ party. 1) entries e no_party below, column_at (λ party. party.capacity) entries e no_party within)
+              rw (column_at (λ party. 1) entries e no_party less, column_at (λ party. party.capacity) entries e no_party within)
               (h.each_party e (omega arith)).some_capacity),
         )
 
-    pub capacity_at_most : capacity_of s (scheme_column (take ledger.entries parties)) (capacity_column (take ledger.entries parties)) ≤ highest_capacity * most_entries
-    capacity_at_most = sum_within (λ party. party.capacity) highest_capacity (λ party sound. sound.capacity)
+    pub capacity_at_most : (s : ℕ) → capacity_of s (scheme_column (take ledger.entries parties)) (capacity_column (take ledger.entries parties)) ≤ highest_capacity * most_entries
+    capacity_at_most s = sum_within s (λ party. party.capacity) highest_capacity (λ party sound. sound.capacity)
 
-    pub put_in_at_most : sum_over s (scheme_column (take ledger.entries parties)) (put_in_column (take ledger.entries parties)) ≤ highest_put_in * most_entries
-    put_in_at_most = sum_within (λ party. party.put_in) highest_put_in (λ party sound. sound.put_in)
+    pub put_in_at_most : (s : ℕ) → sum_over s (scheme_column (take ledger.entries parties)) (put_in_column (take ledger.entries parties)) ≤ highest_put_in * most_entries
+    put_in_at_most s = sum_within s (λ party. party.put_in) highest_put_in (λ party sound. sound.put_in)
 
     -- a scheme's cost is what its first entry put in
-    pub cost_at_most : (k : ℕ) → scheme_place ledger.count s ≡ Some k → k < length ledger.schemes → (get_or ledger.schemes k no_scheme).cost ≤ highest_put_in
-    cost_at_most k place kept =
+    pub cost_at_most : (k : ℕ) → k < length (take ledger.count ledger.schemes) → (get_or (take ledger.count ledger.schemes) k no_scheme).cost ≤ highest_put_in
+    cost_at_most k below =
         let entries : List Party = take ledger.entries parties in
         let same : length (put_in_column entries) ≡ length entries = length-map entries (λ party. party.put_in) in
         omega (
           arith,
-          (h.each_scheme s k place kept).first,
-          first_at_most s highest_put_in (scheme_column entries) (put_in_column entries)
-              (λ e below. rw (column_at (λ party. party.put_in) entries e no_party below) (h.each_party e (omega arith)).put_in),
+          (h.each_scheme k below).first,
+          first_at_most (get_or (take ledger.count ledger.schemes) k no_scheme).number highest_put_in (scheme_column entries) (put_in_column entries)
+              (λ e less. rw (column_at (λ party. party.put_in) entries e no_party less) (h.each_party e (omega arith)).put_in),
         )
 
-    pub fees_at_most : (k : ℕ) → scheme_place ledger.count s ≡ Some k → k < length ledger.schemes → (get_or ledger.schemes k no_scheme).fees ≤ highest_minimum * (most_entries - 1)
-    fees_at_most k place kept =
-        let many : entries_of s (take ledger.entries parties) ≤ 1 * most_entries = sum_within (λ party. 1) 1 (λ party sound. omega arith) in
-        let scheme = h.each_scheme s k place kept in
-        let fee : (get_or ledger.schemes k no_scheme).fee ≤ highest_minimum = omega (arith, scheme.fee, scheme.minimum) in
-        let joinings : entries_of s (take ledger.entries parties) - 1 ≤ most_entries - 1 = omega arith in
+    pub fees_at_most : (k : ℕ) → k < length (take ledger.count ledger.schemes) → (get_or (take ledger.count ledger.schemes) k no_scheme).fees ≤ highest_minimum * (most_entries - 1)
+    fees_at_most k below =
+        let number = (get_or (take ledger.count ledger.schemes) k no_scheme).number in
+        let many : entries_of number (take ledger.entries parties) ≤ 1 * most_entries = sum_within number (λ party. 1) 1 (λ party sound. omega arith) in
+        let scheme = h.each_scheme k below in
+        let fee : (get_or (take ledger.count ledger.schemes) k no_scheme).fee ≤ highest_minimum = omega (arith, scheme.fee, scheme.minimum) in
+        let joinings : entries_of number (take ledger.entries parties) - 1 ≤ most_entries - 1 = omega arith in
         omega (arith, scheme.fees, mul-le-mul fee joinings)
 
 pub new_ledger_sound : (parties : List Party) (room : ℕ) → sound new_ledger parties room ≡ true
-unfolding sound parties_sound schemes_sound all_zero
+unfolding sound sound_figures sound_numbers parties_sound schemes_sound all_zero rise_to
 new_ledger_sound parties room = rw (le-leb 0 room zero-le)

@@ -58,6 +58,9 @@ module _ (parties : List Party) (credits : List ℕ) where
   pub credit_each_schemes : scheme_column (credit_each parties credits) ≡ scheme_column parties
   credit_each_schemes = kept_column (λ party. party.scheme) (λ party amount. refl) parties credits
 
+  pub credit_each_numbers : map (λ party. party.number) (credit_each parties credits) ≡ map (λ party. party.number) parties
+  credit_each_numbers = kept_column (λ party. party.number) (λ party amount. refl) parties credits
+
   pub credit_each_capacities : capacity_column (credit_each parties credits) ≡ capacity_column parties
   credit_each_capacities = kept_column (λ party. party.capacity) (λ party amount. refl) parties credits
 

@@ -6,7 +6,7 @@ use Rattle.ledger.specs.CapacityColumns.{capacity_column, sum_of, capacity_of}
 use Rattle.ledger.specs.declared.records.Party.{Party}
 
 abbrev parties : List Party
-parties = party_of 2 11 21 31 41 51 ∷ party_of 1 12 22 32 42 52 ∷ party_of 3 13 5000000000 33 5000000043 53 ∷ party_of 2 14 24 34 44 54 ∷ party_of 3 15 70000 35 45 55 ∷ []
+parties = party_of 1 2 11 21 31 41 51 ∷ party_of 2 1 12 22 32 42 52 ∷ party_of 3 3 13 5000000000 33 5000000043 53 ∷ party_of 4 2 14 24 34 44 54 ∷ party_of 5 3 15 70000 35 45 55 ∷ []
 
 pub columns :
     (scheme_column parties ≡ 2 ∷ 1 ∷ 3 ∷ 2 ∷ 3 ∷ [])

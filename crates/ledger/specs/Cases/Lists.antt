@@ -1,12 +1,6 @@
--- Short lists numbered, put at the start of others, turned round and summed.
-use Rattle.std.specs.Prelude.{ℕ, ◌≡◌, refl, List, [], ◌∷◌}
-use Rattle.ledger.specs.Lists.{numbered_from, at_start, oldest_first, sum_by}
-
-abbrev pairs : ℕ → List ℕ → List (ℕ × ℕ)
-pairs number = numbered_from number (λ n x. (n, x))
-
-pub numbered : (pairs 1 [] ≡ []) × (pairs 1 (7 ∷ 8 ∷ 9 ∷ []) ≡ (1, 7) ∷ (2, 8) ∷ (3, 9) ∷ []) × (pairs 5 (7 ∷ []) ≡ (5, 7) ∷ [])
-numbered = (refl, refl, refl)
+-- Short lists put at the start of others, turned round and summed.
+use Rattle.std.specs.Prelude.{ℕ, ◌≡◌, refl, [], ◌∷◌}
+use Rattle.ledger.specs.Lists.{at_start, oldest_first, sum_by}
 
 pub put_at_start :
     (at_start {A = ℕ} [] (7 ∷ 8 ∷ []) ≡ 7 ∷ 8 ∷ [])

@@ -1,9 +1,13 @@
--- That a number has its place is a theorem over what makes it one.
-use Rattle.ledger.proofs.Theorems.Lookup.{placed_scheme, placed_entry}
+-- The theorems of Lookup, for schemes and for entries.
+use Rattle.ledger.specs.Records.{no_scheme, no_party}
+use Rattle.ledger.proofs.Theorems.Lookup.{placed, own_place}
 use Rattle.ledger_laws.proofs.numbers_placed.Goals as goal
 
-pub returns-clause-every_scheme : goal.returns-clause-every_scheme
-returns-clause-every_scheme c = placed_scheme
-
-pub returns-clause-every_entry : goal.returns-clause-every_entry
-returns-clause-every_entry c = placed_entry
+pub returns : goal.returns
+returns c =
+    record {
+      schemes = λ s k schemes at. placed (λ scheme. scheme.number) schemes no_scheme s k at;
+      every_scheme = λ next k schemes rise below. own_place (λ scheme. scheme.number) schemes no_scheme next 0 rise k below;
+      entries = λ e k entries at. placed (λ entry. entry.number) entries no_party e k at;
+      every_entry = λ next k entries rise below. own_place (λ entry. entry.number) entries no_party next 0 rise k below;
+    }

@@ -31,6 +31,7 @@ use Rattle.request.specs.RequestRows.{request_rows}
 use Rattle.request.specs.Cases.RequestRows.{request_rows_rise}
 use Rattle.request.specs.Fields.{class_limits, class_in, amount_limits, five_tier_limits, added_limits, revenue_limits, connection_limits}
 use Rattle.request.specs.Request.{request_letters, charge_judgements, request_judgements, judge_request, request_values, request_of}
+use Rattle.stored.specs.declared.form.Form.{Form}
 use Rattle.stored.specs.StoredRows.{stored_rows}
 use Rattle.stored.specs.Cases.StoredRows.{stored_rows_rise}
 use Rattle.quoting_unit.specs.RefusalPlaces.{FileAnswerBy}
@@ -251,8 +252,8 @@ request_placed file =
     s = fields_part file
 
 -- the letters of a stored ledger
-pub letters_within : (file : List ℕ) → file_answer stored_rows 1 file ≡ Ok tt → field_start 1 (fields_part file) ≤ length file
-letters_within file e =
-    let means = stands_means stored_rows 1 file e in
-    let start = start_within stored_rows (fields_part file) stored_rows_rise (means.field_list, means.walks) 0 (omega arith) (omega arith) in
+pub letters_within : (form : Form) (file : List ℕ) → file_answer (stored_rows form) 1 file ≡ Ok tt → field_start 1 (fields_part file) ≤ length file
+letters_within form file e =
+    let means = stands_means (stored_rows form) 1 file e in
+    let start = start_within (stored_rows form) (fields_part file) (stored_rows_rise form) (means.field_list, means.walks) 0 (omega arith) (omega arith) in
     omega (arith, start, fields_within file)

@@ -8,7 +8,7 @@ use Rattle.tagged.specs.File.{◌>>=◌, file_answer, answer_of, fields_part, re
 use Rattle.tagged.specs.Find.{field_start, field_value}
 use Rattle.tagged.proofs.Theorems.Walk.{by_test}
 use Rattle.tagged.proofs.Theorems.Impossible.{impossible}
-use Rattle.tagged.specs.Refusals.{zone_not_in_book, bespoke_not_allowed, no_entry_left, pay_out_above_credit, ledger_unsound, output_too_short}
+use Rattle.tagged.specs.Refusals.{zone_not_in_book, month_before_last, numbers_not_counts, bespoke_not_allowed, no_entry_left, pay_out_above_credit, ledger_unsound, output_too_short}
 use Rattle.tagged.specs.declared.file.Refusal.{Refusal}
 use Rattle.field_values.specs.Judged.{judge, same_bytes}
 use Rattle.rate_book.specs.Book.{book_of}
@@ -25,17 +25,24 @@ use Rattle.ledger.specs.Records.{no_parties, new_ledger}
 use Rattle.ledger.specs.RefusalNumbers.{one_of, one_to}
 use Rattle.ledger.specs.NumberLists.{Among}
 use Rattle.ledger.proofs.Theorems.RefusalNumbers.{one_of_more, one_to_within}
-use Rattle.ledger.specs.Sound.{sound}
+use Rattle.ledger.specs.Limits.{most_entries}
+use Rattle.ledger.specs.Sound.{all_hold, sound}
 use Rattle.ledger.specs.declared.records.Party.{Party}
 use Rattle.ledger.specs.declared.records.Ledger.{Ledger}
 use Rattle.calls.specs.Verdict.{verdict, Verdict}
 use Rattle.calls.proofs.Theorems.VerdictConditions.{verdict_by}
-use Rattle.calls.specs.Decision.{Call, accept, pay_out, hand_over, decided_by, accept_by, pay_out_by, hand_over_by, decided, CallAnswer, is_accepted, is_done, is_refused, answer_to}
+use Rattle.calls.specs.Decision.{Call, accept, pay_out, hand_over, clear, decided_by, accept_by, pay_out_by, hand_over_by, decided, CallAnswer, is_accepted, is_done, is_refused, answer_to}
 use Rattle.calls.specs.Carried.{State, books_on}
 use Rattle.calls.specs.Calls.{state_of, answered, leaves}
 use Rattle.stored.specs.StoredRows.{stored_rows}
 use Rattle.stored.specs.Form.{letters, stored_entries, stored_ledger, stored_form}
-use Rattle.stored.specs.Reading.{in_turn, letters_answer, table_answer, read_answer}
+use Rattle.stored.specs.Reading.{in_turn, letters_answer, form_of_file, form_sound, table_answer, read_answer}
+use Rattle.stored.specs.FormOutput.{form_end}
+use Rattle.stored.specs.Moves.{numbers_are_counts, numbers_answer, moved_by}
+use Rattle.stored.specs.RefusedWith.{RefusesWith, moving_numbers, moving_back_numbers}
+use Rattle.stored.proofs.Theorems.MoveEnds.{move_refusal_numbers, move_back_refusal_numbers}
+use Rattle.stored.specs.declared.form.Form.{Form}
+use Rattle.stored.specs.declared.form.Form.TheVariants.{Pion, Pio2}
 use Rattle.stored.specs.StoredNumbers.{reading_numbers}
 use Rattle.stored.specs.Writing.{write_of}
 use Rattle.stored_calls.specs.StoredCalls.{StoredCallAnswer, not_read, not_made, made_accepted, made_done, stored_read, written_answer, end_by, once_read, new_stored_of, stored_call_of, check_by}
@@ -45,7 +52,7 @@ use Rattle.stored_calls.proofs.Theorems.StoredCalls.{answer_of_read, stored_refu
 use Rattle.stored_calls.proofs.Theorems.StoredCallsRefusals.{new_refusal_numbers}
 use Rattle.stored.specs.Writing as writing
 use Rattle.quoting_unit.specs.Interface.{last_number, highest_place, UnitEnding, place_in, outcome_of, Lent}
-use Rattle.quoting_unit.specs.Unit.{UnitCall, price, slip_text, on_ledger, check_ledger, too_short, price_made, unit_slip_ending, unit_call_ending, check_ending, made, unit_call}
+use Rattle.quoting_unit.specs.Unit.{UnitCall, price, slip_text, on_ledger, check_ledger, move_to_new, move_back, move_ending, too_short, price_made, unit_slip_ending, unit_call_ending, check_ending, made, unit_call}
 use Rattle.quoting_unit.proofs.Theorems.UnitBuffers.{leaves_if}
 use Rattle.quoting_unit.specs.ResultParts.{ResultParts}
 use Rattle.quoting_unit.proofs.Theorems.ResultParts.{told_apart}
@@ -149,6 +156,9 @@ module _ (size : ℕ) (five : 5 ≤ size) (books : Books) where
   decided_placed (accept book request) h = by_pricing (price_of book request) (price_placed size five book request h.0 h.1)
   decided_placed (pay_out entry amount) h = pay_out_placed (entry_at books entry) amount
   decided_placed (hand_over entry person) h = hand_over_placed (entry_at books entry) person
+  decided_placed (clear month) h =
+      by_test (λ decision. AnswerBy size (answer_to books decision)) (ltb month books.month) _ _
+      (λ _. let here : PlacedBy size (refusal month_before_last 0 0) = (omega arith, omega arith) in here) (λ _. tt)
 
 call_placed : (size : ℕ) → 5 ≤ size → (state : State) (call : Call) → CallFiles size call → AnswerBy size (answered state call)
 unfolding answered
@@ -158,25 +168,44 @@ call_placed size five state call h =
     (λ _. let here : PlacedBy size (refusal ledger_unsound 0 0) = (omega arith, omega arith) in here)
 
 -- ---- reading and writing
-read_placed : (room : ℕ) (file : List ℕ) → FileAnswerBy (length file) (read_answer room file)
-unfolding read_answer table_answer
-read_placed room file = by (file_answer stored_rows 1 file) refl (file_answer_placed stored_rows 1 file (omega arith))
+found_placed : (form : Form) (file : List ℕ) → FileAnswerBy (length file) (form_of_file form file)
+found_placed form file = by (file_answer (stored_rows form) 1 file) refl (file_answer_placed (stored_rows form) 1 file (omega arith))
   where
     s : List ℕ
     s = fields_part file
 
-    by_fields : file_answer stored_rows 1 file ≡ Ok tt → (same fits holds : Bool) →
-        FileAnswerBy (length file)
-        (in_turn (letters_answer (judge same (field_start 1 s))) (cond fits (cond holds (Ok tt) (Err (refusal ledger_unsound 0 0))) (Err (refusal no_entry_left 0 0))))
-    by_fields e false fits holds = (omega arith, letters_within file e)
-    by_fields e true true true = tt
-    by_fields e true true false = (omega arith, omega arith)
-    by_fields e true false holds = (omega arith, omega arith)
+    by_letters : file_answer (stored_rows form) 1 file ≡ Ok tt → (same : Bool) → FileAnswerBy (length file) (letters_answer (judge same (field_start 1 s)))
+    by_letters e false = (omega arith, letters_within form file e)
+    by_letters e true = tt
 
-    by : (stands : FileAnswer) → file_answer stored_rows 1 file ≡ stands → FileAnswerBy (length file) stands →
-        FileAnswerBy (length file) (in_turn stands (in_turn (letters_answer (judge (same_bytes (field_value 1 s) letters) (field_start 1 s))) (table_answer room s)))
+    by : (stands : FileAnswer) → file_answer (stored_rows form) 1 file ≡ stands → FileAnswerBy (length file) stands →
+        FileAnswerBy (length file) (in_turn stands (letters_answer (judge (same_bytes (field_value 1 s) (letters form)) (field_start 1 s))))
     by (Err r) e h = h
-    by (Ok _) e h = by_fields e (same_bytes (field_value 1 s) letters) (leb (length (stored_entries s)) room) (sound (stored_ledger s) (stored_entries s) room)
+    by (Ok _) e h = by_letters e (same_bytes (field_value 1 s) (letters form))
+
+in_turn_placed : (size : ℕ) (first second : FileAnswer) → FileAnswerBy size first → FileAnswerBy size second → FileAnswerBy size (in_turn first second)
+in_turn_placed size (Ok _) second h later = later
+in_turn_placed size (Err r) second h later = h
+
+read_placed : (form : Form) (room : ℕ) (file : List ℕ) → FileAnswerBy (length file) (read_answer form room file)
+unfolding read_answer table_answer
+read_placed form room file =
+    let s = fields_part file in
+    in_turn_placed (length file) (form_of_file form file) (table_answer form room s) (found_placed form file)
+    (by (leb (length (stored_entries form s)) room) (form_sound form (stored_ledger form s) (stored_entries form s) room))
+  where
+    by : (fits holds : Bool) →
+        FileAnswerBy (length file) (cond fits (cond holds (Ok tt) (Err (refusal ledger_unsound 0 0))) (Err (refusal no_entry_left 0 0)))
+    by true true = tt
+    by true false = (omega arith, omega arith)
+    by false holds = (omega arith, omega arith)
+
+numbers_placed : (size : ℕ) (ledger : Ledger) → FileAnswerBy size (numbers_answer ledger)
+numbers_placed size ledger = by (all_hold (numbers_are_counts ledger))
+  where
+    by : (holds : Bool) → FileAnswerBy size (cond holds (Ok tt) (Err (refusal numbers_not_counts 0 0)))
+    by true = tt
+    by false = (omega arith, omega arith)
 
 abbrev StoredBy : ℕ → StoredCallAnswer → Type 0
 StoredBy size (not_read r) = PlacedBy size r
@@ -188,7 +217,7 @@ written_placed : (size : ℕ) (told : ℕ → StoredCallAnswer) → ((n : ℕ) �
     StoredBy size (written_answer told (write_of ledger table out).answer)
 unfolding writing.written_answer
 written_placed size told done ledger table out =
-    by (sound ledger table (length table)) (leb (length (stored_form ledger table)) (length out)) (length (stored_form ledger table))
+    by (sound ledger table (length table)) (leb (length (stored_form Pio2 ledger table)) (length out)) (length (stored_form Pio2 ledger table))
   where
     by : (holds fits : Bool) (n : ℕ) →
         StoredBy size (written_answer told (cond holds (cond fits (Ok n) (Err (refusal output_too_short 0 0))) (Err (refusal ledger_unsound 0 0))))
@@ -209,7 +238,7 @@ module _ (size : ℕ) (five : 5 ≤ size) (call : Call) (files : CallFiles size 
   read_call_placed low state (Err r) within h = (h.0, omega (arith, h.1))
 
 stored_read_placed : (file : List ℕ) (room : ℕ) → FileAnswerBy (length file) (stored_read file room).answer
-stored_read_placed file room = subst (FileAnswerBy (length file)) (sym (answer_of_read file room)) (read_placed (length (take room no_parties)) file)
+stored_read_placed file room = subst (FileAnswerBy (length file)) (sym (answer_of_read file room)) (read_placed Pio2 (length (take room no_parties)) file)
 
 abbrev EndingBy : ℕ → UnitEnding → Type 0
 EndingBy size (unit.is_done told) = Unit {0}
@@ -245,6 +274,24 @@ in_table : (call : Call) → Among (stored_numbers call) (one_to last_number)
 in_table (accept book request) = refl
 in_table (pay_out entry amount) = refl
 in_table (hand_over entry person) = refl
+in_table (clear month) = refl
+
+-- a move: the file's refusal, or that of writing, which names no file and no place
+moved_ending : (size low : ℕ) (numbers : List ℕ) (answer : FileAnswer) → low ≤ size → FileAnswerBy low answer → (form : Form) (ledger : Ledger) (parties : List Party) (out : List ℕ) →
+    Among numbers (one_to last_number) → RefusesWith numbers (moved_by answer (form_end form ledger parties out) out).answer →
+    EndingBy size (move_ending (moved_by answer (form_end form ledger parties out) out).answer)
+moved_ending size low numbers (Err r) within h form ledger parties out among told =
+    (within_table numbers r.number among told, (h.0, omega (arith, h.1)), flag (one_of reading_numbers r.number))
+  where
+    flag : (own : Bool) → cond own 1 0 ≤ 1
+    flag true = omega arith
+    flag false = omega arith
+moved_ending size low numbers (Ok _) within h form ledger parties out among told =
+    by (leb (length (stored_form form ledger parties)) (length out)) (length (stored_form form ledger parties))
+  where
+    by : (fits : Bool) (n : ℕ) → EndingBy size (move_ending (cond fits (Ok n) (Err (refusal output_too_short 0 0))))
+    by true n = tt
+    by false n = (omega arith, (omega arith, omega arith), omega arith)
 
 made_placed : (size : ℕ) → 5 ≤ size → (call : UnitCall) (lent : Lent) → FilesWithin size call → EndingBy size (made call lent).ending
 made_placed size five (price book request) lent h =
@@ -261,6 +308,14 @@ made_placed size five (on_ledger stored table_size call) lent h =
     stored_ending size (stored_numbers call) (stored_call_of stored table_size call out).answer (in_table call) (stored_refusal_numbers stored table_size call out)
     (read_call_placed size five call h.1 out (length stored) (state_of read.ledger read.table) read.answer h.0
     (stored_read_placed stored table_size))
+made_placed size five (move_to_new file) lent h =
+    moved_ending size (length file) moving_numbers (read_answer Pion most_entries file) h (read_placed Pion most_entries file)
+    Pio2 (stored_ledger Pion (fields_part file)) (stored_entries Pion (fields_part file)) lent.output refl (move_refusal_numbers file lent.output)
+made_placed size five (move_back file) lent h =
+    let ledger = stored_ledger Pio2 (fields_part file) in
+    moved_ending size (length file) moving_back_numbers (in_turn (read_answer Pio2 most_entries file) (numbers_answer ledger)) h
+    (in_turn_placed (length file) (read_answer Pio2 most_entries file) (numbers_answer ledger) (read_placed Pio2 most_entries file) (numbers_placed (length file) ledger))
+    Pion ledger (stored_entries Pio2 (fields_part file)) lent.output refl (move_back_refusal_numbers file lent.output)
 made_placed size five (check_ledger stored table_size) lent h =
     check_ending_lem size (length stored) stored table_size (stored_read stored table_size).answer h (stored_read_placed stored table_size)
     (check_refusal_numbers stored table_size)
@@ -288,7 +343,10 @@ together calls.new_ledger = 0
 together (on_ledger stored table_size (accept book request)) = length stored + length book + length request
 together (on_ledger stored table_size (pay_out entry amount)) = length stored
 together (on_ledger stored table_size (hand_over entry person)) = length stored
+together (on_ledger stored table_size (clear month)) = length stored
 together (check_ledger stored table_size) = length stored
+together (move_to_new file) = length file
+together (move_back file) = length file
 
 within_together : (call : UnitCall) → FilesWithin (5 + together call) call
 within_together (price book request) = (omega arith, omega arith)
@@ -297,7 +355,10 @@ within_together calls.new_ledger = tt
 within_together (on_ledger stored table_size (accept book request)) = (omega arith, (omega arith, omega arith))
 within_together (on_ledger stored table_size (pay_out entry amount)) = (omega arith, tt)
 within_together (on_ledger stored table_size (hand_over entry person)) = (omega arith, tt)
+within_together (on_ledger stored table_size (clear month)) = (omega arith, tt)
 within_together (check_ledger stored table_size) = omega arith
+within_together (move_to_new file) = omega arith
+within_together (move_back file) = omega arith
 
 module _ (call : UnitCall) (lent : Lent) (r : Refusal) (of_ledger : ℕ) (ends : ending_of call lent ≡ unit.is_refused r of_ledger) where
   placed : (size : ℕ) → 5 ≤ size → FilesWithin size call → EndingBy size (unit.is_refused r of_ledger)

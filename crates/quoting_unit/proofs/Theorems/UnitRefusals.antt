@@ -4,11 +4,14 @@ use Rattle.std.proofs.Common.{true≢false, ne_eqb}
 use Rattle.charge.specs.Price.{price_of, Pricing}
 use Rattle.slip_text.specs.Slip.{slip_written, slip_buffer, SlipWritten}
 use Rattle.slip_text.proofs.Theorems.Slip.{refused_slip_changes_nothing}
+use Rattle.tagged.specs.declared.file.Refusal.{Refusal}
+use Rattle.stored.specs.Writing.{Written, WriteEnd}
+use Rattle.stored.proofs.Theorems.MoveEnds.{refused_move_changes_nothing, refused_move_back_changes_nothing}
 use Rattle.stored_calls.specs.StoredCalls.{StoredCallAnswer, not_read, not_made, made_accepted, made_done, new_stored_of, stored_call_of}
 use Rattle.stored_calls.specs.StoredRefusals.{is_made}
 use Rattle.stored_calls.proofs.Theorems.StoredCalls.{stored_refused_changes_nothing, new_refused_changes_nothing}
 use Rattle.quoting_unit.specs.Interface.{Lent, outcome_of}
-use Rattle.quoting_unit.specs.Unit.{UnitCall, price, slip_text, new_ledger, on_ledger, check_ledger, too_short, Made, price_made, unit_slip_ending, unit_call_ending, figures_by, made, leaves_by, unit_call}
+use Rattle.quoting_unit.specs.Unit.{UnitCall, price, slip_text, new_ledger, on_ledger, check_ledger, move_to_new, move_back, move_ending, too_short, Made, price_made, unit_slip_ending, unit_call_ending, figures_by, made, leaves_by, unit_call}
 use Rattle.quoting_unit.proofs.Theorems.UnitBuffers.{leaves_if}
 
 -- output and figures are as they were
@@ -37,6 +40,14 @@ figures_left (not_made r) figures h = refl
 figures_left (made_accepted acceptance size) figures h = absurd (true≢false h)
 figures_left (made_done size) figures h = refl
 
+-- and a move whose result isn't 0 was refused
+move_left : {end : WriteEnd} {out : List ℕ} → ((r : Refusal) → end.answer ≡ Err r → end.output ≡ out) → (outcome_of (move_ending end.answer)).result ≢ 0 → end.output ≡ out
+move_left {end} {out} keeps refused = by end.answer refl refused
+  where
+    by : (answer : Written) → end.answer ≡ answer → (outcome_of (move_ending answer)).result ≢ 0 → end.output ≡ out
+    by (Ok size) e refused = absurd (refused refl)
+    by (Err r) e refused = keeps r e
+
 made_left : (call : UnitCall) (lent : Lent) → (outcome_of (made call lent).ending).result ≢ 0 → Left (made call lent) lent
 made_left (price book request) lent refused = price_left (price_of book request) lent refused
 made_left (slip_text book request) lent refused =
@@ -49,6 +60,8 @@ made_left (on_ledger stored table_size call) lent refused =
     let h = not_made_lem told refused in
     (stored_refused_changes_nothing stored table_size call lent.output h, figures_left told lent.figures h)
 made_left (check_ledger stored table_size) lent refused = (refl, refl)
+made_left (move_to_new file) lent refused = (move_left (λ r. refused_move_changes_nothing file lent.output r) refused, refl)
+made_left (move_back file) lent refused = (move_left (λ r. refused_move_back_changes_nothing file lent.output r) refused, refl)
 
 lent_left : (call : Made) (lent : Lent) → (outcome_of call.ending).result ≢ 0 → Left call lent → (leaves_by call lent).lent ≡ lent
 lent_left call lent refused left = rw (left.0, left.1, ne_eqb (outcome_of call.ending).result 0 refused)

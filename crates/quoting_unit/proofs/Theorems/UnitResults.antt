@@ -12,8 +12,12 @@ use Rattle.ledger.specs.RefusalNumbers.{one_of, one_to}
 use Rattle.ledger.specs.NumberLists.{Among}
 use Rattle.ledger.proofs.Theorems.RefusalNumbers.{one_of_more, within_one_to, one_to_within}
 use Rattle.slip_text.specs.Slip.{slip_of}
+use Rattle.stored.specs.Moves as moves
+use Rattle.stored.specs.RefusedWith.{RefusesWith}
 use Rattle.stored.specs.StoredNumbers.{reading_numbers}
-use Rattle.calls.specs.Decision.{Call, accept, pay_out, hand_over}
+use Rattle.stored.specs.Writing.{Written}
+use Rattle.stored.proofs.Theorems.MoveEnds.{move_refusal_numbers, move_back_refusal_numbers}
+use Rattle.calls.specs.Decision.{Call, accept, pay_out, hand_over, clear}
 use Rattle.stored_calls.specs.StoredCalls.{StoredCheck, StoredCallAnswer, not_read, not_made, made_accepted, made_done, new_stored_of, stored_call_of, check_stored_of}
 use Rattle.stored_calls.specs.StoredRefusals.{is_made, stored_numbers}
 use Rattle.stored_calls.specs.StoredRefuses.{StoredRefuses}
@@ -21,14 +25,14 @@ use Rattle.stored_calls.proofs.Theorems.StoredCalls.{StoredCheckRefuses, stored_
 use Rattle.stored_calls.proofs.Theorems.StoredCallsRefusals.{new_refusal_numbers}
 use Rattle.stored_calls.specs.declared.StoredCounts.{StoredCounts}
 use Rattle.quoting_unit.specs.Interface.{last_number, result_of, number_in, outcome_of, Lent}
-use Rattle.quoting_unit.specs.Unit.{UnitCall, price, slip_text, new_ledger, on_ledger, check_ledger, too_short, price_made, unit_slip_ending, unit_call_ending, check_ending, made, unit_call}
+use Rattle.quoting_unit.specs.Unit.{UnitCall, price, slip_text, new_ledger, on_ledger, check_ledger, move_to_new, move_back, of_stored_file, move_ending, too_short, price_made, unit_slip_ending, unit_call_ending, check_ending, made, unit_call}
 use Rattle.quoting_unit.proofs.Theorems.UnitBuffers.{leaves_if}
 use Rattle.quoting_unit.proofs.Theorems.ResultParts.{number_told}
 use Rattle.quoting_unit.specs.UnitResults.{Results, IsDone, pricing_numbers, check_numbers, refusals_of}
 
 -- ---- by the case
 
--- numbers 1 to 15
+-- numbers 1 to 16
 abbrev pub InTable : List ℕ → Type 0
 InTable refusals = Among refusals (one_to last_number)
 
@@ -80,6 +84,11 @@ checked_results (Err r) h =
     is_refused r 1 refl (λ d. cc d.1) (one_of_more reading_numbers check_numbers r.number refl h)
 checked_results (Ok counts) h = is_done (counts, refl)
 
+move_results : {refusals : List ℕ} (written : Written) → InTable refusals → RefusesWith refusals written →
+    Results ((size : ℕ) × (written ≡ Ok size)) refusals (outcome_of (move_ending written)).result
+move_results (Ok size) numbers h = is_done (size, refl)
+move_results (Err r) numbers h = is_refused r (of_stored_file r.number) numbers (λ d. cc d.1) h
+
 -- ---- every call
 made_results : (call : UnitCall) (lent : Lent) → Results (IsDone call lent) (refusals_of call) (outcome_of (made call lent).ending).result
 made_results (price book request) lent = priced_results (price_of book request) lent (pricing_refusal_numbers book request)
@@ -90,6 +99,9 @@ made_results new_ledger lent = stored_results (new_stored_of lent.output).answer
 made_results (on_ledger stored table_size (accept book request)) lent = ledger_results stored table_size (accept book request) lent refl
 made_results (on_ledger stored table_size (pay_out entry amount)) lent = ledger_results stored table_size (pay_out entry amount) lent refl
 made_results (on_ledger stored table_size (hand_over entry person)) lent = ledger_results stored table_size (hand_over entry person) lent refl
+made_results (on_ledger stored table_size (clear month)) lent = ledger_results stored table_size (clear month) lent refl
+made_results (move_to_new file) lent = move_results (moves.move_to_new file lent.output).answer refl (move_refusal_numbers file lent.output)
+made_results (move_back file) lent = move_results (moves.move_back file lent.output).answer refl (move_back_refusal_numbers file lent.output)
 made_results (check_ledger stored table_size) lent = checked_results (check_stored_of stored table_size) (check_refusal_numbers stored table_size)
 
 in_table_with_14 : (call : UnitCall) → InTable (refusals_of call) × (one_of (refusals_of call) output_too_short ≡ true)
@@ -99,7 +111,10 @@ in_table_with_14 new_ledger = (refl, refl)
 in_table_with_14 (on_ledger stored table_size (accept book request)) = (refl, refl)
 in_table_with_14 (on_ledger stored table_size (pay_out entry amount)) = (refl, refl)
 in_table_with_14 (on_ledger stored table_size (hand_over entry person)) = (refl, refl)
+in_table_with_14 (on_ledger stored table_size (clear month)) = (refl, refl)
 in_table_with_14 (check_ledger stored table_size) = (refl, refl)
+in_table_with_14 (move_to_new file) = (refl, refl)
+in_table_with_14 (move_back file) = (refl, refl)
 
 pub unit_results : (call : UnitCall) (lent : Lent) →
     Results ((too_short call lent ≡ false) × IsDone call lent) (refusals_of call) (unit_call call lent).result

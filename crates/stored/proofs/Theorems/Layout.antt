@@ -1,5 +1,5 @@
 -- Laws of layouts, over any widths: a record's values and its bytes, both ways round; its bytes written number by number.
-use Rattle.std.specs.Prelude.{ℕ, ◌+◌, ◌<◌, ◌≤◌, ◌≡◌, refl, List, [], ◌∷◌, ◌++◌, length, take, drop, set}
+use Rattle.std.specs.Prelude.{ℕ, ◌+◌, ◌^◌, ◌<◌, ◌≤◌, ◌≡◌, refl, List, [], ◌∷◌, ◌++◌, length, take, drop, set}
 use Rattle.std.proofs.Common.{sym, ap, ap₂, ◌∙◌, append_assoc, append-nil, add-zero, zero-add, add-one, arith, length-append, length-take, length-drop, take-append-drop, take_all, take_at, take-add, drop-cons, drop-drop}
 use Rattle.std.proofs.Math.Nat.{suc_inj}
 use Rattle.std.proofs.Math.Seq.{take-append_seam, drop-append_seam, set-append_seam}
@@ -8,8 +8,10 @@ use Rattle.ledger.specs.CapacityColumns.{sum_of}
 use Rattle.numbers.specs.BigEndian.{Bytes, number, bytes_of}
 use Rattle.numbers.specs.Written.{written}
 use Rattle.numbers.proofs.Theorems.BigEndian.{Bytes-append, Bytes-take, Bytes-drop, length_bytes_of, bytes_of_bytes, bytes_of_number, number_of_bytes_of, length_written, written_written}
-use Rattle.stored.specs.Layout.{record_bytes, values_at, record_values}
+use Rattle.stored.specs.Layout.{record_bytes, values_at, record_values, number_first, number_in, past_number}
 use Rattle.stored.specs.Fit.{Fit}
+use Rattle.stored.specs.declared.form.Form.{Form}
+use Rattle.stored.specs.declared.form.Form.TheVariants.{Pion, Pio2}
 
 pub length_record_bytes : (widths values : List ℕ) → length values ≡ length widths → length (record_bytes widths values) ≡ sum_of widths
 unfolding record_bytes
@@ -45,6 +47,16 @@ values_at_record_bytes (width ∷ widths) (value ∷ values) before after fit =
 pub values_of_record : (widths values : List ℕ) → Fit widths values → record_values widths (record_bytes widths values) ≡ values
 values_of_record widths values fit = rw append-nil at (values_at_record_bytes widths values [] [] fit)
 
+-- two layouts one after the other
+pub record_bytes_append : (widths others values more : List ℕ) → length values ≡ length widths →
+    record_bytes (widths ++ others) (values ++ more) ≡ record_bytes widths values ++ record_bytes others more
+unfolding record_bytes
+record_bytes_append [] others [] more same = refl
+record_bytes_append [] others (value ∷ values) more same = absurd (omega arith)
+record_bytes_append (width ∷ widths) others [] more same = absurd (omega arith)
+record_bytes_append (width ∷ widths) others (value ∷ values) more same =
+    rw (record_bytes_append widths others values more (suc_inj same), append_assoc)
+
 -- the bytes of the values at a place are the bytes there
 pub record_bytes_values_at : (widths bytes : List ℕ) (at : ℕ) → Bytes bytes → at + sum_of widths ≤ length bytes →
     record_bytes widths (values_at widths at bytes) ≡ take (sum_of widths) (drop at bytes)
@@ -60,6 +72,40 @@ record_bytes_values_at (width ∷ widths) bytes at are fits =
 pub record_of_values : (widths bytes : List ℕ) → Bytes bytes → length bytes ≡ sum_of widths → record_bytes widths (record_values widths bytes) ≡ bytes
 record_of_values widths bytes are long =
     record_bytes_values_at widths bytes 0 are (omega arith) ∙ take_all (sum_of widths) bytes (omega arith)
+
+-- ---- the number that a record begins with
+
+-- the number that is read of a record with this one, in this place
+abbrev pub kept_number : Form → ℕ → ℕ → ℕ
+kept_number Pion place number = place
+kept_number Pio2 place number = number
+
+module _ (widths values : List ℕ) (place n : ℕ) where
+  pub number_of_record : (form : Form) → n < 256 ^ 4 →
+      number_in form place (record_bytes (number_first form 4 widths) (number_first form n values)) ≡ kept_number form place n
+  unfolding record_bytes
+  number_of_record Pion below = refl
+  number_of_record Pio2 below =
+      ap number (take_at (bytes_of 4 n) (record_bytes widths values) 4 (length_bytes_of 4 n)) ∙ number_of_bytes_of 4 n below
+
+  pub figures_of_record : (form : Form) → past_number form (record_bytes (number_first form 4 widths) (number_first form n values)) ≡ record_bytes widths values
+  unfolding record_bytes
+  figures_of_record Pion = refl
+  figures_of_record Pio2 =
+      let first = bytes_of 4 n in
+      rw (length_bytes_of 4 n) at (drop-append_seam first (record_bytes widths values))
+
+-- bytes of a record's length with its number are those of their values
+pub numbered_record : (form : Form) (widths bytes : List ℕ) (place : ℕ) → Bytes bytes → length bytes ≡ sum_of (number_first form 4 widths) →
+    record_bytes (number_first form 4 widths) (number_first form (number_in form place bytes) (record_values widths (past_number form bytes))) ≡ bytes
+unfolding record_bytes
+numbered_record Pion widths bytes place are long = record_of_values widths bytes are long
+numbered_record Pio2 widths bytes place are long =
+    let first = take 4 bytes in
+    let size : length first ≡ 4 = simp length-take (omega arith) in
+    ap₂ ◌++◌ (rw size at (bytes_of_number first (Bytes-take 4 bytes are)))
+    (record_of_values widths (drop 4 bytes) (Bytes-drop 4 bytes are) (simp length-drop (omega arith)))
+    ∙ take-append-drop 4 bytes
 
 -- to write no bytes changes nothing
 pub written_none : (out : List ℕ) (at : ℕ) → written out at [] ≡ out

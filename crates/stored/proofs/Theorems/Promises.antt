@@ -7,6 +7,7 @@ use Rattle.tagged.specs.FileEnding.{file_ending}
 use Rattle.tagged.proofs.Theorems.Ending.{file_answer_by_ending}
 use Rattle.ledger.specs.declared.records.Party.{Party}
 use Rattle.ledger.specs.declared.records.Ledger.{Ledger}
+use Rattle.stored.specs.declared.form.Form.TheVariants.{Pio2}
 use Rattle.stored.specs.Reading.{read_answer, read_of}
 use Rattle.stored.specs.Writing.{Written, write_of}
 use Rattle.stored.specs.StoredEnding.{written_ending}
@@ -17,7 +18,7 @@ use Rattle.stored.proofs.Theorems.StoredEnding.{read_numbered, write_numbered, w
 
 end_numbered : (ledger : Ledger) (table : List Party) (file : List ℕ) → Numbered (read_of ledger table file).answer
 end_numbered ledger table file =
-    subst Numbered (sym (read_answer_lem ledger table file)) (read_numbered (read_answer (length table) file) (read_refusal_numbers (length table) file))
+    subst Numbered (sym (read_answer_lem ledger table file)) (read_numbered (read_answer Pio2 (length table) file) (read_refusal_numbers Pio2 (length table) file))
 
 module _ (ledger : Ledger) (table : List Party) (file : List ℕ) {answer : FileAnswer} {after : Ledger} {left : List Party} where
   pub read_promise : answer ≡ (read_of ledger table file).answer → after ≡ (read_of ledger table file).ledger → left ≡ (read_of ledger table file).table →

@@ -15,62 +15,64 @@ use Rattle.stored.specs.Form.{stored_schemes, stored_entries, no_schemes, stored
 use Rattle.stored.proofs.Theorems.StoredFields.{few_schemes}
 use Rattle.stored.specs.Reading.{read_answer, table_by, read_of}
 use Rattle.stored.proofs.Theorems.Reading.{sound_placed}
-use Rattle.stored.specs.StoredAccepted.{StoredAccepted}
+use Rattle.stored.specs.StoredAccepted.{FormFound, StoredAccepted}
+use Rattle.stored.specs.declared.form.Form.{Form}
+use Rattle.stored.specs.declared.form.Form.TheVariants.{Pio2}
 use Rattle.stored.proofs.Theorems.StoredAccepted.{accepted_means}
 
-pub entries_count : (s : List ℕ) → (stored_ledger s).entries ≡ length (stored_entries s)
+pub entries_count : (form : Form) (s : List ℕ) → (stored_ledger form s).entries ≡ length (stored_entries form s)
 unfolding stored_ledger
-entries_count s = refl
+entries_count form s = refl
 
 -- a ledger that was read has 64 places for schemes
-stored_places : (room : ℕ) (file : List ℕ) → StoredAccepted room file → length (stored_ledger (fields_part file)).schemes ≡ most_schemes
+pub stored_places : (form : Form) (file : List ℕ) → FormFound form file → length (stored_ledger form (fields_part file)).schemes ≡ most_schemes
 unfolding stored_ledger no_schemes
-stored_places room file accepted =
+stored_places form file found =
     let s = fields_part file in
-    let few = few_schemes s (accepted.stands.field_list, accepted.stands.walks) in
+    let few = few_schemes form s (found.stands.field_list, found.stands.walks) in
     let places = length-replicate most_schemes no_scheme in
-    length_at_start (stored_schemes s) no_schemes (omega (arith, few, places)) ∙ places
+    length_at_start (stored_schemes form s) no_schemes (omega (arith, few, places)) ∙ places
 
 module _ (ledger : Ledger) (table : List Party) (file : List ℕ) where
   abbrev s : List ℕ
   s = fields_part file
 
-  pub read_answer_lem : (read_of ledger table file).answer ≡ read_answer (length table) file
-  read_answer_lem = by_answer (read_answer (length table) file)
+  pub read_answer_lem : (read_of ledger table file).answer ≡ read_answer Pio2 (length table) file
+  read_answer_lem = by_answer (read_answer Pio2 (length table) file)
     where
       by_answer : (answer : FileAnswer) → (table_by answer ledger table s).answer ≡ answer
       by_answer (Ok _) = refl
       by_answer (Err r) = refl
 
   module _ (stands : (read_of ledger table file).answer ≡ Ok tt) where
-    pub read_accepted : StoredAccepted (length table) file
-    read_accepted = accepted_means (length table) file (sym read_answer_lem ∙ stands)
+    pub read_accepted : StoredAccepted Pio2 (length table) file
+    read_accepted = accepted_means Pio2 (length table) file (sym read_answer_lem ∙ stands)
 
-    pub read_stands : read_of ledger table file ≡ record { answer = Ok tt; ledger = stored_ledger s; table = at_start (stored_entries s) table }
+    pub read_stands : read_of ledger table file ≡ record { answer = Ok tt; ledger = stored_ledger Pio2 s; table = at_start (stored_entries Pio2 s) table }
     read_stands = ap (λ answer. table_by answer ledger table s) (sym read_answer_lem ∙ stands)
 
   -- by the answer, with what it says of the file
-  by_read : (P : FileAnswer → Type 0) → (StoredAccepted (length table) file → P (Ok tt)) → ((r : Refusal) → P (Err r)) → P (read_answer (length table) file)
-  by_read P stood refused = by_answer (read_answer (length table) file) refl
+  by_read : (P : FileAnswer → Type 0) → (StoredAccepted Pio2 (length table) file → P (Ok tt)) → ((r : Refusal) → P (Err r)) → P (read_answer Pio2 (length table) file)
+  by_read P stood refused = by_answer (read_answer Pio2 (length table) file) refl
     where
-      by_answer : (answer : FileAnswer) → read_answer (length table) file ≡ answer → P answer
-      by_answer (Ok _) e = stood (accepted_means (length table) file e)
+      by_answer : (answer : FileAnswer) → read_answer Pio2 (length table) file ≡ answer → P answer
+      by_answer (Ok _) e = stood (accepted_means Pio2 (length table) file e)
       by_answer (Err r) e = refused r
 
-  table_placed : StoredAccepted (length table) file → length (table_by (Ok tt) ledger table s).table ≡ length table
-  table_placed accepted = length_at_start (stored_entries s) table accepted.fits
+  table_placed : StoredAccepted Pio2 (length table) file → length (table_by (Ok tt) ledger table s).table ≡ length table
+  table_placed accepted = length_at_start (stored_entries Pio2 s) table accepted.fits
 
   pub read_length : length (read_of ledger table file).table ≡ length table
   read_length = by_read (λ answer. length (table_by answer ledger table s).table ≡ length table) table_placed (λ r. refl)
 
   pub read_places : length ledger.schemes ≡ most_schemes → length (read_of ledger table file).ledger.schemes ≡ most_schemes
-  read_places places = by_read (λ answer. length (table_by answer ledger table s).ledger.schemes ≡ most_schemes) (stored_places (length table) file) (λ r. places)
+  read_places places = by_read (λ answer. length (table_by answer ledger table s).ledger.schemes ≡ most_schemes) (λ accepted. stored_places Pio2 file accepted.found) (λ r. places)
 
   pub read_sound : (read_of ledger table file).answer ≡ Ok tt →
       sound (read_of ledger table file).ledger (read_of ledger table file).table (length (read_of ledger table file).table) ≡ true
   read_sound stands =
       let accepted = read_accepted stands in
       ap (λ end. sound end.ledger end.table (length end.table)) (read_stands stands)
-      ∙ ap (sound (stored_ledger s) (table_by (Ok tt) ledger table s).table) (table_placed accepted)
-      ∙ sound_placed s table (length table)
+      ∙ ap (sound (stored_ledger Pio2 s) (table_by (Ok tt) ledger table s).table) (table_placed accepted)
+      ∙ sound_placed Pio2 s table (length table)
       ∙ accepted.holds

@@ -17,24 +17,27 @@ use Rattle.ledger.specs.Limits.{most_schemes}
 use Rattle.ledger.specs.Lists.{at_start}
 use Rattle.ledger.specs.Records.{no_scheme}
 use Rattle.ledger.specs.Sound.{sound}
-use Rattle.ledger.specs.SoundConditions.{SoundLedger}
+use Rattle.ledger.specs.SoundConditions.{SoundFigures}
 use Rattle.ledger.proofs.Theorems.Sound.{sound_means}
 use Rattle.ledger.proofs.Theorems.SameEntries.{sound_in}
 use Rattle.ledger.specs.declared.records.Scheme.{Scheme}
 use Rattle.ledger.specs.declared.records.Party.{Party}
 use Rattle.ledger.specs.declared.records.Ledger.{Ledger}
-use Rattle.stored.specs.Layout.{record_values, head_widths, head_values, ledger_from}
-use Rattle.stored.proofs.Theorems.Layout.{values_of_record, take_at_start}
-use Rattle.stored.specs.Form.{letters, stored_parts, stored_form, stored_entries, no_schemes, stored_ledger}
+use Rattle.ledger.specs.Limits.{most_entries}
+use Rattle.stored.specs.Layout.{record_values, head_widths, head_values, added_values, added_in, ledger_from}
+use Rattle.stored.proofs.Theorems.Layout.{take_at_start}
+use Rattle.stored.specs.Form.{letters, stored_parts, stored_form, stored_schemes, stored_entries, no_schemes, stored_ledger}
 use Rattle.stored.specs.FormFields.{FormFits}
-use Rattle.stored.proofs.Theorems.FormFields.{fields_of_form, letters_of_form, head_of_form, form_stands, schemes_of_form, entries_of_form}
+use Rattle.stored.proofs.Theorems.FormFields.{Held, fields_of_form, letters_of_form, head_of_form, head_back, added_back, form_stands, schemes_of_form, schemes_held, entries_of_form, parties_held}
 use Rattle.stored.specs.Writing.{written_answer, write_of}
 use Rattle.stored.proofs.Theorems.Writing.{write_refused_13, write_refused_14, write_done, output_done}
 use Rattle.stored.proofs.Theorems.SameForm.{same_form}
-use Rattle.stored.specs.Reading.{fields_answer, read_answer, table_by, read_of}
-use Rattle.stored.proofs.Theorems.Reading.{read_done, read_lettered, read_standing}
-use Rattle.stored.proofs.Theorems.StoredAccepted.{form_of_accepted}
+use Rattle.stored.specs.Reading.{form_of_file, table_answer, read_answer, table_by, read_of}
+use Rattle.stored.proofs.Theorems.Reading.{form_found, read_done, read_found}
+use Rattle.stored.proofs.Theorems.StoredAccepted.{form_of_found}
 use Rattle.stored.proofs.Theorems.ReadLedger.{read_accepted, read_stands, read_sound}
+use Rattle.stored.specs.declared.form.Form.{Form}
+use Rattle.stored.specs.declared.form.Form.TheVariants.{Pio2}
 
 -- ---- what was written
 
@@ -52,12 +55,12 @@ module _ (ledger : Ledger) (parties : List Party) (room : ℕ) (out : List ℕ) 
       (λ holds. holds)
       (dichotomy (sound ledger parties room))
 
-  written_size : length (stored_form ledger parties) ≡ size
+  written_size : length (stored_form Pio2 ledger parties) ≡ size
   written_size =
       ⊎_elim
       (λ short. refused_no_length (sym (write_refused_14 ledger parties room out written_sound (leb-false _ _ short)) ∙ written))
       (λ long. let done = write_done ledger parties room out written_sound (leb-true _ _ long) in cc)
-      (dichotomy (leb (length (stored_form ledger parties)) (length out)))
+      (dichotomy (leb (length (stored_form Pio2 ledger parties)) (length out)))
 
 -- the places past the last scheme hold zeros
 zeros_after : (size count : ℕ) (schemes : List Scheme) → length schemes ≡ size → ((i : ℕ) → count ≤ i → get_or schemes i no_scheme ≡ no_scheme) →
@@ -78,51 +81,70 @@ zeros_placed count schemes places few zeros =
     ∙ ap (λ l. take count schemes ++ l) (zeros_after most_schemes count schemes places zeros)
     ∙ take-append-drop count schemes
 
-module _ (ledger : Ledger) (parties : List Party) (handed : FormFits ledger parties) (holds : sound ledger parties (length parties) ≡ true) where
-  facts : SoundLedger ledger parties (length parties)
-  facts = sound_means ledger parties (length parties) holds
+-- a form that can hold a ledger and its entries, and is found of its bytes
+module _ (form : Form) (ledger : Ledger) (parties : List Party) (handed : FormFits ledger parties) (held : Held form ledger parties)
+    (count : ledger.count ≤ most_schemes) (entries : ledger.entries ≤ most_entries) (in_table : ledger.entries ≤ length parties)
+    (rest_zero : (i : ℕ) → ledger.count ≤ i → get_or ledger.schemes i no_scheme ≡ no_scheme) where
+  abbrev s : List ℕ
+  s = encoded_parts (stored_parts form ledger parties)
 
-  entries_back : stored_entries (encoded_parts (stored_parts ledger parties)) ≡ take ledger.entries parties
-  entries_back = entries_of_form ledger parties handed facts.schemes facts.entries
+  pub entries_back : stored_entries form s ≡ take ledger.entries parties
+  entries_back = entries_of_form form ledger parties count entries handed ∙ parties_held ledger parties form held
 
-  entries_counted : length (stored_entries (encoded_parts (stored_parts ledger parties))) ≡ ledger.entries
-  entries_counted = ap length entries_back ∙ length-take-le ledger.entries parties facts.in_table
+  pub entries_counted : length (stored_entries form s) ≡ ledger.entries
+  entries_counted = ap length entries_back ∙ length-take-le ledger.entries parties in_table
 
   -- the ledger that its form holds is itself
-  ledger_back : stored_ledger (encoded_parts (stored_parts ledger parties)) ≡ ledger
+  pub ledger_back : stored_ledger form s ≡ ledger
   unfolding stored_ledger
   ledger_back =
-      let values : record_values head_widths (field_value 2 (encoded_parts (stored_parts ledger parties))) ≡ head_values ledger =
-      ap (record_values head_widths) (head_of_form ledger parties facts.schemes facts.entries)
-      ∙ values_of_record head_widths (head_values ledger) handed.head_fits in
-      let schemes = schemes_of_form ledger parties handed facts.schemes facts.entries in
-      let counted = ap length schemes ∙ length-take-le ledger.count ledger.schemes (omega (arith, facts.schemes, handed.places)) in
-      let places =
-      ap (λ l. at_start l no_schemes) schemes ∙ zeros_placed ledger.count ledger.schemes handed.places facts.schemes facts.rest_zero in
-      λ i. ledger_from (values i) (entries_counted i) (counted i) (places i)
+      let head = head_of_form form ledger parties count entries in
+      let schemes = schemes_of_form form ledger parties count entries handed ∙ schemes_held ledger parties form held in
+      let counted = ap length schemes ∙ length-take-le ledger.count ledger.schemes (omega (arith, count, handed.places)) in
+      let values : record_values head_widths (field_value 2 s) ≡ head_values ledger =
+      ap (record_values head_widths) head ∙ head_back ledger parties handed.head_fits form in
+      let added : added_in form (length (stored_schemes form s)) (length (stored_entries form s)) (field_value 2 s) ≡ added_values ledger =
+      (λ i. added_in form (counted i) (entries_counted i) (head i)) ∙ added_back ledger parties handed.head_fits form held in
+      let places = ap (λ l. at_start l no_schemes) schemes ∙ zeros_placed ledger.count ledger.schemes handed.places count rest_zero in
+      λ i. ledger_from (values i) (added i) (entries_counted i) (counted i) (places i)
 
-  form_accepted : (room : ℕ) → ledger.entries ≤ room → read_answer room (stored_form ledger parties) ≡ Ok tt
+  pub form_is_found : form_of_file form (stored_form form ledger parties) ≡ Ok tt
+  form_is_found =
+      let lettered : judge_letters (letters form) s ≡ (Ok tt) =
+      ap (λ value. judge (same_bytes value (letters form)) (field_start 1 s)) (letters_of_form form ledger parties count entries)
+      ∙ ap (λ same. judge same (field_start 1 s)) (same_bytes_refl (letters form)) in
+      form_found form (stored_form form ledger parties) (form_stands form ledger parties count entries)
+      (ap (judge_letters (letters form)) (fields_of_form form ledger parties) ∙ lettered)
+
+module _ (ledger : Ledger) (parties : List Party) (handed : FormFits ledger parties) (holds : sound ledger parties (length parties) ≡ true) where
+  facts : SoundFigures ledger parties (length parties)
+  facts = (sound_means ledger parties (length parties) holds).figures
+
+  back_ledger : stored_ledger Pio2 (encoded_parts (stored_parts Pio2 ledger parties)) ≡ ledger
+  back_ledger = ledger_back Pio2 ledger parties handed tt facts.schemes facts.entries facts.in_table facts.rest_zero
+
+  back_entries : stored_entries Pio2 (encoded_parts (stored_parts Pio2 ledger parties)) ≡ take ledger.entries parties
+  back_entries = entries_back Pio2 ledger parties handed tt facts.schemes facts.entries facts.in_table facts.rest_zero
+
+  pub form_accepted : (room : ℕ) → ledger.entries ≤ room → read_answer Pio2 room (stored_form Pio2 ledger parties) ≡ Ok tt
   form_accepted room fits =
-      let s = encoded_parts (stored_parts ledger parties) in
-      let lettered : judge_letters letters s ≡ (Ok tt) =
-      ap (λ value. judge (same_bytes value letters) (field_start 1 s)) (letters_of_form ledger parties facts.schemes facts.entries)
-      ∙ ap (λ same. judge same (field_start 1 s)) (same_bytes_refl letters) in
+      let s = encoded_parts (stored_parts Pio2 ledger parties) in
       let kept = take-take ledger.entries ledger.entries parties (omega arith) in
-      let as_sound : sound (stored_ledger s) (stored_entries s) room ≡ true =
-      ap₂ (λ l p. sound l p room) ledger_back entries_back
+      let as_sound : sound (stored_ledger Pio2 s) (stored_entries Pio2 s) room ≡ true =
+      ap₂ (λ l p. sound l p room) back_ledger back_entries
       ∙ sound_in ledger parties (take ledger.entries parties) (length parties) room kept fits holds in
-      read_standing room (stored_form ledger parties) (form_stands ledger parties handed facts.schemes facts.entries)
-      ∙ ap (fields_answer room) (fields_of_form ledger parties)
-      ∙ read_lettered room s lettered
-      ∙ read_done room s (omega (arith, entries_counted)) as_sound
+      let counted = entries_counted Pio2 ledger parties handed tt facts.schemes facts.entries facts.in_table facts.rest_zero in
+      read_found Pio2 room (stored_form Pio2 ledger parties) (form_is_found Pio2 ledger parties handed tt facts.schemes facts.entries facts.in_table facts.rest_zero)
+      ∙ ap (table_answer Pio2 room) (fields_of_form Pio2 ledger parties)
+      ∙ read_done Pio2 room s (omega (arith, counted)) as_sound
 
   -- The form of a sound ledger reads back as the ledger and its entries.
   pub read_of_form : (before : Ledger) (other : List Party) → ledger.entries ≤ length other →
-      read_of before other (stored_form ledger parties) ≡
+      read_of before other (stored_form Pio2 ledger parties) ≡
       record { answer = Ok tt; ledger = ledger; table = at_start (take ledger.entries parties) other }
   read_of_form before other fits =
-      ap₂ (λ answer s. table_by answer before other s) (form_accepted (length other) fits) (fields_of_form ledger parties)
-      ∙ (λ i. record { answer = Ok tt; ledger = ledger_back i; table = at_start (entries_back i) other })
+      ap₂ (λ answer s. table_by answer before other s) (form_accepted (length other) fits) (fields_of_form Pio2 ledger parties)
+      ∙ (λ i. record { answer = Ok tt; ledger = back_ledger i; table = at_start (back_entries i) other })
 
 -- What was written reads back into any table that has room for the entries, whatever ledger there was before.
 pub read_of_write : (ledger before : Ledger) (table other : List Party) (out : List ℕ) (size : ℕ) → FormFits ledger table →
@@ -130,7 +152,7 @@ pub read_of_write : (ledger before : Ledger) (table other : List Party) (out : L
     read_of before other (take size (write_of ledger table out).output) ≡
     record { answer = Ok tt; ledger = ledger; table = at_start (take ledger.entries table) other }
 read_of_write ledger before table other out size handed written fits =
-    let form = stored_form ledger table in
+    let form = stored_form Pio2 ledger table in
     let holds = written_sound ledger table (length table) out size written in
     let file : take size (write_of ledger table out).output ≡ form =
     ap₂ take (sym (written_size ledger table (length table) out size written)) (output_done ledger table (length table) out written)
@@ -140,10 +162,10 @@ read_of_write ledger before table other out size handed written fits =
 -- ---- what was read
 module _ (before : Ledger) (table : List Party) (file : List ℕ) (bytes : Bytes file) (stands : (read_of before table file).answer ≡ Ok tt) where
   -- the form of what was read is the file
-  form_of_read : stored_form (read_of before table file).ledger (read_of before table file).table ≡ file
+  form_of_read : stored_form Pio2 (read_of before table file).ledger (read_of before table file).table ≡ file
   form_of_read =
-      ap (λ end. stored_form end.ledger end.table) (read_stands before table file stands)
-      ∙ form_of_accepted (length table) file table bytes (read_accepted before table file stands)
+      ap (λ end. stored_form Pio2 end.ledger end.table) (read_stands before table file stands)
+      ∙ form_of_found Pio2 file table bytes (read_accepted before table file stands).found
 
 -- A file that was read writes back as itself, with any output that has room for it.
 pub write_of_read : (before : Ledger) (table : List Party) (file out : List ℕ) → Bytes file →
@@ -152,7 +174,7 @@ pub write_of_read : (before : Ledger) (table : List Party) (file out : List ℕ)
 write_of_read before table file out bytes stands fits =
     let end = read_of before table file in
     let form = form_of_read before table file bytes stands in
-    let room : length (stored_form end.ledger end.table) ≤ length out = omega (arith, ap length form) in
+    let room : length (stored_form Pio2 end.ledger end.table) ≤ length out = omega (arith, ap length form) in
     let done = write_done end.ledger end.table (length end.table) out (read_sound before table file stands) room in
     let output = output_done end.ledger end.table (length end.table) out done ∙ ap (λ bytes. at_start bytes out) form in
     λ i. record { answer = (done ∙ ap (λ bytes. Ok (length bytes)) form) i; output = output i }
@@ -167,5 +189,5 @@ pub stored_ledgers_differ : (before before' : Ledger) (table table' : List Party
     file ≡ file'
 stored_ledgers_differ before before' table table' file file' bytes bytes' stands stands' ledgers entries =
     sym (form_of_read before table file bytes stands)
-    ∙ same_form (read_of before table file).table (read_of before' table' file').table ledgers entries
+    ∙ same_form Pio2 (read_of before table file).table (read_of before' table' file').table ledgers entries
     ∙ form_of_read before' table' file' bytes' stands'

@@ -10,12 +10,13 @@ use Rattle.ledger.proofs.Theorems.RefusalNumbers.{one_of_more}
 use Rattle.ledger.proofs.Theorems.Table.{length_no_parties}
 use Rattle.ledger.specs.declared.records.Party.{Party}
 use Rattle.ledger.specs.declared.records.Ledger.{Ledger}
-use Rattle.calls.specs.Decision.{Call, accept, pay_out, hand_over, CallAnswer, is_accepted, is_done, is_refused}
+use Rattle.calls.specs.Decision.{Call, accept, pay_out, hand_over, clear, CallAnswer, is_accepted, is_done, is_refused}
 use Rattle.calls.specs.Carried.{State}
 use Rattle.calls.specs.Calls.{state_of, answered, leaves}
 use Rattle.calls.specs.CallRefusals.{call_numbers, Refuses}
 use Rattle.calls.proofs.Theorems.Calls.{refusal_numbers}
 use Rattle.calls_on_records.proofs.Theorems.OnRecords.{records_length}
+use Rattle.stored.specs.declared.form.Form.TheVariants.{Pio2}
 use Rattle.stored.specs.Form.{stored_form}
 use Rattle.stored.proofs.Theorems.ReadLedger.{read_answer_lem, read_length}
 use Rattle.stored.specs.Reading.{read_answer}
@@ -45,7 +46,7 @@ written_changes_nothing : (told : ℕ → StoredCallAnswer) → Tells told → (
     is_made (written_end told (write_of ledger table out)).answer ≡ false → (written_end told (write_of ledger table out)).output ≡ out
 written_changes_nothing told tells ledger table out = by_written (writing.written_answer ledger table (length table) out)
   where
-    by_written : (written : Written) → is_made (written_answer told written) ≡ false → output_by written (stored_form ledger table) out ≡ out
+    by_written : (written : Written) → is_made (written_answer told written) ≡ false → output_by written (stored_form Pio2 ledger table) out ≡ out
     by_written (Ok size) h = absurd (true≢false (sym (tells size) ∙ h))
     by_written (Err r) h = refl
 
@@ -74,12 +75,12 @@ abbrev pub StoredCheckRefuses : List ℕ → StoredCheck → Type 0
 StoredCheckRefuses numbers (Err r) = one_of numbers r.number ≡ true
 StoredCheckRefuses numbers (Ok counts) = Unit {0}
 
-pub answer_of_read : (file : List ℕ) (room : ℕ) → (stored_read file room).answer ≡ read_answer (length (take room no_parties)) file
+pub answer_of_read : (file : List ℕ) (room : ℕ) → (stored_read file room).answer ≡ read_answer Pio2 (length (take room no_parties)) file
 unfolding stored_read
 answer_of_read file room = read_answer_lem new_ledger (take room no_parties) file
 
 pub stored_read_refuses : (file : List ℕ) (room : ℕ) → ReadRefuses (stored_read file room).answer
-stored_read_refuses file room = subst ReadRefuses (sym (answer_of_read file room)) (read_refusal_numbers (length (take room no_parties)) file)
+stored_read_refuses file room = subst ReadRefuses (sym (answer_of_read file room)) (read_refusal_numbers Pio2 (length (take room no_parties)) file)
 
 -- each of reading's, the call's and writing's numbers is among them
 record Covered (call : Call) (numbers : List ℕ) : Type 0 where
@@ -91,6 +92,7 @@ covered : (call : Call) → Covered call (stored_numbers call)
 covered (accept book request) = record { reading = refl; calling = refl; writes = refl }
 covered (pay_out e amount) = record { reading = refl; calling = refl; writes = refl }
 covered (hand_over e person) = record { reading = refl; calling = refl; writes = refl }
+covered (clear month) = record { reading = refl; calling = refl; writes = refl }
 
 module _ (state : State) (call : Call) (out numbers : List ℕ) (within : Covered call numbers) where
   written_refuses : (told : ℕ → StoredCallAnswer) → ((size : ℕ) → StoredRefuses numbers (told size)) →

@@ -2,14 +2,13 @@
 -- makes it 9.
 use Rattle.std.specs.Prelude.{ℕ, ◌+◌, ◌<◌, ◌≤◌, min, ◌≡◌, refl, List, [], ◌∷◌, Bool, true, false, cond, length, take, leb, ltb, Err, Ok}
 use Rattle.std.proofs.Common.{sym, ◌∙◌, ⊎_elim, arith}
-use Rattle.std.proofs.Math.Path.{ap, ap₂}
+use Rattle.std.proofs.Math.Path.{ap}
 use mathlib.Mathlib.Data.Bool.Basic.{dichotomy}
 use Rattle.std.proofs.lemmas.List.{length-replicate}
 use borrow.Author.Tests.{leb-true, leb-false, lt-leb, le-ltb, lt-ltb, ne_eqb}
-use Rattle.tagged.specs.File.{file_answer, fields_part, refusal}
+use Rattle.tagged.specs.File.{fields_part, refusal}
 use Rattle.tagged.specs.Refusals.{no_entry_left, output_too_short}
 use Rattle.tagged.specs.declared.file.Refusal.{Refusal}
-use Rattle.field_values.specs.Judged.{judge_letters}
 use Rattle.charge.specs.Price.{price_of}
 use Rattle.charge.specs.declared.Bill.{Bill}
 use Rattle.ledger.specs.Limits.{most_schemes, most_entries, most_connections}
@@ -26,11 +25,11 @@ use Rattle.calls.specs.Carried.{State, books_on}
 use Rattle.calls.specs.Calls.{state_of, answered, leaves, Fits}
 use Rattle.calls.proofs.Theorems.ByPlace.{entries_shown}
 use Rattle.kept_sound.proofs.Theorems.KeptSound.{leaves_length, call_keeps_sound}
-use Rattle.stored.specs.StoredRows.{stored_rows}
-use Rattle.stored.specs.Form.{letters, stored_form, stored_entries, stored_ledger}
+use Rattle.stored.specs.declared.form.Form.TheVariants.{Pio2}
+use Rattle.stored.specs.Form.{stored_form, stored_entries, stored_ledger}
 use Rattle.stored.proofs.Theorems.ReadLedger.{entries_count, read_stands, read_places, read_sound}
 use Rattle.stored.proofs.Theorems.StoredAccepted.{in_turn_stands, accepted_means}
-use Rattle.stored.specs.Reading.{in_turn, letters_answer, table_answer, read_answer}
+use Rattle.stored.specs.Reading.{in_turn, form_of_file, table_answer, read_answer}
 use Rattle.stored.proofs.Theorems.Reading.{read_refused_9, read_done}
 use Rattle.stored.specs.Writing.{write_of, Written}
 use Rattle.stored.proofs.Theorems.Writing.{write_refused_14, write_done}
@@ -49,7 +48,7 @@ write_refusal ledger table out r holds refused =
     let told = write_done ledger table (length table) out holds (leb-true _ _ long) in
     let z : ◌≡◌ {A = ℕ} 0 1 = cc in
     absurd (omega arith))
-    (dichotomy (leb (length (stored_form ledger table)) (length out)))
+    (dichotomy (leb (length (stored_form Pio2 ledger table)) (length out)))
 
 pub new_refusal_numbers : (out : List ℕ) → StoredRefuses (output_too_short ∷ []) (new_stored_of out).answer
 new_refusal_numbers out =
@@ -99,7 +98,7 @@ module _ (file : List ℕ) (room : ℕ) (call : Call) where
       by_answer (is_refused other) q e = absurd (not_refused other q)
 
 -- ---- 9, by the table's length
-ledger_of_read : (file : List ℕ) (room : ℕ) → (stored_read file room).answer ≡ Ok tt → (stored_read file room).ledger ≡ stored_ledger (fields_part file)
+ledger_of_read : (file : List ℕ) (room : ℕ) → (stored_read file room).answer ≡ Ok tt → (stored_read file room).ledger ≡ stored_ledger Pio2 (fields_part file)
 unfolding stored_read
 ledger_of_read file room stands = ap (λ end. end.ledger) (read_stands new_ledger (take room no_parties) file stands)
 
@@ -108,32 +107,30 @@ module _ (file : List ℕ) (other : ℕ) (stands : (stored_read file other).answ
   abbrev entries : ℕ
   entries = (stored_read file other).ledger.entries
 
-  entries_stored : entries ≡ length (stored_entries (fields_part file))
-  entries_stored = ap (λ ledger. ledger.entries) (ledger_of_read file other stands) ∙ entries_count (fields_part file)
+  entries_stored : entries ≡ length (stored_entries Pio2 (fields_part file))
+  entries_stored = ap (λ ledger. ledger.entries) (ledger_of_read file other stands) ∙ entries_count Pio2 (fields_part file)
 
-  answer_by_room : (room : ℕ) → (stored_read file room).answer ≡ table_answer (length (take room no_parties)) (fields_part file)
+  answer_by_room : (room : ℕ) → (stored_read file room).answer ≡ table_answer Pio2 (length (take room no_parties)) (fields_part file)
   unfolding read_answer
   answer_by_room room =
-      let s = fields_part file in
-      let turns = in_turn_stands (file_answer stored_rows 1 file) _ (sym (answer_of_read file other) ∙ stands) in
-      let later = in_turn_stands (letters_answer (judge_letters letters s)) _ turns.1 in
-      answer_of_read file room ∙ ap₂ (λ first second. in_turn first (in_turn second (table_answer (length (take room no_parties)) s))) turns.0 later.0
+      let turns = in_turn_stands (form_of_file Pio2 file) _ (sym (answer_of_read file other) ∙ stands) in
+      answer_of_read file room ∙ ap (λ first. in_turn first (table_answer Pio2 (length (take room no_parties)) (fields_part file))) turns.0
 
   pub short_table_refused : (room : ℕ) → room < entries → (stored_read file room).answer ≡ Err (refusal no_entry_left 0 0)
   short_table_refused room short =
       answer_by_room room
-      ∙ read_refused_9 (length (take room no_parties)) (fields_part file) (omega (arith, short, entries_stored, length_room room))
+      ∙ read_refused_9 Pio2 (length (take room no_parties)) (fields_part file) (omega (arith, short, entries_stored, length_room room))
 
   pub long_table_reads : (room : ℕ) → entries ≤ room →
       ((stored_read file room).answer ≡ Ok tt) × ((stored_read file room).ledger ≡ (stored_read file other).ledger)
   long_table_reads room long =
       let s = fields_part file in
-      let accepted = accepted_means (length (take other no_parties)) file (sym (answer_of_read file other) ∙ stands) in
-      let limit = (sound_means (stored_ledger s) (stored_entries s) (length (take other no_parties)) accepted.holds).entries in
-      let fits : length (stored_entries s) ≤ length (take room no_parties) = omega (arith, long, limit, entries_count s, entries_stored, length_room room) in
-      let holds = sound_in (stored_ledger s) (stored_entries s) (stored_entries s) (length (take other no_parties)) (length (take room no_parties)) refl
-      (omega (arith, fits, entries_count s)) accepted.holds in
-      let reads = answer_by_room room ∙ read_done (length (take room no_parties)) s fits holds in
+      let accepted = accepted_means Pio2 (length (take other no_parties)) file (sym (answer_of_read file other) ∙ stands) in
+      let limit = (sound_means (stored_ledger Pio2 s) (stored_entries Pio2 s) (length (take other no_parties)) accepted.holds).figures.entries in
+      let fits : length (stored_entries Pio2 s) ≤ length (take room no_parties) = omega (arith, long, limit, entries_count Pio2 s, entries_stored, length_room room) in
+      let holds = sound_in (stored_ledger Pio2 s) (stored_entries Pio2 s) (stored_entries Pio2 s) (length (take other no_parties)) (length (take room no_parties)) refl
+      (omega (arith, fits, entries_count Pio2 s)) accepted.holds in
+      let reads = answer_by_room room ∙ read_done Pio2 (length (take room no_parties)) s fits holds in
       (reads, ledger_of_read file room reads ∙ sym (ledger_of_read file other stands))
 
   -- what every call answers then, with the output as it was
@@ -155,7 +152,7 @@ module _ (file : List ℕ) (room : ℕ) (book request out : List ℕ) (bill : Bi
   lacking needed some =
       let facts = sound_means (stored_read file room).ledger (stored_read file room).table _ (sound_read file room stands) in
       let counted : length books.entries ≡ (stored_read file room).ledger.entries =
-      entries_shown (stored_read file room).ledger (stored_read file room).table facts.in_table in
+      entries_shown (stored_read file room).ledger (stored_read file room).table facts.figures.in_table in
       rw (
         ne_eqb needed 0 (λ none. omega arith),
         lt-ltb books.room (length books.entries + needed) (omega (arith, counted, full, table_length file room)),

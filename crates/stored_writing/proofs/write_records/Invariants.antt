@@ -5,4 +5,4 @@ use Rattle.tagged.specs.Encoded.{encoded_parts}
 use Rattle.stored_writing.proofs.write_records.Given as goal
 
 abbrev pub invariant-loop-i : goal.invariant-loop-i
-invariant-loop-i g l = (l.out ≡ written l.initial.out l.at (encoded_parts (map g.R.StoredRecord.part (take l.i l.records)))) × (length l.out ≡ length l.initial.out)
+invariant-loop-i g l = (l.out ≡ written l.initial.out l.at (encoded_parts (map (g.R.StoredRecord.part l.form) (take l.i l.records)))) × (length l.out ≡ length l.initial.out)

@@ -1,18 +1,12 @@
 use super::cases;
 use differential::{LibraryCall, Tally};
+use generate::books::stored_form;
 use generate::calls::{after, calls, filling, Call};
 use generate::damage::{damaged, extend, extend_and_close, truncate, truncate_and_close};
-use generate::ledgers::table_size;
+use generate::ledgers::{encode_old, renumbered, table_size};
 use generate::request::pair;
 use generate::{Book, Random, Request};
-use reference::{write_ledger, Ledger, Party};
-
-pub fn stored_form(ledger: &Ledger, parties: &[Party]) -> Vec<u8> {
-    let mut out = vec![0; fikrem::LONGEST_FORM];
-    let length = write_ledger(ledger, parties, &mut out).expect("the ledger is sound");
-    out.truncate(length);
-    out
-}
+use reference::{Ledger, Party};
 
 /// Damaged once or several times, either file or both.
 pub fn books_and_requests(tally: &mut Tally) {
@@ -63,7 +57,27 @@ pub fn every_size(tally: &mut Tally) {
     let stored = stored_form(&ledger, &parties);
     sizes(&mut random, &stored, |stored| {
         tally.compare(&LibraryCall::JudgeLedger { stored, table_size: 9 });
+        tally.compare(&LibraryCall::MoveBack { file: stored });
     });
+    sizes(&mut random, &old_form(&ledger, &parties), |file| {
+        tally.compare(&LibraryCall::MoveToNew { file });
+    });
+}
+
+/// The stored form in the old form, numbered anew.
+pub fn old_form(ledger: &Ledger, parties: &[Party]) -> Vec<u8> {
+    let (ledger, parties) = renumbered(ledger, parties);
+    encode_old(&ledger, &ledger.schemes[..usize::from(ledger.standing)], &parties)
+}
+
+/// Damaged once, or in a quarter of the cases twice.
+fn damaged_once_or_twice(random: &mut Random, whole: &[u8]) -> Vec<u8> {
+    let file = damaged(random, whole);
+    if random.once_in(4) && !file.is_empty() {
+        damaged(random, &file)
+    } else {
+        file
+    }
 }
 
 /// Damaged stored ledgers, by each call.
@@ -73,15 +87,14 @@ pub fn stored_ledgers(tally: &mut Tally) {
         let count = random.within(1, 200) as usize;
         let list = calls(&mut random, 512, count);
         let (ledger, parties) = after(&list, 512);
-        let whole = stored_form(&ledger, &parties);
+        let (whole, old) = (stored_form(&ledger, &parties), old_form(&ledger, &parties));
         for call in list.iter().take(60) {
-            let mut stored = damaged(&mut random, &whole);
-            if random.once_in(4) && !stored.is_empty() {
-                stored = damaged(&mut random, &stored);
-            }
+            let stored = damaged_once_or_twice(&mut random, &whole);
             let table_size = table_size(&mut random, ledger.entries);
             tally.compare(&LibraryCall::JudgeLedger { stored: &stored, table_size });
             tally.compare(&LibraryCall::on(&stored, table_size, call));
+            tally.compare(&LibraryCall::MoveBack { file: &stored });
+            tally.compare(&LibraryCall::MoveToNew { file: &damaged_once_or_twice(&mut random, &old) });
         }
     }
     let full = filling(&mut random, 64, 512);

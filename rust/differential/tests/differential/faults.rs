@@ -1,7 +1,8 @@
 use super::cases;
-use super::damage::stored_form;
+use super::damage::old_form;
 use differential::{Buffers, LibraryCall, Tally};
 use fikrem::raw::ANSWER;
+use generate::books::stored_form;
 use generate::calls::{after, filling};
 use generate::damage::{alter_byte, alter_byte_and_check};
 use generate::ledgers::table_size;
@@ -52,7 +53,7 @@ pub fn faults_at_once(tally: &mut Tally) {
             let place = random.index(stored.len());
             stored = alter_byte_and_check(&stored, place, stored[place] ^ 0x80);
         }
-        let mut request = request(&mut random, ledger.month, ledger.opened).encode();
+        let mut request = request(&mut random, ledger.month, ledger.standing).encode();
         if random.once_in(6) {
             request = faulty(&mut random, &request);
         }
@@ -66,5 +67,37 @@ pub fn faults_at_once(tally: &mut Tally) {
         let amount = random.choose(&[0, 1, standing, standing + 1, u64::MAX]);
         tally.compare_on(&LibraryCall::PayOut { stored, table_size, entry, amount }, buffers());
         tally.compare_on(&LibraryCall::HandOver { stored, table_size, entry, person: 7 }, buffers());
+        let month = ledger.month.saturating_add(random.choose(&[0, 83, 84])) - random.choose(&[0, 1]);
+        tally.compare_on(&LibraryCall::Clear { stored, table_size, month }, buffers());
+    }
+}
+
+/// Files of both forms with several faults: other letters, an unsound figure, a next number past its count plus one, a
+/// damaged check, and a short output.
+pub fn faults_of_files(tally: &mut Tally) {
+    let mut random = Random::new(141);
+    for _ in 0..cases(3_000) {
+        let (mut ledger, parties) = after(&filling(&mut random, 2, 5), 5);
+        let old = old_form(&ledger, &parties);
+        ledger.next_scheme += random.choose(&[0, 0, 1]);
+        ledger.next_entry += random.choose(&[0, 0, 1]);
+        let mut files = [old, stored_form(&ledger, &parties)];
+        for file in &mut files {
+            if random.once_in(4) {
+                // more than 1,000,000 connections
+                *file = alter_byte_and_check(file, 12, 0xFF);
+            }
+            if random.once_in(4) {
+                *file = alter_byte_and_check(file, 6, random.choose(b"NO2"));
+            }
+            if random.once_in(6) {
+                *file = faulty(&mut random, file);
+            }
+        }
+        for file in &files {
+            let length = files[random.index(2)].len() - random.choose(&[0, 0, 1]);
+            tally.compare_on(&LibraryCall::MoveToNew { file }, Buffers::of(length, 0, ANSWER));
+            tally.compare_on(&LibraryCall::MoveBack { file }, Buffers::of(length, 0, ANSWER));
+        }
     }
 }

@@ -1,9 +1,9 @@
 use super::cases;
-use super::damage::stored_form;
 use accounts::Accounts;
 use differential::wanted::{places_of_answer, table};
 use differential::{Buffers, LibraryCall, Tally};
 use fikrem::{raw, LONGEST_TABLE};
+use generate::books::stored_form;
 use generate::calls::{calls, extended, filling, Call, Outcome};
 use generate::Random;
 use reference::{Ledger, Refusal};
@@ -18,13 +18,25 @@ fn same_answer(outcome: &Result<Outcome, Refusal>, result: u64, seen: &Buffers) 
     assert_eq!((result, &seen.answer[..raw::WRITTEN]), (raw::DONE, &places[..]));
 }
 
-/// Runs a list from a new ledger on a table of this length: the library from stored form to stored form, the reference
-/// implementation on its ledger and table. Both agree with the accounts after each call. The ledger that the list leaves.
+/// Moves a stored ledger back and to the new form again, if nothing was cleared; it comes back as the same bytes.
+fn there_and_back(tally: &mut Tally, stored: &[u8], accounts: &Accounts) {
+    let (result, seen) = tally.compare(&LibraryCall::MoveBack { file: stored });
+    assert_eq!(result, if accounts.any_cleared() { raw::NUMBERS_NOT_COUNTS } else { raw::DONE });
+    if result == raw::DONE {
+        let old = seen.written().to_vec();
+        let (result, seen) = tally.compare(&LibraryCall::MoveToNew { file: &old });
+        assert_eq!((result, seen.written()), (raw::DONE, stored));
+    }
+}
+
+/// Runs a list from a new ledger on a table of this length: the library from stored form to stored form, with moves in
+/// between, the reference implementation on its ledger and table. Both agree with the accounts after each call. The ledger
+/// that the list leaves.
 fn run(tally: &mut Tally, list: &[Call], table_size: usize) -> Ledger {
     let (mut ledger, mut parties) = (Ledger::new(), table(table_size));
     let mut stored = tally.compare(&LibraryCall::NewLedger).1.written().to_vec();
     let mut accounts = Accounts::default();
-    for call in list {
+    for (place, call) in list.iter().enumerate() {
         let outcome = call.run(&mut ledger, &mut parties);
         assert_eq!(outcome, accounts.call(call, table_size));
         let (result, seen) = tally.compare(&LibraryCall::on(&stored, table_size, call));
@@ -35,7 +47,11 @@ fn run(tally: &mut Tally, list: &[Call], table_size: usize) -> Ledger {
         assert!(stored == stored_form(&ledger, &parties), "the stored forms differ");
         accounts.check_ledger(&ledger, &parties);
         accounts.check_demand();
+        if place % 16 == 0 {
+            there_and_back(tally, &stored, &accounts);
+        }
     }
+    tally.joinings_of_cleared += accounts.joinings_of_cleared();
     ledger
 }
 
@@ -50,7 +66,7 @@ pub fn random_lists(tally: &mut Tally) {
     for seed in 0..cases(18) {
         let list = calls(&mut Random::new(2_000 + seed), LONGEST_TABLE, 1_500);
         let ledger = run(tally, &list, LONGEST_TABLE);
-        most = (most.0.max(ledger.opened), most.1.max(ledger.entries));
+        most = (most.0.max(ledger.standing), most.1.max(ledger.entries));
     }
     println!("  the fullest of the long lists: {} schemes, {} entries", most.0, most.1);
 }
@@ -63,7 +79,7 @@ pub fn full_ledgers(tally: &mut Tally) {
             let list = filling(&mut random, schemes, entries);
             let list = extended(&mut random, list, LONGEST_TABLE, 250);
             let ledger = run(tally, &list, LONGEST_TABLE);
-            assert!(usize::from(ledger.opened) >= schemes && ledger.entries as usize >= entries);
+            assert!(ledger.next_scheme as usize > schemes && ledger.next_entry as usize > entries);
         }
     }
 }

@@ -36,8 +36,12 @@ fn main() {
     tally.section("truncated and extended files", damage::every_size);
     tally.section("damaged stored ledgers", damage::stored_ledgers);
     tally.section("stored ledgers altered in a figure", ledgers::altered_figures);
+    tally.section("stored ledgers of the old form altered in a figure", ledgers::altered_old_figures);
     tally.section("stored ledgers at their limits", ledgers::limits);
+    tally.section("next numbers and cleared sums at their limits", ledgers::limits_of_numbers);
+    tally.section("the last scheme numbers", ledgers::last_scheme_numbers);
     tally.section("several faults at once", faults::faults_at_once);
+    tally.section("files of both forms with several faults at once", faults::faults_of_files);
     tally.section("lists of calls", lists::random_lists);
     tally.section("lists of calls on full ledgers", lists::full_ledgers);
     tally.section("lists of calls on tables of every small length", lists::small_tables);

@@ -1,6 +1,6 @@
-use super::damage::stored_form;
 use differential::{LibraryCall, Tally};
 use fikrem::{raw, LONGEST_TABLE};
+use generate::books::stored_form;
 use generate::calls::{after, filling};
 use generate::damage::{alter_byte, alter_byte_and_check};
 use generate::{Book, Random, Request};
@@ -17,9 +17,10 @@ fn too_short(tally: &mut Tally, stored: &[u8], table_size: usize, request: &[u8]
         LibraryCall::Accept { stored, table_size, book, request },
         LibraryCall::PayOut { stored, table_size, entry: 1, amount: 0 },
         LibraryCall::HandOver { stored, table_size, entry: 1, person: 7 },
+        LibraryCall::Clear { stored, table_size, month: u16::MAX },
     ];
     let found = calls.map(|call| tally.compare(&call).0 == OF_LEDGER + raw::NO_ENTRY_LEFT);
-    assert_eq!(found, [found[0]; 4], "the calls differ on a table of {table_size}");
+    assert_eq!(found, [found[0]; 5], "the calls differ on a table of {table_size}");
     found[0]
 }
 

@@ -1,9 +1,9 @@
 use super::cases;
-use super::damage::stored_form;
 use differential::wanted::{figures_of, table};
 use differential::{Buffers, LibraryCall, Tally};
 use fikrem::raw::{ANSWER, WRITTEN};
-use fikrem::{Answer, Bill, Holdings, Joining, Refused, LONGEST_TABLE};
+use fikrem::{Answer, Bill, Holdings, Joining, Refused, LONGEST_FORM, LONGEST_TABLE};
+use generate::books::stored_form;
 use generate::calls::{calls, Call, Outcome};
 use generate::damage::damaged;
 use generate::ledgers::table_size;
@@ -76,6 +76,7 @@ fn stored_call(stored: &[u8], table_size: usize, call: &Call, wanted: &Result<Ou
         }),
         Call::PayOut { entry, amount } => fikrem::pay_out(stored, table_size, *entry, *amount),
         Call::HandOver { entry, person } => fikrem::hand_over(stored, table_size, *entry, *person),
+        Call::Clear { month } => fikrem::clear(stored, table_size, *month),
     };
     match (new, wanted) {
         (Ok(new), Ok(_)) => {
@@ -97,6 +98,7 @@ fn stored_call_into(stored: &[u8], table_size: usize, call: &Call, out: &mut [u8
         }
         Call::PayOut { entry, amount } => fikrem::pay_out_into(stored, table_size, *entry, *amount, out),
         Call::HandOver { entry, person } => fikrem::hand_over_into(stored, table_size, *entry, *person, out),
+        Call::Clear { month } => fikrem::clear_into(stored, table_size, *month, out),
     };
     written.map_err(|refused| refused.refusal())
 }
@@ -106,8 +108,8 @@ fn stored_ledger(stored: &[u8], table_size: usize) {
     let (mut ledger, mut parties) = (Ledger::new(), table(table_size));
     let seen = fikrem::judge_ledger(stored, table_size);
     let Err(wanted) = reference::read_ledger(&mut ledger, &mut parties, stored) else {
-        let Ledger { opened, entries, connections, month, .. } = ledger;
-        assert_eq!(seen, Ok(Holdings { schemes: opened, entries, connections, month }));
+        let Ledger { standing, entries, connections, month, .. } = ledger;
+        assert_eq!(seen, Ok(Holdings { schemes: standing, entries, connections, month }));
         return;
     };
     same_refusal(seen.expect_err("refused"), wanted);
@@ -115,12 +117,43 @@ fn stored_ledger(stored: &[u8], table_size: usize) {
         fikrem::accept(stored, table_size, &[], &[]).map(|_| ()),
         fikrem::pay_out(stored, table_size, 1, 1).map(|_| ()),
         fikrem::hand_over(stored, table_size, 1, 1).map(|_| ()),
+        fikrem::clear(stored, table_size, 1).map(|_| ()),
     ];
     for seen in refused {
         match seen {
             Err(Refused::Stored(refusal)) => same_refusal(refusal, wanted),
             seen => panic!("{seen:?}, wanted {wanted:?}"),
         }
+    }
+}
+
+/// A move of the reference implementation, and what it writes.
+type Move = fn(&[u8], &mut [u8]) -> Result<usize, Refusal>;
+
+/// The file moved, or any bytes in its place; what was written.
+fn same_move(seen: Result<Vec<u8>, fikrem::Refusal>, wanted: Move, file: &[u8]) -> Option<Vec<u8>> {
+    let mut out = vec![0; LONGEST_FORM];
+    match (seen, wanted(file, &mut out)) {
+        (Ok(seen), Ok(length)) => {
+            assert_eq!(seen, out[..length]);
+            Some(seen)
+        }
+        (Err(refusal), Err(wanted)) => {
+            same_refusal(refusal, wanted);
+            None
+        }
+        (seen, wanted) => panic!("{seen:?}, wanted {wanted:?}"),
+    }
+}
+
+/// Both moves of a file, or of any bytes in its place.
+fn moves(file: &[u8]) {
+    if let Some(old) = same_move(fikrem::move_back(file), reference::move_back, file) {
+        same_output(&old, |out| fikrem::move_back_into(file, out));
+        moves(&old);
+    }
+    if let Some(new) = same_move(fikrem::move_to_new(file), reference::move_to_new, file) {
+        same_output(&new, |out| fikrem::move_to_new_into(file, out));
     }
 }
 
@@ -140,7 +173,10 @@ fn lists(tally: &mut Tally, random: &mut Random) {
             stored = seen.unwrap_or(stored);
             assert!(stored == stored_form(&ledger, &parties), "the stored forms differ");
             stored_ledger(&stored, table_size(random, ledger.entries));
-            stored_ledger(&damaged(random, &stored), table_size(random, ledger.entries));
+            let damaged = damaged(random, &stored);
+            stored_ledger(&damaged, table_size(random, ledger.entries));
+            moves(&stored);
+            moves(&damaged);
         }
     }
 }
@@ -155,6 +191,7 @@ fn any_bytes(random: &mut Random) {
     pricing(&Book::slip().encode(), &request);
     pricing(&book, &Request::slip().encode());
     stored_ledger(&stored, random.edge(0, u64::MAX) as usize);
+    moves(&stored);
 }
 
 /// The safe wrapper against the reference implementation.

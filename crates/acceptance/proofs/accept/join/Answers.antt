@@ -3,4 +3,4 @@ use Rattle.std.proofs.Common.{sym, ◌∙◌}
 use Rattle.acceptance.proofs.accept.join.Goals as goal
 
 pub take_fee-requires : goal.take_fee-requires
-take_fee-requires c = c.requires.fees _ _ c.in-Pays.is (sym c.scheme_at.ensures ∙ c.in-Some.is)
+take_fee-requires c = c.requires.fees _ _ c.in-Pays.is (rw c.from.ensures at (sym c.scheme_at.ensures ∙ c.in-Some.is))

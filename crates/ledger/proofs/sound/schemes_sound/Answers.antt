@@ -18,7 +18,7 @@ told c =
 pub returns-then-not-scheme_sound : goal.returns-then-not-scheme_sound
 returns-then-not-scheme_sound c parties t =
     let here = told (goal.at.returns-then-not-scheme_sound c).After-scheme_sound in
-    sym (c.loop-scheme.invariant.undecided parties t ∙ schemes_stop c.args.month c.args.tallies.now parties c.args.schemes.now _ t here.0 here.1 c.if-not-scheme_sound.true)
+    sym (c.loop-scheme.invariant.undecided parties t ∙ schemes_stop c.args.month c.args.tallies.now parties c.args.schemes.now _ t c.requires.placed here.0 here.1 c.if-not-scheme_sound.true)
 
 pub loop-scheme-preserved : goal.loop-scheme-preserved
 loop-scheme-preserved c =
@@ -28,7 +28,7 @@ loop-scheme-preserved c =
           λ parties t.
           rw length_push
           (c.loop-scheme.invariant.undecided parties t
-          ∙ schemes_go_on c.args.month c.args.tallies.now parties c.args.schemes.now _ t here.0 here.1 c.if-not-scheme_sound.false);
+          ∙ schemes_go_on c.args.month c.args.tallies.now parties c.args.schemes.now _ t c.requires.placed here.0 here.1 c.if-not-scheme_sound.false);
     }
 
 pub returns : goal.returns

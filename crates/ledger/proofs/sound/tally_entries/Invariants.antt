@@ -3,4 +3,4 @@ use Rattle.ledger.proofs.Tallying.{Kept}
 use Rattle.ledger.proofs.sound.tally_entries.Given as goal
 
 abbrev pub invariant-loop-party : goal.invariant-loop-party
-invariant-loop-party l = Kept l.count l.tallies l.parties l.party-index
+invariant-loop-party l = Kept l.schemes l.tallies l.parties l.party-index

@@ -10,12 +10,13 @@ pub loop-field-init : goal.loop-field-init
 loop-field-init g c =
     let s = c.args.self.fields.now in
     let record_type = g.met.R.StoredRecord in
-    let walks = fields_walk s c.args.self.walks in
-    let few = record_type.few s walks in
-    collect_starts stored_rows walks (record_type.sized s walks) (omega (arith, few, record_type.most_fits)) (omega (arith, few, c.requires))
+    let form = c.args.self.form in
+    let walks = fields_walk form s c.args.self.walks in
+    let few = record_type.few form s walks in
+    collect_starts (stored_rows form) walks (record_type.sized form s walks) (omega (arith, few, record_type.most_fits)) (omega (arith, few, c.requires))
 
-pub read-requires : goal.read-requires
-read-requires g c = omega (arith, collect_sized c.loop-field.invariant c.in-Some.ensures (c.if-field-TAG.true ∙ c.TAG.ensures))
+pub read_record-requires : goal.read_record-requires
+read_record-requires g c = omega (arith, collect_sized c.loop-field.invariant c.in-Some.ensures (c.if-field-TAG.true ∙ c.TAG.ensures))
 
 pub bounds-records-count : goal.bounds-records-count
 bounds-records-count g c =
@@ -25,7 +26,7 @@ pub loop-field-preserved : goal.loop-field-preserved
 loop-field-preserved g c =
     elim c.if-field-TAG.branch [
       | then-field-TAG w ↦
-          rw (w.records-is, w.count-is, w.read.ensures)
+          rw (w.records-is, w.count-is, w.read_record.ensures)
           (collect_one_more c.loop-field.invariant c.in-Some.ensures (w.if-field-TAG.true ∙ c.TAG.ensures))
       | else-field-TAG w ↦
           rw (w.records-is, w.count-is)
