@@ -6,6 +6,7 @@ use Rattle.calls.specs.Decision.{Call, CallAnswer, accept, pay_out, hand_over, c
 use Rattle.calls.specs.Carried.{State}
 use Rattle.calls.specs.Calls.{state_of, Trace, AllFit}
 use Rattle.history.specs.History.{History, account_of, books_in, with_call, answer_by, history_from, history_of, credited_to, cost, joinings, collected, connections, charged, borne, cost_entered}
+use Rattle.history.specs.JoinedAnswers.{AnswersJoined}
 use Rattle.history.specs.DemandThree.{GivenOnce, schemes_given, entries_given}
 use Rattle.history.specs.ShownState.{ShownState}
 use Rattle.tagged.specs.Refusals.{scheme_never_opened}
@@ -15,17 +16,6 @@ use Rattle.charge.specs.declared.Bill.{Bill}
 use Rattle.calls.specs.declared.answers.Acceptance.{Acceptance}
 use Rattle.calls.specs.declared.answers.JoiningAnswer.{JoiningAnswer}
 use Rattle.calls.specs.declared.answers.JoiningAnswer.TheVariants.{NotAsked, Ended, Small, Joined}
-
-abbrev pub IsJoined : JoiningAnswer → Type 0
-IsJoined NotAsked = ⊥
-IsJoined Ended = ⊥
-IsJoined Small = ⊥
-IsJoined (Joined collected) = Unit {0}
-
-abbrev pub AnswersJoined : CallAnswer → Type 0
-AnswersJoined (is_accepted acceptance) = IsJoined acceptance.joining
-AnswersJoined is_done = ⊥
-AnswersJoined (is_refused r) = ⊥
 
 -- the joining counts where the bill joins the scheme: one joining, and G collected
 abbrev pub joinings_by : JoiningAnswer → ℕ

@@ -5,5 +5,6 @@ pub mod SoundHistory
 pub mod Split
 pub mod ShownState
 pub mod CallSteps
+pub mod JoinedAnswers
 pub mod Laws
 pub mod Cases

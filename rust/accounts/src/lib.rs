@@ -46,6 +46,13 @@ pub struct Accounts {
     joinings_of_cleared: u64,
 }
 
+/// A party of a scheme: its kVA, and what it put in less what it was credited, in cents.
+#[derive(Debug, Clone, Copy, PartialEq, Eq)]
+pub struct Part {
+    pub capacity: i128,
+    pub figure: i128,
+}
+
 /// What a call comes to.
 pub type Wanted = Result<Outcome, Refusal>;
 
@@ -219,6 +226,12 @@ impl Accounts {
     fn add(&mut self, bill: &Bill, scheme: usize, put_in: i128) {
         let (person, capacity) = (bill.person, bill.capacity.into());
         self.entries.push(Entry { scheme, person, capacity, put_in, ..Entry::default() });
+    }
+
+    /// The parties of a scheme that was opened, in order of joining.
+    pub fn parts(&self, scheme: u16) -> Vec<Part> {
+        let parties = self.entries.iter().filter(|entry| entry.scheme + 1 == usize::from(scheme));
+        parties.map(|party| Part { capacity: party.capacity, figure: party.put_in - party.credited }).collect()
     }
 
     /// What the schemes that were cleared collected, paid out and took in fees.

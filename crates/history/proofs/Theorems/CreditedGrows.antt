@@ -12,7 +12,8 @@ use Rattle.calls.specs.Verdict.{verdict, Verdict}
 use Rattle.calls.specs.Decision.{Call, accept, pay_out, hand_over, clear, Decision, credits_by, decided_by, accept_by, pay_out_by, hand_over_by, goes, decided, joining_answer, answer_to}
 use Rattle.calls.specs.declared.courses.Joining.{Joining}
 use Rattle.calls.specs.declared.courses.Joining.TheVariants.{NotAsked, Ended, Small, Pays}
-use Rattle.history.specs.Laws.{IsJoined, AnswersJoined, NoClearing}
+use Rattle.history.specs.JoinedAnswers.{IsJoined, AnswersJoined}
+use Rattle.history.specs.Laws.{NoClearing}
 use Rattle.history.specs.History.{Entering, History, account_of, enterings_of, credited_to, books_in, billed_in, joined_in, opener, opened_in, recorded, with_call}
 use Rattle.history.proofs.Theorems.SoundHistory.{account_stays, account_goes}
 

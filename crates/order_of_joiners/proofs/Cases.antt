@@ -1,0 +1,5 @@
+pub mod PricedJoinings
+pub mod ByBills
+pub mod FiguresDiffer
+pub mod Met
+pub mod ThreeJoinings

@@ -1,0 +1,5 @@
+pub mod FairTwice
+pub mod Shown
+pub mod OrderWithinCents
+pub mod Joined
+pub mod TwoOrders

@@ -1,0 +1,4 @@
+pub mod Distance
+pub mod Orders
+pub mod Laws
+pub mod Cases
