@@ -21,7 +21,7 @@ import sys
 from believed import DECLARED, IMPORT, SPECS, WORD, Text, believed, crates, is_comment, root
 
 # at most so many lines: of the definitions that calls and demands come to, of the laws' statements, and of the definitions that only these come to
-MOST_LINES = {"believed": 3850, "laws": 1250, "beyond": 1300}
+MOST_LINES = {"believed": 4800, "laws": 1250, "beyond": 1300}
 # definitions of a file that calls and laws come to and that neither comes to, as file and names, each with why they stand there all the same
 BESIDE = {
     # what `tagged::find::part` requires of a place: `IsPart` is of the same places

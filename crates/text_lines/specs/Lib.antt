@@ -1,0 +1,4 @@
+pub mod Columns
+pub mod Lines
+pub mod TextLines
+pub mod Cases

@@ -1,0 +1,4 @@
+pub mod Template
+pub mod Whole
+pub mod Show
+pub mod Described

@@ -1,0 +1,5 @@
+pub mod Scanning
+pub mod Values
+pub mod Showing
+pub mod Trimming
+pub mod Theorems

@@ -1,0 +1,4 @@
+pub mod Figure
+pub mod Month
+pub mod Read
+pub mod Shown
