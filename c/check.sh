@@ -15,7 +15,7 @@ data=$here/../crates/slip/data
 # What the library gives is the header's functions, and what it needs is what the header says.
 {
   gcc -E -P "$header" | grep -o 'fikrem_[a-z_]*(' | tr -d '(' | sort | sed 's/^/gives /'
-  printf 'needs %s\n' memcpy memmove memset
+  printf 'needs %s\n' memcpy memset
 } >"$build/symbols.wanted"
 {
   nm --extern-only --defined-only "$library" | sed -n 's/^[0-9a-f]\+ [A-Za-z] /gives /p' | sort

@@ -1,9 +1,9 @@
 /* Fikrem for the firmware of quoting units: connection charges and pioneer ledgers on lent buffers.
  *
  * Link target/staticlib/libfikrem.a, with -Wl,--gc-sections so that a program has what it calls and no more. It runs on every x86-64
- * processor. Of the C library it needs memcpy, memmove and memset, and nothing else. No call allocates, keeps anything or writes past
- * the sizes that it is handed. Every buffer is a pointer and its size in elements. No pointer is NULL, also where its size is 0, and no
- * two buffers of one call overlap where one of them is written.
+ * processor. Of the C library it needs memcpy and memset, and nothing else. No call allocates, keeps anything or writes past the sizes
+ * that it is handed. Every buffer is a pointer and its size in elements. No pointer is NULL, also where its size is 0, and no two
+ * buffers of one call overlap where one of them is written.
  *
  * docs/FORMAT.md has the bytes of a rate book, a request and a stored ledger with every limit; docs/RULES.md the rules: which bespoke
  * rates are allowed ('Charge and reconciliation'), when a scheme opens or is joined ('Accept'), which ledgers are sound ('Soundness').

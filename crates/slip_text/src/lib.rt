@@ -88,9 +88,9 @@ impl Text {
         ensures value { self.new ≡ self.old ++ bytes.now }
         ensures within { length self.new ≡ length self.old + length bytes.now }
     {
-        let end = self.len + bytes.len();
-        self.bytes[self.len..end].copy_from_slice(bytes);
-        self.len = end;
+        for byte in bytes {
+            self.push(*byte);
+        }
     }
 
     // Decimal digits, without leading zeros. Not by `write!`, which may fail where a slip can't.
