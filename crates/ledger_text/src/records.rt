@@ -78,19 +78,19 @@ pub struct LedgerLines<'a> {
     pub table: &'a [Party],
 }
 
-impl<'a> fmt::Display for LedgerLines<'a> {
-    fn fmt<W: fmt::Write>(&self, f: &mut fmt::Formatter<W>) -> fmt::Result {
+impl LedgerLines<'_> {
+    // Each line by itself: one that standard output doesn't take is lost, and the next is written all the same.
+    pub fn print(&self, rt: &impl Print) {
         let ledger = self.ledger;
-        writeln!(f, "{}", Figures(ledger))?;
+        let _ = println!(rt; "{}", Figures(ledger));
         // Two loops of three lines: one function over either record would ask for `Shown<&R>: Display` and be no shorter.
         let schemes = ledger.schemes.iter().take(ledger.count as usize);
         for scheme in schemes {
-            writeln!(f, "{}", Shown(scheme))?;
+            let _ = println!(rt; "{}", Shown(scheme));
         }
         let entries = self.table.iter().take(ledger.entries as usize);
         for entry in entries {
-            writeln!(f, "{}", Shown(entry))?;
+            let _ = println!(rt; "{}", Shown(entry));
         }
-        Ok(())
     }
 }

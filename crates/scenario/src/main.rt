@@ -6,13 +6,17 @@
 mod script;
 mod state;
 
+ghost use Rattle.std.specs.Prelude.{◌≤◌, length, IfSome};
+
 use arrayvec::ArrayVec;
+use calls::answers::AcceptAnswer;
 use ledger_text::answers::{Accepted, Answered, FormLength};
 use ledger_text::records::Figures;
 use script::Line;
 use state::State;
-use std::io;
+use std::fmt;
 use std::rt::Files;
+use tagged::file::{FileAnswer, Refusal};
 
 // How many bytes are read of a rate book or a request.
 const FILE_SIZE: usize = 4_096;
@@ -21,107 +25,125 @@ const FILE_SIZE: usize = 4_096;
 const LONGEST_FILE: usize = 65_536;
 
 // Writes the stored form into a lent output: the form's bytes, none where that is refused.
-fn write_form<'a>(
-    rt: &impl Print,
-    state: &State,
-    out: &'a mut [u8],
-) -> io::Result<Option<&'a [u8]>> {
+fn write_form<'a>(rt: &impl Print, state: &State, out: &'a mut [u8]) -> Option<&'a [u8]>
+    ensures { IfSome result (λ form. length form.now ≤ length out.old) }
+{
+    let _ = print!(rt; "write to {} bytes: ", out.len());
     let written = state.write(out);
-    println!(rt;
-        "write to {} bytes: {}",
-        out.len(),
-        Answered(written.map(FormLength))
-    )?;
-    Ok(written.ok().and_then(|size| out.get(..size)))
+    let _ = println!(rt; "{}", Answered(written.map(FormLength)));
+    out.get(..written.ok()?)
+}
+
+// Here and below: out of line, so that a buffer takes its stack while its line is carried out and no longer.
+#[inline(never)]
+fn write_to(rt: &impl Print, state: &State, size: usize) {
+    let mut space = [0u8; LONGEST_FILE];
+    write_form(rt, state, space.get_mut(..size).unwrap_or(&mut []));
+}
+
+#[inline(never)]
+fn accept(rt: &impl Files, state: &mut State, request: &[u8], book: &[u8]) -> AcceptAnswer {
+    let book: ArrayVec<u8, FILE_SIZE> = files::read_start(rt, book);
+    let request: ArrayVec<u8, FILE_SIZE> = files::read_start(rt, request);
+    state.accept(book.as_slice(), request.as_slice())
+}
+
+#[inline(never)]
+fn read(rt: &impl Files, state: &mut State, name: &[u8]) -> FileAnswer {
+    // Read into it where it lies: a buffer of this size that is handed back by value would be copied.
+    let mut bytes = [0u8; LONGEST_FILE];
+    let size = files::read_file(rt, name, &mut bytes);
+    state.read(&bytes[..size])
 }
 
 // The written form read back and written again.
-fn over_and_back(rt: &impl Print, state: &State) -> io::Result<()> {
+#[inline(never)]
+fn over_and_back(rt: &impl Print, state: &State) {
     let mut out = [0u8; LONGEST_FILE];
-    let form = write_form(rt, state, &mut out)?;
+    let form = write_form(rt, state, &mut out);
+    let _ = print!(rt; "read what was written: ");
     let mut again = State::new();
     let read = again.read(form.unwrap_or(b""));
-    println!(rt; "read what was written: {}", Answered(read.map(|_| "READ")))?;
+    let _ = println!(rt; "{}", Answered(read.map(|_| "READ")));
     let mut second_out = [0u8; LONGEST_FILE];
-    if form == write_form(rt, &again, &mut second_out)? {
-        println!(rt; "the second writing gives the same bytes")?;
+    let says = if form == write_form(rt, &again, &mut second_out) {
+        "the second writing gives the same bytes"
     } else {
-        println!(rt; "THE SECOND WRITING DIFFERS")?;
-    }
-    print!(rt; "{}", again.lines())
+        "THE SECOND WRITING DIFFERS"
+    };
+    let _ = println!(rt; "{says}");
+    again.lines().print(rt);
+}
+
+// A call's line, before its files are read and the call is made. Its bytes need be no text.
+fn print_call(rt: &impl Print, text: &[u8]) {
+    let _ = rt.write_all(text);
+    let _ = print!(rt; ": ");
+}
+
+// Its answer's line.
+fn print_answer<T: fmt::Display + Copy>(rt: &impl Print, answer: Result<T, Refusal>) {
+    let _ = println!(rt; "{}", Answered(answer));
 }
 
 // Carries out one line; `kept` is the ledger and table to go back to.
-fn carry_out(
-    rt: &(impl Files + Print),
-    state: &mut State,
-    kept: &mut State,
-    text: &str,
-    line: Line<'_>,
-) -> io::Result<()> {
-    match line {
-        Line::Heading(heading) => println!(rt; "{heading}")?,
+fn carry_out(rt: &(impl Files + Print), state: &mut State, kept: &mut State, text: &[u8]) {
+    match Line::parse(text) {
+        Line::Heading => {
+            let _ = rt.write_all(text);
+            let _ = println!(rt);
+        }
         Line::Accept { request, book } => {
-            let book: ArrayVec<u8, FILE_SIZE> = files::read_start(rt, book);
-            let request: ArrayVec<u8, FILE_SIZE> = files::read_start(rt, request);
-            let answer = state.accept(book.as_slice(), request.as_slice());
-            println!(rt; "{text}: {}", Answered(answer.map(Accepted)))?;
+            print_call(rt, text);
+            print_answer(rt, accept(rt, state, request, book).map(Accepted));
         }
         Line::PayOut { entry, amount } => {
-            let answer = state.pay_out(entry, amount);
-            println!(rt; "{text}: {}", Answered(answer.map(|_| "DONE")))?;
+            print_call(rt, text);
+            print_answer(rt, state.pay_out(entry, amount).map(|_| "DONE"));
         }
         Line::HandOver { entry, person } => {
-            let answer = state.hand_over(entry, person);
-            println!(rt; "{text}: {}", Answered(answer.map(|_| "DONE")))?;
+            print_call(rt, text);
+            print_answer(rt, state.hand_over(entry, person).map(|_| "DONE"));
         }
         Line::Clear(month) => {
-            let answer = state.clear(month);
-            println!(rt; "{text}: {}", Answered(answer.map(|_| "DONE")))?;
+            print_call(rt, text);
+            print_answer(rt, state.clear(month).map(|_| "DONE"));
         }
         Line::Read(name) => {
-            let file: ArrayVec<u8, LONGEST_FILE> = files::read_start(rt, name);
-            let answer = state.read(file.as_slice());
-            println!(rt; "{text}: {}", Answered(answer.map(|_| "READ")))?;
+            print_call(rt, text);
+            print_answer(rt, read(rt, state, name).map(|_| "READ"));
         }
-        Line::Write(size) => {
-            let mut space = [0u8; LONGEST_FILE];
-            write_form(rt, state, space.get_mut(..size).unwrap_or(&mut []))?;
-        }
-        Line::OverAndBack => over_and_back(rt, state)?,
+        Line::Write(size) => write_to(rt, state, size),
+        Line::OverAndBack => over_and_back(rt, state),
         Line::New => *state = State::new(),
         Line::Table(room) => state.room = room,
         Line::Month(month) => state.ledger.month = month,
         Line::Count(entries) => state.ledger.entries = entries,
         Line::Keep => *kept = *state,
         Line::Back => *state = *kept,
-        Line::Show => print!(rt; "{}", state.lines())?,
-        Line::Figures => println!(rt; "{}", Figures(&state.ledger))?,
+        Line::Show => state.lines().print(rt),
+        Line::Figures => {
+            let _ = println!(rt; "{}", Figures(&state.ledger));
+        }
         Line::Record(place) => {
             if let Some(record) = state.record(place) {
-                println!(rt; "{record}")?;
+                let _ = println!(rt; "{record}");
             }
         }
     }
-    Ok(())
 }
 
-// The script ends at the first line that is none of its kinds.
-fn run(rt: &(impl Files + Print)) -> io::Result<()> {
+// Line by line, to the end of the script; the last line may go without its end. What standard output doesn't take of a line is lost, and the run goes on.
+fn run(rt: &(impl Files + Print)) {
     let script: ArrayVec<u8, LONGEST_FILE> = files::read_start(rt, "calls.txt");
-    let script = str::from_utf8(script.as_slice()).unwrap_or("");
     let mut state = State::new();
     let mut kept = state;
-    for text in script.lines() {
-        let Some(line) = Line::parse(text) else {
-            return println!(rt; "NO SUCH LINE: {text}");
-        };
-        carry_out(rt, &mut state, &mut kept, text, line)?;
+    for line in script.as_slice().split_inclusive(|byte| *byte == b'\n') {
+        let text = line.strip_suffix(b"\n").unwrap_or(line);
+        carry_out(rt, &mut state, &mut kept, text);
     }
-    Ok(())
 }
 
-// What standard output doesn't take is lost: the run ends there.
 fn main(rt: HostRuntime) {
-    let _ = run(&rt);
+    run(&rt);
 }

@@ -6,12 +6,11 @@
 // what it came to.
 #![tactic(auto)]
 
-use arrayvec::ArrayVec;
 use files::refused::Refused;
 use ledger::limits::{MOST_ENTRIES, Parties};
 use ledger::records::Ledger;
+use std::fmt;
 use std::rt::Files;
-use std::{fmt, io};
 use stored::form::Form;
 use stored::lengths::LONGEST_FORM;
 use tagged::file::Refusal;
@@ -109,59 +108,73 @@ impl fmt::Display for Stored {
     }
 }
 
-// Writes a ledger into an output, and holds its stored form against a file.
-fn write_back(rt: &impl Print, stored: &Stored, output: usize, file: &[u8]) -> io::Result<()> {
+// Writes a ledger into an output, and holds its stored form against a file. What standard output doesn't take is lost, here and
+// below, and the run goes on.
+#[inline(never)]
+fn write_back(rt: &impl Print, stored: &Stored, output: usize, file: &[u8]) {
     let mut space = [0u8; LONGEST_FORM];
     let out = &mut space[..output.min(LONGEST_FORM)];
-    print!(rt; " OUTPUT {output} ")?;
+    let _ = print!(rt; " OUTPUT {output} ");
     match stored.write(out) {
-        Err(refusal) => println!(rt; "{}", Refused(refusal)),
+        Err(refusal) => {
+            let _ = println!(rt; "{}", Refused(refusal));
+        }
         Ok(size) => {
             let same = out.get(..size).is_some_and(|form| form == file);
             let says = if same { "the file" } else { "NOT THE FILE" };
-            println!(rt; "WRITTEN {size} {says}")
+            let _ = println!(rt; "WRITTEN {size} {says}");
         }
     }
 }
 
-// Reads a file with a table of `room` records, and writes what stands into an output.
-fn show(rt: &(impl Files + Print), name: &str, room: usize, output: usize) -> io::Result<()> {
-    let file: ArrayVec<u8, READ_SIZE> = files::read_start(rt, name);
-    print!(rt; "{name} TABLE {room} ")?;
-    match Stored::read(room, file.as_slice()) {
-        Err(refusal) => println!(rt; "{}", Refused(refusal)),
+// Reads a file with a table of `room` records, and writes what stands into an output. Here and below each buffer takes its stack in
+// one frame alone, out of line, and a file is read into it where it lies: a buffer that is handed back by value would be copied.
+#[inline(never)]
+fn show(rt: &(impl Files + Print), name: &str, room: usize, output: usize) {
+    let mut bytes = [0u8; READ_SIZE];
+    let size = files::read_file(rt, name.as_bytes(), &mut bytes);
+    let file = &bytes[..size];
+    let _ = print!(rt; "{name} TABLE {room} ");
+    match Stored::read(room, file) {
+        Err(refusal) => {
+            let _ = println!(rt; "{}", Refused(refusal));
+        }
         Ok(stored) => {
-            print!(rt; "{stored}")?;
-            write_back(rt, &stored, output, file.as_slice())
+            let _ = print!(rt; "{stored}");
+            write_back(rt, &stored, output, file);
         }
     }
+}
+
+// Whether a file's bytes are these.
+#[inline(never)]
+fn holds(rt: &impl Files, name: &str, form: &[u8]) -> bool {
+    let mut bytes = [0u8; READ_SIZE];
+    let size = files::read_file(rt, name.as_bytes(), &mut bytes);
+    &bytes[..size] == form
 }
 
 // Moves a file to a form, and holds what is written against another file.
-fn show_move(
-    rt: &(impl Files + Print),
-    name: &str,
-    form: Form,
-    output: usize,
-    other: &str,
-) -> io::Result<()> {
-    let file: ArrayVec<u8, READ_SIZE> = files::read_start(rt, name);
+#[inline(never)]
+fn show_move(rt: &(impl Files + Print), name: &str, form: Form, output: usize, other: &str) {
+    let mut bytes = [0u8; READ_SIZE];
+    let size = files::read_file(rt, name.as_bytes(), &mut bytes);
+    let file = &bytes[..size];
     let mut space = [0u8; LONGEST_FORM];
     let out = &mut space[..output.min(LONGEST_FORM)];
     let (to, moved) = match form {
-        Form::Pion => ("PION", stored_moves::move_back(file.as_slice(), out)),
-        Form::Pio2 => ("PIO2", stored_moves::move_to_new(file.as_slice(), out)),
+        Form::Pion => ("PION", stored_moves::move_back(file, out)),
+        Form::Pio2 => ("PIO2", stored_moves::move_to_new(file, out)),
     };
-    print!(rt; "{name} TO {to} OUTPUT {output} ")?;
+    let _ = print!(rt; "{name} TO {to} OUTPUT {output} ");
     match moved {
-        Err(refusal) => println!(rt; "{}", Refused(refusal)),
+        Err(refusal) => {
+            let _ = println!(rt; "{}", Refused(refusal));
+        }
         Ok(size) => {
-            let wanted: ArrayVec<u8, READ_SIZE> = files::read_start(rt, other);
-            let same = out
-                .get(..size)
-                .is_some_and(|form| form == wanted.as_slice());
+            let same = out.get(..size).is_some_and(|form| holds(rt, other, form));
             let says = if same { "as" } else { "NOT AS" };
-            println!(rt; "WRITTEN {size} {says} {other}")
+            let _ = println!(rt; "WRITTEN {size} {says} {other}");
         }
     }
 }
@@ -177,19 +190,18 @@ fn unsound_ledger() -> Stored {
     }
 }
 
-fn run(rt: &(impl Files + Print)) -> io::Result<()> {
+fn run(rt: &(impl Files + Print)) {
     for (name, room, output) in FILES {
-        show(rt, name, room, output)?;
+        show(rt, name, room, output);
     }
     for (name, form, output, other) in MOVES {
-        show_move(rt, name, form, output, other)?;
+        show_move(rt, name, form, output, other);
     }
     let unsound = unsound_ledger();
-    print!(rt; "unsound TABLE {}", unsound.room)?;
-    write_back(rt, &unsound, LONGEST_FORM, b"")
+    let _ = print!(rt; "unsound TABLE {}", unsound.room);
+    write_back(rt, &unsound, LONGEST_FORM, b"");
 }
 
-// What standard output doesn't take is lost: the run ends there.
 fn main(rt: HostRuntime) {
-    let _ = run(&rt);
+    run(&rt);
 }

@@ -1,6 +1,6 @@
 // A printed figure held against the computed one.
 use printed_figures::printed::{Figure, PrintedSize};
-use printed_figures::tolerance::Bounds;
+use printed_figures::tolerance::{Bounds, capped};
 use reconciliation::{Percent, Reconciliation};
 use std::fmt;
 
@@ -9,7 +9,7 @@ use std::fmt;
 pub struct Held {
     figure: Figure,
     printed: i64,
-    // none where there is no such percentage: it lies off every printed one
+    // none where there is no such percentage: it lies off every printed one, and stands as a figure that none comes near
     computed: Option<i64>,
     // half the printed unit
     half: u64,
@@ -77,7 +77,7 @@ impl fmt::Display for Held {
         write!(f, "{figure} {printed} ")?;
         match computed {
             Some(computed) => write!(f, "{computed}")?,
-            None => write!(f, "-")?,
+            None => write!(f, "{}", capped(u64::MAX))?,
         }
         let within = if self.is_within() { "yes" } else { "NO" };
         write!(f, " {tolerance} {within}")?;
@@ -150,5 +150,46 @@ fn bound_of(bounds: &Bounds, figure: Figure) -> u64 {
         Figure::Nic => bounds.nic,
         Figure::Nc => bounds.nc,
         Figure::Reliance | Figure::Upfront | Figure::NcRatio => 0,
+    }
+}
+
+#[cfg(test)]
+mod tests {
+    use super::*;
+    use std::test::Fail;
+
+    #[test]
+    fn no_percentage_lies_far_off(rt: HostRuntime) -> Result<(), Fail> {
+        let nothing = Reconciliation {
+            me: 0,
+            mc: 0,
+            ce: 0,
+            cc2: 0,
+            tw: 0,
+            hr: 0,
+            ol: 0,
+            ic: 0,
+            ir: 0,
+            cc: 0,
+            nic: 0,
+            nc: 0,
+            x: 0,
+            entered: 0,
+            borne: 0,
+            reliance: None,
+            upfront: None,
+            nc_ratio: None,
+        };
+        let bounds = Bounds::default();
+        let held = Held::new(
+            Figure::Reliance,
+            PrintedSize::Percent(100),
+            &nothing,
+            &bounds,
+            false,
+        );
+        let line = format!(in rt.alloc(); "{held}")?;
+        assert_eq!(rt; line.as_str(), "RELIANCE 100 10000000000000 0 NO");
+        Ok(())
     }
 }

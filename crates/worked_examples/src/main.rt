@@ -14,8 +14,8 @@ use files::refused::Refused;
 use held::Held;
 use printed_figures::printed::{PrintedPricing, pricings};
 use printed_figures::tolerance::file_bounds;
+use std::fmt;
 use std::rt::Files;
-use std::{fmt, io};
 
 // How many bytes are read of a file.
 const READ_SIZE: usize = 4_096;
@@ -60,15 +60,15 @@ impl fmt::Display for Tally {
 }
 
 // Holds a pricing's figures, with a line for each. The share was fitted to the charge where its unit
-// isn't 0.
-fn hold(rt: &(impl Files + Print), pricing: &PrintedPricing, tally: &mut Tally) -> io::Result<()> {
+// isn't 0. What standard output doesn't take of a line is lost, and the run goes on with the next one.
+fn hold(rt: &(impl Files + Print), pricing: &PrintedPricing, tally: &mut Tally) {
     let book: ArrayVec<u8, READ_SIZE> = files::read_start(rt, pricing.book);
     let request: ArrayVec<u8, READ_SIZE> = files::read_start(rt, pricing.request);
     let example = pricing.example;
     match charge::price(book.as_slice(), request.as_slice()) {
         Err(refusal) => {
             tally.count_refused();
-            println!(rt; "{example} {}", Refused(refusal))
+            let _ = println!(rt; "{example} {}", Refused(refusal));
         }
         Ok(bill) => {
             let r = bill.reconciliation;
@@ -77,23 +77,21 @@ fn hold(rt: &(impl Files + Print), pricing: &PrintedPricing, tally: &mut Tally) 
             for (figure, printed) in pricing.figures {
                 let held = Held::new(*figure, *printed, &r, &bounds, fitted);
                 tally.count(&held);
-                println!(rt; "{example} {held}")?;
+                let _ = println!(rt; "{example} {held}");
             }
-            Ok(())
         }
     }
 }
 
-fn run(rt: &(impl Files + Print)) -> io::Result<()> {
-    println!(rt; "example figure printed computed tolerance within")?;
+fn run(rt: &(impl Files + Print)) {
+    let _ = println!(rt; "example figure printed computed tolerance within");
     let mut tally = Tally::default();
     for pricing in pricings() {
-        hold(rt, pricing, &mut tally)?;
+        hold(rt, pricing, &mut tally);
     }
-    println!(rt; "{tally}")
+    let _ = println!(rt; "{tally}");
 }
 
-// What standard output doesn't take is lost: the run ends there.
 fn main(rt: HostRuntime) {
-    let _ = run(&rt);
+    run(&rt);
 }

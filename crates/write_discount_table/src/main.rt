@@ -3,7 +3,6 @@
 #![tactic(auto)]
 
 use discount::LAST_YEAR;
-use std::io;
 
 // 3.00% to 6.00% in steps of 0.25%.
 const LOWEST_RATE: u16 = 300;
@@ -20,19 +19,60 @@ use discount::DiscountFactors;
 
 pub const FACTORS: [DiscountFactors; TABLE_RATES] = [";
 
-fn write_table(rt: &impl Print) -> io::Result<()> {
-    println!(rt; "{HEAD}")?;
-    for rate in (LOWEST_RATE..=HIGHEST_RATE).step_by(RATE_STEP) {
-        println!(rt; "    // Rate {rate}\n    [")?;
-        for factor in discount::factors_until(rate, LAST_YEAR) {
-            println!(rt; "        {factor},")?;
-        }
-        println!(rt; "    ],")?;
+// What standard output doesn't take of a line is lost, and the table goes on with the next one.
+fn write_table(rt: &impl Print) {
+    for line in HEAD.lines() {
+        let _ = println!(rt; "{line}");
     }
-    println!(rt; "];")
+    for rate in (LOWEST_RATE..=HIGHEST_RATE).step_by(RATE_STEP) {
+        let _ = println!(rt; "    // Rate {rate}");
+        let _ = println!(rt; "    [");
+        for factor in discount::factors_until(rate, LAST_YEAR) {
+            let _ = println!(rt; "        {factor},");
+        }
+        let _ = println!(rt; "    ],");
+    }
+    let _ = println!(rt; "];");
 }
 
-// What standard output doesn't take is lost: the table ends there.
 fn main(rt: HostRuntime) {
-    let _ = write_table(&rt);
+    write_table(&rt);
+}
+
+#[cfg(test)]
+mod tests {
+    use super::*;
+    use std::cell::Cell;
+    use std::fmt::Display;
+    use std::io;
+
+    // A standard output that takes nothing, and how many lines it was to take.
+    #[derive(Drop)]
+    struct Full {
+        lines: Cell<usize>,
+    }
+
+    impl Print for Full {
+        fn print<D: Display + Drop>(&self, _value: D) -> io::Result<()> {
+            Err(io::Error::other("full"))
+        }
+
+        fn println<D: Display + Drop>(&self, _value: D) -> io::Result<()> {
+            self.lines.set(self.lines.get().wrapping_add(1));
+            Err(io::Error::other("full"))
+        }
+
+        fn write_all(&self, _bytes: &[u8]) -> io::Result<()> {
+            Err(io::Error::other("full"))
+        }
+    }
+
+    #[test]
+    fn every_line_is_written(rt: HostRuntime) {
+        let full = Full {
+            lines: Cell::new(0),
+        };
+        write_table(&full);
+        assert_eq!(rt; full.lines.get(), 449);
+    }
 }
