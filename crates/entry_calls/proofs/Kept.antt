@@ -1,8 +1,7 @@
 -- What the changes of an entry keep of the call's promise.
-use Rattle.std.specs.Prelude.{ℕ, ◌≤◌, ◌≡◌, List, length, true}
+use Rattle.std.specs.Prelude.{ℕ, ◌≡◌, List, length, true}
 use Rattle.std.proofs.Common.{refl, ap, ◌∙◌}
 use Rattle.ledger.specs.Sound.{sound}
-use Rattle.ledger.proofs.Theorems.Sound.{sound_means}
 use Rattle.ledger.specs.declared.records.Party.{Party}
 use Rattle.ledger.specs.declared.records.Ledger.{Ledger}
 use Rattle.calls.proofs.Theorems.Promised.{promise_from}
@@ -30,10 +29,7 @@ module _ (ledger : Ledger) (table : List Party) (stands : sound ledger table (le
       let told = rw stands at (hand_over_is_call ledger table table entry person refl) in
       promise_from (ap of_entry_call answers ∙ told.0) (ap (state_of ledger) leaves ∙ told.1)
 
-pub in_table : (ledger : Ledger) (table : List Party) → sound ledger table (length table) ≡ true → ledger.entries ≤ length table
-in_table ledger table stands = (sound_means ledger table (length table) stands).figures.in_table
-
 -- what each call makes of an entry that has its place, and of one that has none
-pub ruleset paying = (in_table, kept_below, pay_out_within, pay_out_above, pay_out_missing)
+pub ruleset paying = (kept_below, pay_out_within, pay_out_above, pay_out_missing)
 
-pub ruleset handing = (in_table, kept_below, hand_over_there, hand_over_missing)
+pub ruleset handing = (kept_below, hand_over_there, hand_over_missing)

@@ -2,11 +2,10 @@
 // of the ledger, and nothing at all where they refuse.
 #![tactic(auto)]
 
-ghost use Rattle.std.specs.Prelude.{◌≡◌, ◌≤◌, true, length, take, Some, None, MatchResult};
+ghost use Rattle.std.specs.Prelude.{◌≡◌, take, Some, None, MatchResult};
 ghost use Rattle.tagged.specs.File.{refusal};
 ghost use Rattle.tagged.specs.Refusals.{no_such_entry};
 ghost use Rattle.ledger.specs.EntryPlace.{entry_place};
-ghost use Rattle.ledger.specs.Sound.{sound};
 ghost use Rattle.calls.specs.Calls.{state_of, Promised};
 ghost use Rattle.calls.specs.Decision.{pay_out, hand_over, of_entry_call};
 ghost use Rattle.entry_calls.specs.EntryCalls.{entry_change, changed_table};
@@ -19,21 +18,20 @@ use party_table::{hand_one, pay_one};
 use tagged::file::Refusal;
 use tagged::refusals::{LEDGER_UNSOUND, NO_SUCH_ENTRY, PAY_OUT_ABOVE_CREDIT};
 
-// An entry's place among those that stand.
+// An entry's place among those that the table holds.
+#[tactic(auto, using(std::proofs::lemmas::List::take_min))]
 fn place_of(ledger: &Ledger, table: &[Party], entry: u32) -> Result<usize, Refusal>
-    requires { ledger.now.entries ≤ length table.now }
     ensures { MatchResult result (λ at. entry_place entry (take ledger.now.entries table.now) ≡ Some at) (λ r. (entry_place entry (take ledger.now.entries table.now) ≡ None) × (r ≡ refusal no_such_entry 0 0)) }
 {
-    let entries = &table[..ledger.entries as usize];
+    let entries = &table[..table.len().min(ledger.entries as usize)];
     entry_at(entries, entry).ok_or(Refusal::of_call(NO_SUCH_ENTRY))
 }
 
 // Entry and amount, entry and person: two numbers each from the C interface down to here, and no struct.
-// Pay-out on a ledger that is known to be sound.
+// Pay-out on a ledger whose soundness the caller has judged.
 // This and the next stand apart from the calls below, so that a ledger that was just read isn't tested twice.
 #[tactic(auto, using(crate::proofs::Kept::paying))]
 pub fn pay_out_sound(ledger: &Ledger, table: &mut [Party], entry: u32, amount: u64) -> Answer
-    requires { sound ledger.now table.old (length table.old) ≡ true }
     ensures answer { result ≡ (entry_change ledger.now table.old (pay_out entry amount)).answer }
     ensures after { table.new ≡ changed_table table.old (entry_change ledger.now table.old (pay_out entry amount)) }
 {
@@ -46,10 +44,9 @@ pub fn pay_out_sound(ledger: &Ledger, table: &mut [Party], entry: u32, amount: u
     Ok(())
 }
 
-// Hand-over on a ledger that is known to be sound.
+// Hand-over on a ledger whose soundness the caller has judged.
 #[tactic(auto, using(crate::proofs::Kept::handing))]
 pub fn hand_over_sound(ledger: &Ledger, table: &mut [Party], entry: u32, person: u32) -> Answer
-    requires { sound ledger.now table.old (length table.old) ≡ true }
     ensures answer { result ≡ (entry_change ledger.now table.old (hand_over entry person)).answer }
     ensures after { table.new ≡ changed_table table.old (entry_change ledger.now table.old (hand_over entry person)) }
 {
