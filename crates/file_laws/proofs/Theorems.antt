@@ -1,1 +1,4 @@
 pub mod BothOrNeither
+pub mod FieldsGoneThrough
+pub mod InOrder
+pub mod InPlace

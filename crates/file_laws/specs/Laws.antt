@@ -1,7 +1,8 @@
 -- The laws that the functions of src/ are there for, one statement each; the proofs stand beside the definitions that they are of.
-use Rattle.std.specs.Prelude.{ℕ, ◌-◌, ◌^◌, ◌<◌, ◌≤◌, ◌≡◌, ◌⊎◌, true, length, set, Err, Ok, slice_index, slice_index_or}
+use Rattle.std.specs.Prelude.{ℕ, ◌+◌, ◌-◌, ◌^◌, ◌<◌, ◌≤◌, ◌≡◌, ◌⊎◌, true, length, set, Err, Ok, slice_index, slice_index_or}
 use mathlib.Core.List.{List, [], ◌∷◌, ◌++◌}
-use Rattle.numbers.specs.BigEndian.{Bytes, number, bytes_of}
+use Rattle.numbers.specs.BigEndian.{Bytes, number, number_at, bytes_of}
+use Rattle.numbers.specs.Written.{written}
 use Rattle.numbers.specs.Check.{check_from}
 use Rattle.field_walk.specs.Walk.{least_of, FieldAt, Walk, fields, first_form, second_form, neither_form, row_in, rows_in, walk_by, walk}
 use Rattle.field_walk.specs.FieldsWalk.{FieldsWalk}
@@ -12,6 +13,7 @@ use Rattle.tagged.specs.Encoded.{encoded_parts}
 use Rattle.tagged.specs.RisingTags.{rising_tags}
 use Rattle.tagged.specs.WalkRelations.{Stand, Fields}
 use Rattle.tagged.specs.WalkEncoded.{Short, places_from, parts_of}
+use Rattle.tagged.specs.FoundFields.{Next, Found}
 use Rattle.tagged.specs.Sized.{Sized}
 use Rattle.tagged.specs.FileStands.{FileStands}
 use Rattle.tagged.specs.FileEnding.{file_ending}
@@ -23,6 +25,7 @@ use Rattle.rate_book.specs.Book.{book_of}
 use Rattle.rate_book.specs.BookSizes.{BookSizes}
 use Rattle.rate_book.specs.BookLimits.{BookWithin}
 use Rattle.rate_book.specs.declared.book.Book.{Book}
+use Rattle.field_values.specs.Judged.{in_order, Judged}
 use Rattle.field_values.specs.Limits.{special_pricing}
 use Rattle.request.specs.RequestRows.{request_rows}
 use Rattle.request.specs.Request.{request_of}
@@ -39,6 +42,13 @@ NumberReadsBack = (width n : ℕ) → n < 256 ^ width → number (bytes_of width
 -- and writing what was read leaves the bytes
 abbrev pub BytesWriteBack : Type 0
 BytesWriteBack = (s : List ℕ) → Bytes s → bytes_of (length s) (number s) ≡ s
+
+-- the same at a place within the output: a number that was written there is the number there, and to write the number that is there changes nothing
+abbrev pub NumberReadsBackAt : Type 0
+NumberReadsBackAt = (out : List ℕ) (at width n : ℕ) → n < 256 ^ width → at + width ≤ length out → number_at (written out at (bytes_of width n)) at width ≡ n
+
+abbrev pub BytesWriteBackAt : Type 0
+BytesWriteBackAt = (out : List ℕ) (at width : ℕ) → Bytes out → at + width ≤ length out → written out at (bytes_of width (number_at out at width)) ≡ out
 
 -- another byte in one place gives another check
 abbrev pub CheckOfOneByte : Type 0
@@ -66,9 +76,21 @@ FinderGoesOver = (rows : List (List ℕ)) (s : List ℕ) (fs : List FieldAt) →
 abbrev pub FinderFinds : Type 0
 FinderFinds = (rows : List (List ℕ)) (s : List ℕ) (fs : List FieldAt) → walk rows s ≡ fields fs → (tag : ℕ) → first_place tag s ≡ first_with tag fs
 
--- a field that must be there is found, with a permitted length
+-- who goes on from field to field sees the next of them with its value and the rest of the file after it, and none at the file's end
+abbrev pub NextSeen : Type 0
+NextSeen = (s : List ℕ) (at : ℕ) (f : FieldAt) (others : List FieldAt) → Fields s at (f ∷ others) → Next s at f others
+
+abbrev pub NoneAtTheEnd : Type 0
+NoneAtTheEnd = (s : List ℕ) (at : ℕ) (fs : List FieldAt) → Fields s at fs → length s ≤ at → fs ≡ []
+
+-- a field that must be there is found inside the file, and its value has a permitted length
 abbrev pub FindsDue : Type 0
 FindsDue =
+    (rows : List (List ℕ)) (s : List ℕ) (fs : List FieldAt) → rising_tags rows ≡ true → (k : ℕ) → k < length rows →
+    1 ≤ least_of (row_in neither_form (slice_index_or rows k [])) → walk rows s ≡ fields fs → Found (slice_index_or rows k []) s
+
+abbrev pub DueSized : Type 0
+DueSized =
     (rows : List (List ℕ)) (s : List ℕ) → rising_tags rows ≡ true → FieldsWalk rows s → (k : ℕ) → k < length rows →
     1 ≤ least_of (row_in neither_form (slice_index_or rows k [])) → Sized (slice_index_or rows k []) s
 
@@ -89,6 +111,10 @@ StandsMeans = (rows : List (List ℕ)) (file : ℕ) (s : List ℕ) → file_answ
 -- two answers never end alike
 abbrev pub FileAnswerByEnding : Type 0
 FileAnswerByEnding = (answer other : FileAnswer) → Numbered answer → Numbered other → file_ending answer ≡ file_ending other → answer ≡ other
+
+-- values judged one after the other answer alike where each of them does
+abbrev pub JudgedAlike : Type 0
+JudgedAlike = (judged first second first' second' : Judged) → judged ≡ in_order first second → first ≡ first' → second ≡ second' → judged ≡ in_order first' second'
 
 -- ---- both forms in one file, or neither
 

@@ -2,13 +2,15 @@
 // Each function is there for its contract alone, a law on the definitions of the crates below.
 #![tactic(auto)]
 
-ghost use Rattle.file_laws.specs.Laws.{AcceptedBookSizes, AcceptedRequestSizes, AlteredBookRefused, AlteredFileRefused, AlteredRefused, AlteredRequestRefused, BookWithinLimits, BothInABook, BothInARequest, BytesWriteBack, CheckOfOneByte, FileAnswerByEnding, FinderFinds, FinderGoesOver, FindsDue, LoadingIsSpecial, NeitherInABook, NeitherInARequest, NumberReadsBack, PartsOfEncoded, RatesWithinLimits, RequestWithinLimits, StandsMeans, WalkFields, WalkOfEncoded, WalkStands, WalkTiles};
+ghost use Rattle.file_laws.specs.Laws.{AcceptedBookSizes, AcceptedRequestSizes, AlteredBookRefused, AlteredFileRefused, AlteredRefused, AlteredRequestRefused, BookWithinLimits, BothInABook, BothInARequest, BytesWriteBack, BytesWriteBackAt, CheckOfOneByte, DueSized, FileAnswerByEnding, FinderFinds, FinderGoesOver, FindsDue, JudgedAlike, LoadingIsSpecial, NeitherInABook, NeitherInARequest, NextSeen, NoneAtTheEnd, NumberReadsBack, NumberReadsBackAt, PartsOfEncoded, RatesWithinLimits, RequestWithinLimits, StandsMeans, WalkFields, WalkOfEncoded, WalkStands, WalkTiles};
 
 /// A number and its bytes tell each other.
-#[tactic(auto, using(numbers::proofs::Theorems::BigEndian::number_of_bytes_of, numbers::proofs::Theorems::BigEndian::bytes_of_number))]
+#[tactic(auto, using(numbers::proofs::Theorems::BigEndian::number_of_bytes_of, numbers::proofs::Theorems::BigEndian::bytes_of_number, crate::proofs::Theorems::InPlace::number_at_written, crate::proofs::Theorems::InPlace::written_number_at))]
 pub fn numbers_read_back()
     ensures number { NumberReadsBack }
     ensures bytes { BytesWriteBack }
+    ensures number_in_place { NumberReadsBackAt }
+    ensures bytes_in_place { BytesWriteBackAt }
 {}
 
 /// The check h tells one byte in one place.
@@ -26,11 +28,19 @@ pub fn walked_fields()
 {}
 
 /// The finder finds them, and every one that must be there.
-#[tactic(auto, using(tagged::proofs::Theorems::FoundFields::walk_fields_of, tagged::proofs::Theorems::FoundFields::walk_first_place, tagged::proofs::Theorems::FoundFields::walk_sized))]
+#[tactic(auto, using(tagged::proofs::Theorems::FoundFields::walk_fields_of, tagged::proofs::Theorems::FoundFields::walk_first_place, tagged::proofs::Theorems::FoundFields::walk_finds_due, tagged::proofs::Theorems::FoundFields::walk_sized))]
 pub fn found_fields()
     ensures all { FinderGoesOver }
     ensures first { FinderFinds }
     ensures due { FindsDue }
+    ensures sized { DueSized }
+{}
+
+/// Going on from field to field sees exactly them.
+#[tactic(auto, using(tagged::proofs::Theorems::FoundFields::walk_next, crate::proofs::Theorems::FieldsGoneThrough::walk_end))]
+pub fn fields_gone_through()
+    ensures next { NextSeen }
+    ensures at_the_end { NoneAtTheEnd }
 {}
 
 /// Fields written one after the other walk as themselves.
@@ -44,6 +54,11 @@ pub fn encoded_fields()
 pub fn file_stands_or_ends()
     ensures stands { StandsMeans }
     ensures ends { FileAnswerByEnding }
+{}
+
+/// Values that are judged one after the other answer alike where each of them does.
+pub fn judged_in_order()
+    ensures { JudgedAlike }
 {}
 
 /// Both forms in one file, or neither, is refused with 1 at its place.

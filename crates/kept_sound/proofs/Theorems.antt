@@ -9,3 +9,4 @@ pub mod Clearing
 pub mod ClearsExactly
 pub mod KeptSound
 pub mod KeptByCalls
+pub mod Rest

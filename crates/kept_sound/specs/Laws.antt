@@ -3,7 +3,7 @@ use Rattle.std.specs.Prelude.{ℕ, ◌+◌, ◌≤◌, ◌≡◌, List, true, le
 use Rattle.charge.specs.BillLimits.{BillWithin}
 use Rattle.charge.specs.declared.Bill.{Bill}
 use Rattle.ledger.specs.Limits.{most_schemes, most_connections}
-use Rattle.ledger.specs.Lists.{All}
+use Rattle.ledger.specs.Lists.{All, at_start}
 use Rattle.ledger.specs.Records.{no_scheme, no_party}
 use Rattle.ledger.specs.Lookup.{scheme_place}
 use Rattle.ledger.specs.EntryPlace.{entry_place}
@@ -35,6 +35,10 @@ abbrev pub LeavesLength : Type 0
 LeavesLength =
     (state : State) (call : Call) → length state.ledger.schemes ≡ most_schemes →
     length (leaves state call).table ≡ length state.table
+
+-- and past the entries that stand then the records that stood there before, from any ledger
+abbrev pub LeavesRest : Type 0
+LeavesRest = (state : State) (call : Call) → (leaves state call).table ≡ at_start (entries_on (leaves state call)) state.table
 
 -- the request is booked
 abbrev pub BookedKeepsSound : Type 0

@@ -2,13 +2,14 @@
 // contract alone, a law on those definitions.
 #![tactic(auto)]
 
-ghost use Rattle.kept_sound.specs.Laws.{BookedKeepsSound, CallKeepsSound, ClearKeepsSound, ClearsExactly, JoinedKeepsSound, LeavesLength, LeavesPlaces, OpenedKeepsSound};
+ghost use Rattle.kept_sound.specs.Laws.{BookedKeepsSound, CallKeepsSound, ClearKeepsSound, ClearsExactly, JoinedKeepsSound, LeavesLength, LeavesPlaces, LeavesRest, OpenedKeepsSound};
 
-/// From a sound ledger with 64 places every call leaves a sound one, with 64 places.
+/// From a sound ledger with 64 places every call leaves a sound one, with 64 places; from any ledger it leaves the records past the last entry.
 pub fn every_call_keeps_sound()
     ensures stays_sound { CallKeepsSound }
     ensures keeps_places { LeavesPlaces }
     ensures keeps_table { LeavesLength }
+    ensures keeps_rest { LeavesRest }
 {}
 
 /// The three steps of an accept leave a sound ledger sound, and so does a clearing.

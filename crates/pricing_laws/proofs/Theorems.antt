@@ -1,3 +1,4 @@
+pub mod Without
 pub mod OlderBooks
 pub mod OlderRequests
 pub mod OlderPricing

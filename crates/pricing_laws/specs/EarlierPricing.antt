@@ -24,8 +24,8 @@ earlier_price_of book_file request_file = do
   request ← earlier_request_of request_file
   values_priced book (zone_rates (fields_part book_file)) request request.distribution_revenue request.transmission_revenue
 
--- an answer as before, or a request refused with 1, at a place that isn't earlier
-abbrev pub AsBefore : {A : Type 0} → Result A Refusal → Result A Refusal → Type 0
-AsBefore before now =
+-- an answer as before, or the file of this number refused with 1, at a place that isn't earlier
+abbrev pub AsBefore : {A : Type 0} → ℕ → Result A Refusal → Result A Refusal → Type 0
+AsBefore number before now =
     (now ≡ before)
-    ⊎ ((at : ℕ) × (later : ℕ) × (before ≡ Err (refusal file_does_not_walk 2 at)) × (at ≤ later) × (now ≡ Err (refusal file_does_not_walk 2 later)))
+    ⊎ ((at : ℕ) × (later : ℕ) × (before ≡ Err (refusal file_does_not_walk number at)) × (at ≤ later) × (now ≡ Err (refusal file_does_not_walk number later)))

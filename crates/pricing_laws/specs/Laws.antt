@@ -39,11 +39,12 @@ use Rattle.slip_text.specs.Slip.{decimal, signed_decimal, slip_of, slip_written,
 use Rattle.slip_text.specs.SlipEnding.{slip_ending}
 use Rattle.slip_text.specs.SlipReading.{ascii}
 use Rattle.slip_text.specs.SlipRoom.{room, longest_slip}
-use Rattle.page_text.specs.AmountGrammar.{OnlyAmount}
-use Rattle.page_text.specs.Page.{label_text, page_of, page_size, page_written, page_output, PageWritten}
+use Rattle.page_text.specs.AmountGrammar.{AmountColumns, OnlyAmount}
+use Rattle.page_text.specs.Page.{amount_text, label_text, right_aligned, page_of, page_size, page_written, page_output, PageWritten}
 use Rattle.page_text.specs.PageColumns.{names, amounts_of, line_of, label_columns, amount_columns, AmountsFit}
 use Rattle.page_text.specs.PageEnding.{page_ending}
 use Rattle.pricing_laws.specs.EarlierPricing.{earlier_price_of, AsBefore}
+use Rattle.pricing_laws.specs.EarlierRows.{earlier_book_rows, earlier_request_rows}
 use Rattle.pricing_laws.specs.SameValues.{SameBooks, SameRequests, InTwoBytes}
 
 -- ---- discount factors
@@ -138,7 +139,16 @@ AlteredRequestSlip =
 abbrev pub OlderPriced : Type 0
 OlderPriced =
     (book request : List ℕ) → first_place 9 (fields_part book) ≡ None → first_place 13 (fields_part request) ≡ None →
-    AsBefore (earlier_price_of book request) (price_of book request)
+    AsBefore 2 (earlier_price_of book request) (price_of book request)
+
+-- of one such file alone, whatever its number
+abbrev pub OlderBookSame : Type 0
+OlderBookSame = (number : ℕ) (file : List ℕ) → first_place 9 (fields_part file) ≡ None → file_answer book_rows number file ≡ file_answer earlier_book_rows number file
+
+abbrev pub OlderRequestSame : Type 0
+OlderRequestSame =
+    (number : ℕ) (file : List ℕ) → first_place 13 (fields_part file) ≡ None →
+    AsBefore number (file_answer earlier_request_rows number file) (file_answer request_rows number file)
 
 -- their zones are the fields 08, and the zone is that of field 04
 abbrev pub OlderZones : Type 0
@@ -250,6 +260,19 @@ abbrev pub PageOneWay : Type 0
 PageOneWay =
     (book request out : List ℕ) (bill : Bill) → Bytes book → Bytes request → price_of book request ≡ Ok bill → page_size ≤ length out → (i : ℕ) → i < 12 →
     OnlyAmount (amount_columns (line_of i (page_output (price_of book request) out))) (slice_index_or (amounts_of bill.reconciliation) i (pos 0))
+
+-- and of any reconciliation, as any amount of 64 bits
+abbrev pub AmountReadBack : Type 0
+AmountReadBack =
+    (r : Reconciliation) (i : ℕ) → i < 12 → nat_abs (slice_index_or (amounts_of r) i (pos 0)) < 2 ^ 64 →
+    OnlyAmount (amount_columns (line_of i (page_of r))) (slice_index_or (amounts_of r) i (pos 0))
+
+-- columns have one amount at most, and two amounts never have the same 31 bytes
+abbrev pub OneValue : Type 0
+OneValue = (a b : ℤ) (columns : List ℕ) → AmountColumns columns a → AmountColumns columns b → a ≡ b
+
+abbrev pub OneAmount : Type 0
+OneAmount = (a b : ℤ) → nat_abs a < 2 ^ 64 → nat_abs b < 2 ^ 64 → right_aligned (amount_text a) ≡ right_aligned (amount_text b) → a ≡ b
 
 -- 768 bytes, the listed labels, byte 0A at the end of each line and nowhere else
 abbrev pub PageSize : Type 0

@@ -3,7 +3,7 @@
 #![tactic(auto)]
 
 ghost use Rattle.pricing_laws.specs.Cases.Slip.{SlipOfDocument01};
-ghost use Rattle.pricing_laws.specs.Laws.{AlteredBookNotPriced, AlteredBookSlip, AlteredRequestNotPriced, AlteredRequestSlip, BandByEnding, BandByNumber, BandHolds, BandReached, BandRefusals, BookByNumber, BookInTwoBytes, CCNeverRises, DecimalOneWay, DiscountBounds, EitherFormAccepted, EitherFormPricesAlike, EveryBandFits, LabelsListed, LineEnds, LongestSlip, NCNeverFalls, NoOtherEnd, OlderPriced, OlderZone, OlderZones, PageByEnding, PageByNumber, PageOneWay, PageSize, PricedPercentagesExact, PricedReconciles, PricedWithin, PricingByEnding, PricingByNumber, PricingRefusals, PromisedBand, PromisedPage, PromisedPrice, PromisedSlip, Reconciles, RecurrenceAtEachEntry, RefusedPageChangesNothing, RefusedSlipChangesNothing, RequestByNumber, RequestInTwoBytes, SignedOneWay, SlipByEnding, SlipByNumber, SlipFits, SlipSaysExact};
+ghost use Rattle.pricing_laws.specs.Laws.{AlteredBookNotPriced, AlteredBookSlip, AlteredRequestNotPriced, AlteredRequestSlip, AmountReadBack, BandByEnding, BandByNumber, BandHolds, BandReached, BandRefusals, BookByNumber, BookInTwoBytes, CCNeverRises, DecimalOneWay, DiscountBounds, EitherFormAccepted, EitherFormPricesAlike, EveryBandFits, LabelsListed, LineEnds, LongestSlip, NCNeverFalls, NoOtherEnd, OlderBookSame, OlderPriced, OlderRequestSame, OlderZone, OlderZones, OneAmount, OneValue, PageByEnding, PageByNumber, PageOneWay, PageSize, PricedPercentagesExact, PricedReconciles, PricedWithin, PricingByEnding, PricingByNumber, PricingRefusals, PromisedBand, PromisedPage, PromisedPrice, PromisedSlip, Reconciles, RecurrenceAtEachEntry, RefusedPageChangesNothing, RefusedSlipChangesNothing, RequestByNumber, RequestInTwoBytes, SignedOneWay, SlipByEnding, SlipByNumber, SlipFits, SlipSaysExact};
 
 /// Discount factors, by document 01's recurrence.
 pub fn discount_factors()
@@ -44,6 +44,8 @@ pub fn altered_files_refused()
 #[tactic(auto, using(crate::proofs::Theorems::OlderPricing::older_zones, crate::proofs::Theorems::OlderPricing::older_zone))]
 pub fn older_files_alike()
     ensures priced { OlderPriced }
+    ensures book { OlderBookSame }
+    ensures request { OlderRequestSame }
     ensures zones { OlderZones }
     ensures zone { OlderZone }
 {}
@@ -100,6 +102,9 @@ pub fn slip_ends()
 #[tactic(auto, using(page_text::proofs::Theorems::PageShape::page_one_way, page_text::proofs::Theorems::PageShape::page_size_lem, page_text::proofs::Theorems::PageShape::labels_listed, page_text::proofs::Theorems::PageShape::line_ends, page_text::proofs::Theorems::PageShape::no_other_end))]
 pub fn page_reads()
     ensures amounts { PageOneWay }
+    ensures any_amounts { AmountReadBack }
+    ensures one_value { OneValue }
+    ensures one_amount { OneAmount }
     ensures size { PageSize }
     ensures labels { LabelsListed }
     ensures ends { LineEnds }

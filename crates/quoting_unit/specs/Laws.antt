@@ -1,11 +1,12 @@
 -- The laws that the functions of src/laws.rt are there for, one statement each; the proofs stand in proofs/.
-use Rattle.std.specs.Prelude.{ℕ, ◌<◌, ◌≤◌, ◌^◌, ◌≡◌, ◌≢◌, [], ◌∷◌, ◌++◌, map, take, false, pos, Option}
+use Rattle.std.specs.Prelude.{ℕ, ◌<◌, ◌≤◌, ◌^◌, ◌≡◌, ◌≢◌, Bool, [], ◌∷◌, ◌++◌, map, take, false, pos, Option}
+use Rattle.tagged.specs.Refusals.{output_too_short}
 use Rattle.tagged.specs.declared.file.Refusal.{Refusal}
 use Rattle.calls.specs.CallEnding.{joining_values, opening_value}
 use Rattle.calls.specs.declared.answers.JoiningAnswer.{JoiningAnswer}
 use Rattle.quoting_unit.specs.Interface.{highest_place, is_refused, place_in, result_of, Lent}
 use Rattle.quoting_unit.specs.ResultParts.{ResultParts}
-use Rattle.quoting_unit.specs.Unit.{UnitCall, acceptance_places, too_short, unit_call}
+use Rattle.quoting_unit.specs.Unit.{UnitCall, acceptance_places, leaves_by, made, too_short, unit_call}
 use Rattle.quoting_unit.specs.UnitPlaces.{FilesWithin, ending_of}
 use Rattle.quoting_unit.specs.UnitResults.{Results, IsDone, refusals_of}
 
@@ -46,3 +47,11 @@ AnswerPlacesTold =
 -- "A refusal .. changes nothing"
 abbrev pub RefusedChangesNoBuffer : Type 0
 RefusedChangesNoBuffer = (call : UnitCall) (lent : Lent) → (unit_call call lent).result ≢ 0 → (unit_call call lent).lent ≡ lent
+
+-- a call that judges its buffers by this test: 14 before anything else where one is too short, every buffer as it was, and otherwise what the call's own definition says
+abbrev pub ShortIs14 : (Lent → Bool) → (Lent → Type 0) → Type 0
+ShortIs14 test is_short =
+    (call : UnitCall) (lent : Lent) → too_short call lent ≡ test lent → is_short lent → unit_call call lent ≡ record { result = output_too_short; lent = lent }
+
+abbrev pub LongIsMade : (Lent → Bool) → (Lent → Type 0) → Type 0
+LongIsMade test is_long = (call : UnitCall) (lent : Lent) → too_short call lent ≡ test lent → is_long lent → unit_call call lent ≡ leaves_by (made call lent) lent

@@ -1,11 +1,12 @@
 -- The laws that the functions of src/ are there for, one statement each; the proofs stand beside the definitions that they are of.
 use Rattle.std.specs.Prelude.{ℕ, min, ◌<◌, ◌≤◌, ◌≡◌, List, true, false, length, take, Err, Ok, is_ok}
 use Rattle.numbers.specs.BigEndian.{Bytes}
-use Rattle.tagged.specs.Refusals.{no_entry_left, ledger_unsound, output_too_short}
-use Rattle.tagged.specs.File.{fields_part, refusal, FileAnswer}
+use Rattle.tagged.specs.Refusals.{value_not_listed, no_entry_left, ledger_unsound, output_too_short}
+use Rattle.tagged.specs.File.{fields_part, file_answer, refusal, FileAnswer}
 use Rattle.tagged.specs.EndingTests.{number_is_0}
 use Rattle.tagged.specs.FileEnding.{file_ending}
 use Rattle.tagged.specs.declared.file.Refusal.{Refusal}
+use Rattle.field_values.specs.Judged.{judge_letters}
 use Rattle.charge.specs.Price.{price_of}
 use Rattle.charge.specs.declared.Bill.{Bill}
 use Rattle.ledger.specs.Limits.{most_entries}
@@ -18,7 +19,8 @@ use Rattle.calls.specs.Carried.{books_on, entries_on}
 use Rattle.calls.specs.Calls.{state_of, answered, leaves, Fits}
 use Rattle.stored.specs.FormFields.{FormFits}
 use Rattle.stored.specs.Reading.{form_of_file, read_answer, read_of}
-use Rattle.stored.specs.Form.{stored_entries, stored_ledger}
+use Rattle.stored.specs.StoredRows.{stored_rows}
+use Rattle.stored.specs.Form.{letters, stored_entries, stored_ledger}
 use Rattle.stored.specs.FormOutput.{form_end}
 use Rattle.stored.specs.MoveLaws.{written_of, ComesBack, SameValues}
 use Rattle.stored.specs.Moves.{move_to_new, move_back}
@@ -63,6 +65,12 @@ StoredLedgersDiffer =
 abbrev pub ReadRefusalNumbers : Type 0
 ReadRefusalNumbers = (form : Form) (room : ℕ) (file : List ℕ) → ReadRefuses (read_answer form room file)
 
+-- 3 for the letters of a file whose fields walk
+abbrev pub ReadRefused3 : Type 0
+ReadRefused3 =
+    (form : Form) (room : ℕ) (file : List ℕ) (at : ℕ) → file_answer (stored_rows form) 1 file ≡ Ok tt → judge_letters (letters form) (fields_part file) ≡ Err at →
+    read_answer form room file ≡ Err (refusal value_not_listed 1 at)
+
 abbrev pub RefusedReadChangesNothing : Type 0
 RefusedReadChangesNothing =
     (ledger : Ledger) (table : List Party) (file : List ℕ) (r : Refusal) →
@@ -70,6 +78,9 @@ RefusedReadChangesNothing =
 
 abbrev pub WriteRefusalNumbers : Type 0
 WriteRefusalNumbers = (ledger : Ledger) (parties : List Party) (room : ℕ) (out : List ℕ) → WriteRefuses (written_answer ledger parties room out)
+
+abbrev pub WrittenWithin : Type 0
+WrittenWithin = (ledger : Ledger) (parties : List Party) (room : ℕ) (out : List ℕ) (size : ℕ) → written_answer ledger parties room out ≡ Ok size → size ≤ length out
 
 abbrev pub RefusedWriteChangesNothing : Type 0
 RefusedWriteChangesNothing =

@@ -2,7 +2,7 @@
 // Each function is there for its contract alone, a law on the definitions of the crates below.
 #![tactic(auto)]
 
-ghost use Rattle.stored_laws.specs.Laws.{BackAndMoved, CallReadsBack, CheckByEnding, CheckByNumber, FullTableRefused, LongTableReads, MoveBackKeepsValues, MoveByNumber, MoveKeepsValues, MoveRefusalNumbers, MovedAndBack, NewByNumber, NewRefusedChangesNothing, OldSound, PromisedCheck, PromisedMove, PromisedNew, PromisedReading, PromisedStored, PromisedWriting, ReadByNumber, ReadOfWrite, ReadRefusalNumbers, RefusedMoveChangesNothing, RefusedReadChangesNothing, RefusedWriteChangesNothing, ShortTableCallRefused, ShortTableRefused, StoredByNumber, StoredLedgersDiffer, StoredRefusalNumbers, StoredRefused14, StoredRefusedChangesNothing, WriteByEnding, WriteByNumber, WriteOfRead, WriteRefusalNumbers};
+ghost use Rattle.stored_laws.specs.Laws.{BackAndMoved, CallReadsBack, CheckByEnding, CheckByNumber, FullTableRefused, LongTableReads, MoveBackKeepsValues, MoveByNumber, MoveKeepsValues, MoveRefusalNumbers, MovedAndBack, NewByNumber, NewRefusedChangesNothing, OldSound, PromisedCheck, PromisedMove, PromisedNew, PromisedReading, PromisedStored, PromisedWriting, ReadByNumber, ReadOfWrite, ReadRefusalNumbers, ReadRefused3, RefusedMoveChangesNothing, RefusedReadChangesNothing, RefusedWriteChangesNothing, ShortTableCallRefused, ShortTableRefused, StoredByNumber, StoredLedgersDiffer, StoredRefusalNumbers, StoredRefused14, StoredRefusedChangesNothing, WriteByEnding, WriteByNumber, WriteOfRead, WriteRefusalNumbers, WrittenWithin};
 
 /// A written ledger reads back as itself, an accepted file writes back as the same bytes, and no two files are one ledger.
 #[tactic(auto, using(stored::proofs::Theorems::RoundTrips::read_of_write, stored::proofs::Theorems::RoundTrips::write_of_read, stored::proofs::Theorems::RoundTrips::stored_ledgers_differ))]
@@ -12,19 +12,21 @@ pub fn form_reads_back()
     ensures differ { StoredLedgersDiffer }
 {}
 
-/// Reading refuses with these numbers alone and then changes nothing; its ending tells its answer.
+/// Reading refuses with these numbers alone, with 3 where the letters stand, and then changes nothing; its ending tells its answer.
 #[tactic(auto, using(stored::proofs::Theorems::Reading::read_refusal_numbers, stored::proofs::Theorems::Reading::refused_read_changes_nothing, stored::proofs::Theorems::StoredEnding::read_by_number))]
 pub fn reading_ends()
     ensures numbers { ReadRefusalNumbers }
+    ensures letters { ReadRefused3 }
     ensures nothing { RefusedReadChangesNothing }
     ensures done { ReadByNumber }
     ensures promised { PromisedReading }
 {}
 
-/// Writing refuses with these numbers alone and then changes nothing; its ending tells its answer.
+/// Writing refuses with these numbers alone and then changes nothing; what it writes fits the output; its ending tells its answer.
 #[tactic(auto, using(stored::proofs::Theorems::Writing::write_refusal_numbers, stored::proofs::Theorems::Writing::refused_write_changes_nothing, stored::proofs::Theorems::StoredEnding::write_by_number, stored::proofs::Theorems::StoredEnding::write_by_ending))]
 pub fn writing_ends()
     ensures numbers { WriteRefusalNumbers }
+    ensures within { WrittenWithin }
     ensures nothing { RefusedWriteChangesNothing }
     ensures done { WriteByNumber }
     ensures answer { WriteByEnding }

@@ -172,6 +172,11 @@ module _ (r : Reconciliation) where
       let amount = get_or (amounts_of r) i (pos 0) in
       subst (λ columns. AmountColumns columns amount) (sym (amount_is i h)) (columns_written amount below)
 
+  -- "the amount can be read off the page in one way only, and it is that of the charge", for any amounts of 64 bits
+  pub amount_read_back : (i : ℕ) → i < 12 → nat_abs (get_or (amounts_of r) i (pos 0)) < 2 ^ 64 →
+      OnlyAmount (amount_columns (line_of i (page_of r))) (get_or (amounts_of r) i (pos 0))
+  amount_read_back i h below = only_amount (amount_stands i h below)
+
   -- "byte 0A last on each"
   pub line_ends : (i : ℕ) → i < 12 → get_or (line_of i (page_of r)) 63 0 ≡ 10
   line_ends i h =
@@ -256,7 +261,7 @@ unfolding page_output
 page_one_way book_file request_file out bill bytes bytes' priced enough i h =
     let r = bill.reconciliation in
     rw (priced, le-ltb (length out) page_size enough, line_in_output (page_of r) (drop page_size out) i (page_size_lem r) h)
-    (only_amount (amount_stands r i h (charge_fits book_file request_file bill bytes bytes' priced i h)))
+    (amount_read_back r i h (charge_fits book_file request_file bill bytes bytes' priced i h))
 
 -- a refused page leaves the output as it was
 pub refused_page_changes_nothing : (pricing : Pricing) (out : List ℕ) (refused : Refusal) → page_written pricing out ≡ Err refused → page_output pricing out ≡ out

@@ -197,6 +197,11 @@ grammar_read (not_negative cents columns unsigned) = unsigned_first unsigned ∙
 pub one_value : (a b : ℤ) (columns : List ℕ) → AmountColumns columns a → AmountColumns columns b → a ≡ b
 one_value a b columns p q = let r = grammar_read p in let s = grammar_read q in cc
 
+-- two different amounts never have the same 31 bytes
+pub one_amount : (a b : ℤ) → nat_abs a < 2 ^ 64 → nat_abs b < 2 ^ 64 → right_aligned (amount_text a) ≡ right_aligned (amount_text b) → a ≡ b
+one_amount a b p q same =
+    one_value a b (right_aligned (amount_text b)) (subst (λ (columns : List ℕ). AmountColumns columns a) same (columns_written a p)) (columns_written b q)
+
 pub only_amount : {amount : ℤ} {columns : List ℕ} → AmountColumns columns amount → OnlyAmount columns amount
 only_amount stands = (stands, λ other p. one_value other _ _ p stands)
 

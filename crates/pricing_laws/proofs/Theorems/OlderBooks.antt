@@ -4,11 +4,13 @@ use Rattle.std.proofs.Common.{sym, ap, ◌∙◌, arith, le-ltb, ne_eqb}
 use Rattle.std.proofs.lemmas.Bool.{false≢true}
 use Rattle.field_walk.specs.Walk.{Due, due_from, all_had, Walk, fields, stops, first_form, second_form, neither_form, rows_in, walk_by, by_forms, walk}
 use Rattle.field_walk.proofs.Theorems.Forms.{one_form}
+use Rattle.tagged.specs.Find.{fields_of, first_place}
 use Rattle.tagged.specs.File.{fields_part, file_answer}
 use Rattle.tagged.proofs.Theorems.WalkFurther.{no_more, Further, TagsOf, found_nowhere, goes_further, goes_on_after, walk_without_last}
 use Rattle.book_zones.specs.BookRows.{book_rows}
 use Rattle.book_zones.specs.Zones.{tag_by, zone_tag}
 use Rattle.pricing_laws.specs.EarlierRows.{earlier_book_rows}
+use Rattle.pricing_laws.proofs.Theorems.Without.{without}
 
 -- by fields other than 09
 abbrev pub Not09 : ℕ → Type 0
@@ -49,8 +51,9 @@ older_walk s tags =
     by (stops at) (stops at') (fields fs) h = refl
     by (stops at) (stops at') (stops _) h = rw (le-ltb at at' h)
 
-pub older_book_same : (number : ℕ) (file : List ℕ) → TagsOf Not09 (fields_part file) → file_answer book_rows number file ≡ file_answer earlier_book_rows number file
-older_book_same number file tags = rw (older_walk (fields_part file) tags)
+pub older_book_same : (number : ℕ) (file : List ℕ) → first_place 9 (fields_part file) ≡ None →
+    file_answer book_rows number file ≡ file_answer earlier_book_rows number file
+older_book_same number file none = rw (older_walk (fields_part file) (without 9 (fields_of (fields_part file)) none))
 
 -- its zones are the fields 08, with a number of one byte
 pub older_zone_tag : (s : List ℕ) → TagsOf Not09 s → zone_tag s ≡ 8

@@ -1,14 +1,10 @@
 -- Document 02, E6: "Older books and requests price as before": two files without 09 and 0D price as by the fields that document 01 gives alone.
-use Rattle.std.specs.Prelude.{ℕ, ◌≡◌, refl, List, [], ◌∷◌, Bool, true, false, cond, eqb, Err, None, Ok, Result}
-use Rattle.std.proofs.Common.{sym, ap, ◌∙◌, inl, inr, ⊎_elim, eq-eqb}
-use mathlib.Core.List.Memᴰ
-use mathlib.Core.List.{Memᴰ}
+use Rattle.std.specs.Prelude.{ℕ, ◌≡◌, refl, List, Err, None, Ok, Result}
+use Rattle.std.proofs.Common.{ap, inl, inr, ⊎_elim}
 use Rattle.numbers.specs.BigEndian.{number_at}
-use Rattle.field_walk.specs.Walk.{FieldAt}
-use Rattle.tagged.specs.Find.{fields_of, place_at, first_with, first_place, field_value}
+use Rattle.tagged.specs.Find.{fields_of, first_place, field_value}
 use Rattle.tagged.specs.File.{◌>>=◌, fields_part, file_answer, FileAnswer}
 use Rattle.tagged.specs.declared.file.Refusal.{Refusal}
-use Rattle.tagged.proofs.Theorems.Impossible.{impossible}
 use Rattle.field_values.specs.Judged.{Judged}
 use Rattle.field_values.specs.Reading.{reading_of}
 use Rattle.book_zones.specs.Zones.{zone_tag, zone_rates}
@@ -20,19 +16,9 @@ use Rattle.request.specs.declared.values.Request.{Request}
 use Rattle.charge.specs.Price.{values_priced, request_priced, price_of, Pricing}
 use Rattle.pricing_laws.specs.EarlierRows.{earlier_request_rows}
 use Rattle.pricing_laws.specs.EarlierPricing.{earlier_book_of, earlier_request_of, earlier_price_of, AsBefore}
+use Rattle.pricing_laws.proofs.Theorems.Without.{without}
 use Rattle.pricing_laws.proofs.Theorems.OlderBooks.{older_book_same, older_zone_tag}
-use Rattle.pricing_laws.proofs.Theorems.OlderRequests.{older_request_stands, older_zone_in}
-
--- no field has a tag that isn't found
-without : (tag : ℕ) (fs : List FieldAt) → first_with tag fs ≡ None → (f : FieldAt) → Memᴰ f fs → f.tag ≡ tag → ⊥
-unfolding first_with
-without tag [] e f among same = absurd (Memᴰ.not-nil among)
-without tag (g ∷ fs) e f among same = by (eqb g.tag tag) refl (λ none later. without tag fs none f later same) e
-  where
-    by : (found : Bool) → eqb g.tag tag ≡ found → (first_with tag fs ≡ None → Memᴰ f fs → ⊥) → cond found (place_at g.start g.len) (first_with tag fs) ≡ None → ⊥
-    by true t others none = impossible cc
-    by false t others none =
-        ⊎_elim (λ here. let found : eqb g.tag tag ≡ true = eq-eqb _ _ (ap (λ h. h.tag) (sym here) ∙ same) in impossible cc) (others none) (Memᴰ.cases_cons among)
+use Rattle.pricing_laws.proofs.Theorems.OlderRequests.{older_request_same, older_zone_in}
 
 -- its zones are the fields 08, with a number of one byte
 pub older_zones : (s : List ℕ) → first_place 9 s ≡ None → zone_tag s ≡ 8
@@ -44,23 +30,23 @@ older_zone s e = older_zone_in s (without 13 (fields_of s) e)
 
 older_book : (file : List ℕ) → first_place 9 (fields_part file) ≡ None → book_of 1 file ≡ earlier_book_of file
 unfolding book_of
-older_book file e = rw (older_book_same 1 file (without 9 (fields_of (fields_part file)) e))
+older_book file e = rw (older_book_same 1 file e)
 
-read_as_before : {Values : Type 0} (before now : FileAnswer) (judged : Judged) (values : Values) → AsBefore before now →
-    AsBefore (reading_of 2 before judged values) (reading_of 2 now judged values)
+read_as_before : {Values : Type 0} (before now : FileAnswer) (judged : Judged) (values : Values) → AsBefore 2 before now →
+    AsBefore 2 (reading_of 2 before judged values) (reading_of 2 now judged values)
 read_as_before before now judged values =
     ⊎_elim
     (λ same. inl (ap (λ answer. reading_of 2 answer judged values) same))
     (λ later. inr (later.0, later.1, ap (λ answer. reading_of 2 answer judged values) later.2, later.3, ap (λ answer. reading_of 2 answer judged values) later.4))
 
-older_request : (file : List ℕ) → first_place 13 (fields_part file) ≡ None → AsBefore (earlier_request_of file) (request_of 2 file)
+older_request : (file : List ℕ) → first_place 13 (fields_part file) ≡ None → AsBefore 2 (earlier_request_of file) (request_of 2 file)
 unfolding request_of
 older_request file e =
     read_as_before (file_answer earlier_request_rows 2 file) _ (judge_request (fields_part file)) (request_values (fields_part file))
-    (older_request_stands file (without 13 (fields_of (fields_part file)) e))
+    (older_request_same 2 file e)
 
 pub older_priced : (book request : List ℕ) → first_place 9 (fields_part book) ≡ None → first_place 13 (fields_part request) ≡ None →
-    AsBefore (earlier_price_of book request) (price_of book request)
+    AsBefore 2 (earlier_price_of book request) (price_of book request)
 unfolding price_of request_priced
 older_priced book request b r = rw (older_book book b) (by (earlier_book_of book))
   where
@@ -71,7 +57,7 @@ older_priced book request b r = rw (older_book book b) (by (earlier_book_of book
     priced values asked = asked >>= λ r. values_priced values rates r r.distribution_revenue r.transmission_revenue
 
     by : (values : Result Book Refusal) →
-        AsBefore (values >>= λ b. priced b (earlier_request_of request)) (values >>= λ b. priced b (request_of 2 request))
+        AsBefore 2 (values >>= λ b. priced b (earlier_request_of request)) (values >>= λ b. priced b (request_of 2 request))
     by (Err refused) = inl refl
     by (Ok values) =
         ⊎_elim

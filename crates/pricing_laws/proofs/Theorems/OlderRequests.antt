@@ -7,7 +7,7 @@ use Rattle.numbers.specs.BigEndian.{number_at}
 use Rattle.field_walk.specs.Walk.{FieldAt, Walk, fields, stops, first_form, second_form, neither_form, rows_in, walk_by, by_forms, walk}
 use Rattle.field_walk.proofs.Theorems.Forms.{one_form}
 use Rattle.tagged.specs.Refusals.{file_does_not_walk, check_differs}
-use Rattle.tagged.specs.Find.{place_at, first_place, field_value}
+use Rattle.tagged.specs.Find.{fields_of, place_at, first_place, field_value}
 use Rattle.tagged.specs.File.{tail_stands, check_stands, fields_part, refusal, of_walk, file_answer, FileAnswer}
 use Rattle.tagged.proofs.Theorems.Impossible.{impossible}
 use Rattle.tagged.proofs.Theorems.FoundFields.{walk_by_finds}
@@ -16,6 +16,7 @@ use Rattle.request.specs.RequestRows.{request_rows}
 use Rattle.request.specs.Fields.{zone_by, zone_in}
 use Rattle.pricing_laws.specs.EarlierRows.{earlier_request_rows}
 use Rattle.pricing_laws.specs.EarlierPricing.{AsBefore}
+use Rattle.pricing_laws.proofs.Theorems.Without.{without}
 
 abbrev pub Not0D : ℕ → Type 0
 Not0D tag = tag ≡ 13 → ⊥
@@ -41,8 +42,8 @@ module _ (s : List ℕ) (tags : TagsOf Not0D s) where
   pub older_zone_in : zone_in s ≡ number_at (field_value 4 s) 0 1
   older_zone_in = ap (λ place. zone_by place s) none_found
 
-  older_walk : AsBefore (of_walk 2 (walk_by earlier_request_rows s)) (of_walk 2 (walk request_rows s))
-  older_walk =
+  older_walk : (number : ℕ) → AsBefore number (of_walk number (walk_by earlier_request_rows s)) (of_walk number (walk request_rows s))
+  older_walk number =
       rw (← narrow_as_earlier s)
       (by (walk_by narrow_rows s) (walk_by (rows_in second_form request_rows) s) (walk_by (rows_in neither_form request_rows) s) (λ fs e. not_wide fs e))
     where
@@ -50,23 +51,25 @@ module _ (s : List ℕ) (tags : TagsOf Not0D s) where
       later at at' true e = omega (arith, ltb-true at at' e)
       later at at' false e = omega arith
 
-      by : (first second neither : Walk) → ((fs : List FieldAt) → second ≡ fields fs → ⊥) → AsBefore (of_walk 2 first) (of_walk 2 (by_forms first second neither))
+      by : (first second neither : Walk) → ((fs : List FieldAt) → second ≡ fields fs → ⊥) →
+          AsBefore number (of_walk number first) (of_walk number (by_forms first second neither))
       by (fields fs) second neither wide = inl refl
       by (stops at) (fields fs) neither wide = absurd (wide fs refl)
       by (stops at) (stops at') (fields fs) wide = inl refl
       by (stops at) (stops at') (stops _) wide = inr (at, cond (ltb at at') at' at, refl, later at at' (ltb at at') refl, refl)
 
-pub older_request_stands : (file : List ℕ) → TagsOf Not0D (fields_part file) → AsBefore (file_answer earlier_request_rows 2 file) (file_answer request_rows 2 file)
-older_request_stands file tags =
+pub older_request_same : (number : ℕ) (file : List ℕ) → first_place 13 (fields_part file) ≡ None →
+    AsBefore number (file_answer earlier_request_rows number file) (file_answer request_rows number file)
+older_request_same number file none =
     rw (one_form (walk_by earlier_request_rows (fields_part file)))
-    (by (tail_stands file) (check_stands file) (of_walk 2 (walk_by earlier_request_rows (fields_part file))) (of_walk 2 (walk request_rows (fields_part file)))
-    (older_walk (fields_part file) tags))
+    (by (tail_stands file) (check_stands file) (of_walk number (walk_by earlier_request_rows (fields_part file))) (of_walk number (walk request_rows (fields_part file)))
+    (older_walk (fields_part file) (without 13 (fields_of (fields_part file)) none) number))
   where
     closing : Bool → Bool → FileAnswer
-    closing tail checked = cond tail (cond checked (Ok tt) (Err (refusal check_differs 2 (length file - 2)))) (Err (refusal file_does_not_walk 2 0))
+    closing tail checked = cond tail (cond checked (Ok tt) (Err (refusal check_differs number (length file - 2)))) (Err (refusal file_does_not_walk number 0))
 
-    by : (tail checked : Bool) (before now : FileAnswer) → AsBefore before now →
-        AsBefore (result_and (closing tail checked) before)
+    by : (tail checked : Bool) (before now : FileAnswer) → AsBefore number before now →
+        AsBefore number (result_and (closing tail checked) before)
         (result_and (closing tail checked) now)
     by true true before now same = same
     by true false before now same = inl refl

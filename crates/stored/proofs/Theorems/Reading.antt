@@ -57,6 +57,12 @@ module _ (form : Form) (room : ℕ) (file : List ℕ) where
   unfolding read_answer
   read_found e = ap (λ first. in_turn first (table_answer form room (fields_part file))) e
 
+  -- the letters are judged before the table and soundness
+  pub read_refused_3 : (at : ℕ) → file_answer (stored_rows form) 1 file ≡ Ok tt → judge_letters (letters form) (fields_part file) ≡ Err at →
+      read_answer form room file ≡ Err (refusal value_not_listed 1 at)
+  unfolding read_answer
+  read_refused_3 at stands judged = ap₂ (λ first letters. in_turn (in_turn first (letters_answer letters)) (table_answer form room (fields_part file))) stands judged
+
 -- a refused read leaves the ledger and the table as they were
 pub refused_read_changes_nothing : (ledger : Ledger) (table : List Party) (file : List ℕ) (r : Refusal) →
     (read_of ledger table file).answer ≡ Err r → ((read_of ledger table file).ledger ≡ ledger) × ((read_of ledger table file).table ≡ table)

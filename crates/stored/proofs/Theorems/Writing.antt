@@ -1,11 +1,12 @@
--- The cases of writing, in document 01's order; what a refused one changes, and its numbers.
+-- The cases of writing, in document 01's order; what is written fits; what a refused one changes, and its numbers.
 use Rattle.std.specs.Prelude.{ℕ, ◌<◌, ◌≤◌, ◌≡◌, List, Bool, Err, Ok}
 use Rattle.std.proofs.Math.Path.{refl}
-use Rattle.std.proofs.Common.{ap, ◌∙◌}
+use Rattle.std.proofs.Common.{ap, ◌∙◌, arith}
 use Rattle.std.proofs.Math.Bool.{true, false, cond}
 use Rattle.std.proofs.Math.Dec.{leb}
 use Rattle.std.proofs.Math.ListN.{length}
-use borrow.Author.Tests.{le-leb, lt-leb}
+use borrow.Author.Tests.{leb-true, le-leb, lt-leb}
+use Rattle.tagged.proofs.Theorems.Impossible.{impossible}
 use Rattle.tagged.specs.File.{refusal}
 use Rattle.tagged.specs.Refusals.{ledger_unsound, output_too_short}
 use Rattle.tagged.specs.declared.file.Refusal.{Refusal}
@@ -55,6 +56,20 @@ module _ (ledger : Ledger) (parties : List Party) (room : ℕ) (out : List ℕ) 
   pub write_done : sound ledger parties room ≡ true → length (stored_form Pio2 ledger parties) ≤ length out →
       written_answer ledger parties room out ≡ Ok (length (stored_form Pio2 ledger parties))
   write_done holds fits = write_sound holds ∙ form_done Pio2 ledger parties out fits
+
+  -- what is written fits the output
+  pub written_within : {size : ℕ} → written_answer ledger parties room out ≡ Ok size → size ≤ length out
+  unfolding written_answer
+  written_within done = by (sound ledger parties room) (leb (length (stored_form Pio2 ledger parties)) (length out)) refl done
+    where
+      by : {size : ℕ} (holds fits : Bool) → leb (length (stored_form Pio2 ledger parties)) (length out) ≡ fits →
+          cond holds (cond fits (Ok (length (stored_form Pio2 ledger parties))) (Err (refusal output_too_short 0 0))) (Err (refusal ledger_unsound 0 0)) ≡ Ok size →
+          size ≤ length out
+      by {size} true true t e =
+          let same : length (stored_form Pio2 ledger parties) ≡ size = cc in
+          omega (arith, leb-true (length (stored_form Pio2 ledger parties)) (length out) t)
+      by true false t e = impossible cc
+      by false fits t e = impossible cc
 
   -- the output, by the answer
   pub output_refused : {r : Refusal} → written_answer ledger parties room out ≡ Err r → written_output ledger parties room out ≡ out
